@@ -17,6 +17,7 @@ from share.keystrokes import Keystrokes
 from share.ledger import MOST_TYPED, Row
 from share.looks import DEFAULT_BYTES
 from share.message import DELETE, GREATEST_STAMP, INSERT, MOST_OF_A_SITE, Names
+from share.note_text import make as make_changes
 from share.sealing import Sealed
 from share.site import Site
 from share.tests.support import Case
@@ -262,6 +263,20 @@ class Counts(unittest.TestCase):
         self.assertLess(len(sizes), 10)
         with contextlib.closing(Site(1, found)) as site:
             self.assertEqual(site.text(), b"".join(run.data for entry in typist.entries[1:] for run in entry.runs))
+
+    def test_what_came_of_a_stretch_is_told_as_one(self) -> None:
+        # The first letter, and one that is a code, come by themselves.
+        for letters, long in (b"abcdefgh", [Names(9, 1, 7)]), (b"ab\1cdefgh", [Names(9, 3, 6)]):
+            typist = Typist(FORM, 9)
+            for letter in letters:
+                typist.keep(typist.insert(bytes([letter])))
+            with contextlib.closing(Site(1)) as site:
+                site.insert(0, b"xy")
+                told, text = site.take(added(typist.entries, True).let_through_in_order(), looks=True), bytearray(b"xy")
+                self.assertEqual([one.names for one in told if one.names.length > 1], long)
+                make_changes(text, told)
+                self.assertEqual(text, site.text())
+                self.assertEqual(len(site.history), 1 + len(letters))
 
     def test_nobody_passes_others_by_far(self) -> None:
         people = [Typist(FORM, site) for site in (1, 2, 3)]
