@@ -106,7 +106,7 @@ class Holdings:
         if rows:
             self._place = rows[-1].place
         again, self._again = self._again[:AGAIN], self._again[AGAIN:]
-        rows += disk.rows_at(again)
+        rows += disk.rows_at(dict.fromkeys(again))
         # What was withdrawn comes once more where a log had it after all.
         new = [row for row in rows if row.entry.hash not in self.judge]
         if new and any(row.made for row in new):
