@@ -166,6 +166,12 @@ class Room:
         """Somebody with the link who has read all that the log has."""
         return Hostile(self.form, self.log)
 
+    def kept(self) -> int:
+        """How many entries the note's file has."""
+        with contextlib.closing(sqlite3.connect(self.ann / "notes" / "note.note", timeout=60)) as file:
+            found: int = file.execute("SELECT count(*) FROM entry").fetchone()[0]
+        return found
+
     def editor(self, name: str = "ann", **more: Any) -> Editor:
         """An editor of somebody."""
         return Editor(self.folder / name, **more)
@@ -214,8 +220,10 @@ def waited(editor: Editor, is_so: Callable[[], bool], most: float) -> bool:
     return is_so()
 
 
-def as_it_arrives(room: Room, editor: Editor, most: float = ARRIVING_SECONDS, least: float = LEAST_SECONDS) -> tuple[float, float, int]:
-    """Types until all that has come is taken in: the seconds of the slowest key, the processor time in all, and the bytes read."""
+def as_it_arrives(room: Room, editor: Editor, many: int, most: float = ARRIVING_SECONDS,
+                  least: float = LEAST_SECONDS) -> tuple[float, float, int]:
+    """Types until all that has come is in the file, which has so many entries then, and taken in: the seconds of the slowest key, the
+    processor time in all, and the bytes read."""
     engine, keys, begin = room.engine(), Keys(editor), time.monotonic()
     before, read = processor(engine), bytes_read(engine)
     quiet, since = before, begin
@@ -225,7 +233,7 @@ def as_it_arrives(room: Room, editor: Editor, most: float = ARRIVING_SECONDS, le
         time.sleep(2.5 * PAUSE)
         now, used = time.monotonic(), processor(engine)
         if now > since + QUIET_SECONDS:
-            if used - quiet < QUIET * (now - since) and now > begin + least:
+            if used - quiet < QUIET * (now - since) and now > begin + least and room.kept() >= many:
                 break
             quiet, since = used, now
     return max(keys.seconds), processor(engine) - before, bytes_read(engine) - read
@@ -357,9 +365,10 @@ def measured(folder: pathlib.Path, attack: Attack) -> Figures:
     hostile = room.hostile()
     raws = [*attack.sends(hostile)] if attack.sends else []
     before = _raws(room.log)
+    many = room.kept() + len(raws)
     hostile.send(raws)
     with doing(attack, hostile):
-        arriving, used, read = as_it_arrives(room, editor, *([DOES_SECONDS, DOES_SECONDS] if attack.does else []))
+        arriving, used, read = as_it_arrives(room, editor, many, *([DOES_SECONDS, DOES_SECONDS] if attack.does else []))
         median, greatest, of_a_key, refused = afterwards(room, editor)
         joined, told = newcomer(room)
     resident = memory(room.engine())
