@@ -5,7 +5,7 @@ Their first bytes are told by the entry before, and what follows are the letters
 rightly, and needs no reading; and where all of the entry before it counts, it counts, too: what it mentions is there, its characters
 begin where its site's end, and its stamps go on.
 """
-from share.chunks import (BEGIN, CODES, FAR, GREATEST_SEQ, LETTERS, MOST_CHUNK, SITE, Run, number_of)
+from share.chunks import BEGIN, CODES, FAR, GREATEST_SEQ, LETTERS, MOST_CHUNK, SITE, Run, number_of
 from share.entry import CHUNKS, Entry, Kind, check_entry
 from share.message import GREATEST_STAMP, MOST_OF_A_SITE
 
