@@ -182,25 +182,28 @@ def _rows(file: sqlite3.Connection, columns: str, broken: list[str]) -> Iterator
     """All entries that can be read, from the front; where the file is damaged, which is told, also from the other end."""
     last = 0
     try:
-        for place, *row in file.execute(ROWS.format(columns, ">", "ASC"), (0,)):
-            yield (*row,)
-            last = place
+        for row in file.execute(ROWS.format(columns, ">", "ASC"), (0,)):
+            yield row[1:]
+            last = row[0]
     except sqlite3.DatabaseError as why:
         broken.append(f"The file is damaged ({why}); some of it may be lost.")
         with contextlib.suppress(sqlite3.DatabaseError):
-            for place, *row in file.execute(ROWS.format(columns, "<", "DESC"), (GREATEST_PLACE,)):
-                if place <= last:
+            for row in file.execute(ROWS.format(columns, "<", "DESC"), (GREATEST_PLACE,)):
+                if row[0] <= last:
                     break
-                yield (*row,)
+                yield row[1:]
 
 
 def _as_kept(form: Form, keystrokes: Keystrokes, row: Kept) -> Row:
     """The entry of a row. One that isn't as it was kept is looked at as a stranger's is; Bad where it is none."""
     raw, of, body, check = row
-    with contextlib.suppress(TypeError, ValueError, struct.error):
+    try:
         if digest(raw) == of and zlib.crc32(body or b"") == check:
             entry = form.reopened(raw, form.body(raw) if body is None else body, of)
             return Row(0, entry, False, keystrokes.type_on(entry))
+    except (TypeError, ValueError, struct.error):
+        # The disk damaged it.
+        pass
     return Row(0, form.open(raw), False)
 
 
