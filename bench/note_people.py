@@ -13,15 +13,21 @@ import sys
 import threading
 import time
 from collections.abc import Callable, Iterator
+from concurrent.futures import ProcessPoolExecutor
+from functools import partial
 from typing import Any, NamedTuple
+
+from nacl import bindings
 
 from share import link as links
 from share import opening
+from share.chunks import packed
 from share.client import InPlace
-from share.disk import About, Client, Row, make
+from share.disk import About, Client, make
+from share.entry import Author, Kind, digest
+from share.ledger import Row
 from share.lines import written
 from share.mirror import Mirror
-from share.sealing import new_key
 from share.session import Session
 from share.sqlite_log import SqliteLog
 from share.tests.attacks import Attack, Hostile, typed
@@ -38,6 +44,9 @@ QUIET, QUIET_SECONDS, LEAST_SECONDS = 0.3, 2.0, 6.0
 # What goes on as long as others type does so for so long.
 DOES_SECONDS = 45.0
 COUNTED_KEYS = 3
+# What was typed by hand was typed by so many people, so many letters each in their turn.
+PEOPLE, AT_A_TIME = 4, 30
+KEY = bytes(range(32))
 
 
 class Figures(NamedTuple):
@@ -95,28 +104,73 @@ def memory(process: int) -> int:
     return int(found[1]) * 1024 if found else 0
 
 
+def typed_by(key: bytes, site: int, keys: int, people: int) -> list[tuple[bytes, bytes]]:
+    """The entries of one of some people who type letters in turn, some at a time, each at the end of what they typed before, and what
+    is sealed in them: the same ones each time."""
+    form = About(True, key, "").form()
+    author = Author(*bindings.crypto_sign_seed_keypair(digest(key + bytes([site]))))
+    claim = last = form.claim(site, author)
+    made = [(claim.raw, claim.body)]
+    for seq in range(1, keys + 1):
+        turn, within = divmod(seq - 1, AT_A_TIME)
+        chunk = packed([*typed(site, seq, 1 + (turn * people + site - 1) * AT_A_TIME + within, 1).messages()])
+        last = form._made(Kind.CHUNK, site, seq, 1, last.hash, author, b"", chunk or b"")
+        made.append((last.raw, last.body))
+    return made
+
+
+def typed_in_turn(key: bytes, keys: int) -> Iterator[tuple[bytes, bytes]]:
+    """The entries of some people who typed so many letters by hand, in the order of their typing."""
+    with ProcessPoolExecutor() as processes:
+        made = [*processes.map(partial(typed_by, key, keys=keys // PEOPLE, people=PEOPLE), range(1, PEOPLE + 1))]
+    yield from (of_one[0] for of_one in made)
+    for begin in range(1, keys // PEOPLE + 1, AT_A_TIME):
+        for of_one in made:
+            yield from of_one[begin:begin + AT_A_TIME]
+
+
+class Memory(NamedTuple):
+    """The bytes that an engine has for itself now, that it had at most, and that its program has."""
+
+    now: int
+    most: int
+    program: int
+
+
+def memory_of(engine: int) -> Memory:
+    """What an engine and its program have in memory."""
+    status = pathlib.Path(f"/proc/{engine}/status").read_text()
+    most = re.search(r"^VmHWM:\s+(\d+) kB", status, re.MULTILINE)
+    children = [int(one) for task in _tasks(engine) for one in (task / "children").read_text().split()]
+    return Memory(memory(engine), int(most[1]) * 1024 if most else 0, sum(map(memory, children)))
+
+
 class Room:
     """A note of somebody, in whose log others write; and a folder for a newcomer."""
 
     def __init__(self, folder: pathlib.Path, keys: int = 0):
         self.folder, self.log = folder, str(folder / "log" / "note.log")
-        self.about = About(True, new_key(), self.log)
+        self.about = About(True, KEY, self.log)
         self.form = self.about.form()
         self.ann = folder / "ann"
         SqliteLog(pathlib.Path(self.log), self.form.note).close()
         client = Client(4_711, self.form.new_author(), stood=True)
         claim = self.form.claim(client.site, client.author)
-        rows, hostile = [Row(0, claim, True)], Hostile(self.form, self.log)
-        for seq in range(1, keys + 1):
-            rows.append(Row(0, hostile.entry(rows[-1].entry, client.author, [typed(client.site, seq, seq, 1)]), True))
-        path = self.ann / "notes" / "note.note"
-        make(path, self.about, rows, [client], offered=True)
-        hostile.send(row.entry.raw for row in rows)
+        made = [(claim.raw, claim.body), *(typed_in_turn(KEY, keys) if keys else ())]
+        rows = (Row(0, self.form.reopened(raw, body, digest(raw)), raw == claim.raw) for raw, body in made)
+        make(self.ann / "notes" / "note.note", self.about, rows, [client], offered=True)
+        Hostile(self.form, self.log).send(raw for raw, _ in made)
         self.link = links.Link("sealed", self.about.secret, self.log).spelled()
 
     def hostile(self) -> Hostile:
         """Somebody with the link who has read all that the log has."""
         return Hostile(self.form, self.log)
+
+    def kept(self) -> int:
+        """How many entries the note's file has."""
+        with contextlib.closing(sqlite3.connect(self.ann / "notes" / "note.note", timeout=60)) as file:
+            found: int = file.execute("SELECT count(*) FROM entry").fetchone()[0]
+        return found
 
     def editor(self, name: str = "ann", **more: Any) -> Editor:
         """An editor of somebody."""
@@ -166,8 +220,10 @@ def waited(editor: Editor, is_so: Callable[[], bool], most: float) -> bool:
     return is_so()
 
 
-def as_it_arrives(room: Room, editor: Editor, most: float = ARRIVING_SECONDS, least: float = LEAST_SECONDS) -> tuple[float, float, int]:
-    """Types until all that has come is taken in: the seconds of the slowest key, the processor time in all, and the bytes read."""
+def as_it_arrives(room: Room, editor: Editor, many: int, most: float = ARRIVING_SECONDS,
+                  least: float = LEAST_SECONDS) -> tuple[float, float, int]:
+    """Types until all that has come is in the file, which has so many entries then, and taken in: the seconds of the slowest key, the
+    processor time in all, and the bytes read."""
     engine, keys, begin = room.engine(), Keys(editor), time.monotonic()
     before, read = processor(engine), bytes_read(engine)
     quiet, since = before, begin
@@ -177,7 +233,7 @@ def as_it_arrives(room: Room, editor: Editor, most: float = ARRIVING_SECONDS, le
         time.sleep(2.5 * PAUSE)
         now, used = time.monotonic(), processor(engine)
         if now > since + QUIET_SECONDS:
-            if used - quiet < QUIET * (now - since) and now > begin + least:
+            if used - quiet < QUIET * (now - since) and now > begin + least and room.kept() >= many:
                 break
             quiet, since = used, now
     return max(keys.seconds), processor(engine) - before, bytes_read(engine) - read
@@ -309,9 +365,10 @@ def measured(folder: pathlib.Path, attack: Attack) -> Figures:
     hostile = room.hostile()
     raws = [*attack.sends(hostile)] if attack.sends else []
     before = _raws(room.log)
+    many = room.kept() + len(raws)
     hostile.send(raws)
     with doing(attack, hostile):
-        arriving, used, read = as_it_arrives(room, editor, *([DOES_SECONDS, DOES_SECONDS] if attack.does else []))
+        arriving, used, read = as_it_arrives(room, editor, many, *([DOES_SECONDS, DOES_SECONDS] if attack.does else []))
         median, greatest, of_a_key, refused = afterwards(room, editor)
         joined, told = newcomer(room)
     resident = memory(room.engine())

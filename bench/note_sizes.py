@@ -3,29 +3,37 @@ from __future__ import annotations
 
 import os
 import pathlib
+import statistics
 import subprocess
 import time
 from typing import NamedTuple
 
-from note_people import Keys, Room, gone, memory, types, waited
+from note_people import Keys, Memory, Room, gone, memory_of, types
 
+from share.tests import editors
 from share.tests.attacks import full
 from share.tests.support import NOTE
 
-MOST_SECONDS, FEW_KEYS = 900.0, 10
+MOST_SECONDS, FEW_KEYS = 1_800.0, 10
+
+
+class Opened(NamedTuple):
+    """Seconds until all of a note is shown, and until something can be typed; and the memory then."""
+
+    shown: float
+    types: float
+    memory: Memory
 
 
 class Sizes(NamedTuple):
-    """Seconds to open and to print a note; seconds in which a newcomer sees all of it and can type; the engine's memory at both; the
-    median of a key; and why keys are refused, where they are."""
+    """What a note takes: to be opened from its file, joined, opened again by who joined; to be printed, in seconds and bytes; the
+    median of a key, in seconds; and why keys are refused, where they are."""
 
-    opened: float
-    memory: int
+    first: Opened
+    joined: Opened
+    again: Opened
     printed: float
     printed_memory: int
-    seen: float
-    types: float
-    newcomer_memory: int
     key: float
     refused: str
 
@@ -44,29 +52,30 @@ def of_letters(folder: pathlib.Path, many: int) -> Sizes:
 
 
 def _sizes(room: Room, letters: int) -> Sizes:
-    begin = time.monotonic()
-    editor = room.editor()
-    waited(editor, lambda: len(editor.text) == letters, MOST_SECONDS)
-    opened, resident, keys = time.monotonic() - begin, memory(room.engine()), Keys(editor)
-    waited(editor, lambda: types(editor), MOST_SECONDS)
-    for _ in range(FEW_KEYS):
-        keys.press(MOST_SECONDS)
-    refused = keys.refused()
-    gone(room, editor)
+    first, keys, refused = _opened(room, "ann", letters, FEW_KEYS)
     printed, printed_memory = _printed(room)
+    joined, _, _ = _opened(room, "newcomer", letters, link=room.link)
+    again, _, _ = _opened(room, "newcomer", letters)
+    return Sizes(first, joined, again, printed, printed_memory, statistics.median(keys), refused)
+
+
+def _opened(room: Room, name: str, letters: int, keys: int = 0, **more: str) -> tuple[Opened, list[float], str]:
+    """What it takes somebody to open a note of so many letters; the seconds of some keys, and why these are refused."""
+    editors.PATIENCE = int(MOST_SECONDS)
     begin = time.monotonic()
-    editor = room.editor("newcomer", link=room.link)
-    when: dict[str, float] = {}
+    editor, when = room.editor(name, **more), dict[str, float]()
     while len(when) < 2 and time.monotonic() < begin + MOST_SECONDS:
         editor.read(0.02)
         if len(editor.text) >= letters:
-            when.setdefault("seen", time.monotonic() - begin)
+            when.setdefault("shown", time.monotonic() - begin)
         if types(editor):
             when.setdefault("types", time.monotonic() - begin)
-    of_newcomer = memory(room.engine("newcomer"))
-    gone(room, editor, "newcomer")
-    return Sizes(opened, resident, printed, printed_memory, when.get("seen", MOST_SECONDS), when.get("types", MOST_SECONDS), of_newcomer,
-                 sorted(keys.seconds)[len(keys.seconds) // 2], refused)
+    typed, taken = Keys(editor), memory_of(room.engine(name))
+    for _ in range(keys):
+        typed.press(MOST_SECONDS)
+    refused = typed.refused() if keys else ""
+    gone(room, editor, name)
+    return Opened(when.get("shown", MOST_SECONDS), when.get("types", MOST_SECONDS), taken), typed.seconds, refused
 
 
 def _printed(room: Room) -> tuple[float, int]:

@@ -24,7 +24,6 @@ from share.program import TOP, make_ready
 from share.scripts import VERBS as SCRIPTS
 from share.scripts import Scripts
 from share.session import Bar, Session
-from share.site import MOST_MESSAGES
 from share.words import Refused, Trouble, counted
 
 PAGE = """\
@@ -265,9 +264,6 @@ def told_of_renewed(name: str, done: opening.Renewed, is_fresh: bool, names: dic
         missing = [*missing, f"Left out of the old note for good, and not in the new one: {lost.in_words(lines)}."]
     for one in missing:
         print(f"note: {shown(one)}", file=sys.stderr)
-    if done.size >= MOST_MESSAGES:
-        print(f"note: The new note has {done.size:,} messages, too, and nothing can be typed in it. bin/note renew {name} "
-              "--fresh makes one that has the text alone.", file=sys.stderr)
     return INCOMPLETE if missing else 0
 
 

@@ -16,8 +16,8 @@ class Chain:
 
     def __init__(self, ledger: Ledger, site: int):
         self.line = Line(ledger, site)
-        # How many bytes are kept of entries that aren't let through; and how often it began to wait for something.
-        self.pending = self.time = 0
+        # How often it began to wait for something.
+        self.time = 0
         self.begin_anew()
 
     def begin_anew(self) -> None:
@@ -27,6 +27,8 @@ class Chain:
         # Which entry has the message that is next, its runs, and which of these it begins.
         self.at = self.run = 0
         self._runs: Sequence[Run] | None = None
+        # How many bytes are kept of entries that aren't let through.
+        self.pending = sum(map(self.line.ledger.weight, self.line.numbers))
         # Whether the next message is wrong.
         self.ended = False
         # The sites of which it mentions characters that aren't there, from where on, and how long their files have to be.
@@ -60,24 +62,42 @@ class Chain:
             self.at, self._runs, self.run = self.at + 1, None, 0
         return None
 
-    def pass_on(self, run: Run) -> None:
-        """Lets the next messages through."""
+    def pass_on(self, run: Run, up_to: float) -> None:
+        """Lets the next messages through; with the last one of an entry also the next entries that type on after it, up to a
+        stamp. These are right where it is."""
         while len(self._ends) <= self.at:
             self._ends.append(self.length)
         if run.data:
-            self._passed(run)
+            self._passed(run.stamp, len(run.data), len(run.data) == run.size)
             self._ends[self.at] = self.length
         self.run += 1
         self.front, self.stamp = run.seq + run.size - 1, run.stamp + run.size - 1
+        if self.run == len(self.runs()):
+            self._type_on(up_to)
 
-    def _passed(self, run: Run) -> None:
-        """Notes the stamps of characters."""
-        size = len(run.data)
+    def _type_on(self, up_to: float) -> None:
+        """Lets the next entries through, as far as they type on one after the other and up to a stamp."""
+        line, at = self.line, self.at + 1
+        end = line.typed_until(at)
+        if up_to < self.stamp + line.lasts[end - 1] - self.front:
+            end = line.at_seq(self.front + 1 + max(0, int(up_to) - self.stamp))
+        if at >= end:
+            return
+        self.pending -= sum(map(line.ledger.weight, line.numbers[self.at:end]))
+        before, size = self.length - self.front, line.lasts[end - 1] - self.front
+        self._ends.extend(before + last for last in line.lasts[at:end])
+        self._passed(self.stamp + 1, size, True)
+        self.front, self.stamp = self.front + size, self.stamp + size
+        self.at, self._runs, self.run = end, None, 0
+
+    def _passed(self, stamp: int, size: int, rises: bool) -> None:
+        """Notes the stamps of characters, the next ones of the site: of the first, and whether that of each further one is one
+        greater."""
+        at = self.length
         self.length += size
-        rises = size == run.size
-        if not (rises and self._rises and self._rises[-1] and run.stamp == self._stamps[-1] + run.at - self._begins[-1]):
-            self._begins.append(run.at)
-            self._stamps.append(run.stamp)
+        if not (rises and self._rises and self._rises[-1] and stamp == self._stamps[-1] + at - self._begins[-1]):
+            self._begins.append(at)
+            self._stamps.append(stamp)
             self._rises.append(rises)
 
     def stamp_of(self, at: int) -> int:
@@ -91,8 +111,9 @@ class Chain:
 
     def add(self, number: int) -> None:
         """Lengthens the chain."""
-        self.line.add(number)
-        self.pending += self.line.ledger.weight(number)
+        line = self.line
+        line.add(number)
+        self.pending += line.ledger.weight(number)
 
     def cut(self, at: int) -> bool:
         """Takes the entries from a place on out of the chain; whether messages of theirs were let through, and all has to be

@@ -251,7 +251,11 @@ class Writer:
 def number_of(number: int) -> bytes:
     """A number, by sevens of bits."""
     if number < 0x80:
-        return bytes([number])
+        return bytes((number,))
+    if number < 0x4000:
+        return bytes((number & 0x7F | 0x80, number >> 7))
+    if number < 0x20_0000:
+        return bytes((number & 0x7F | 0x80, number >> 7 & 0x7F | 0x80, number >> 14))
     sevens = bytearray()
     while number > 0x7F:
         sevens.append(number & 0x7F | 0x80)

@@ -18,8 +18,9 @@ from dataclasses import dataclass, replace
 from typing import NamedTuple
 
 from share import unchanged
-from share.entry import (HEAD, MOST_AUTHOR_BYTES, NO_HASH, NOTE_BYTES, Author, Bad, Copy, Entry, Form, Kind, Plain,
-                         check_entry, digest)
+from share.entry import (CHUNKS, HEAD, MOST_AUTHOR_BYTES, NO_HASH, NOTE_BYTES, Author, Bad, Copy, Entry, Form, Kind, Plain,
+                         digest)
+from share.keystrokes import Keystrokes
 from share.ledger import Row
 from share.unchanged import Inode, inode_of
 from share.words import Trouble
@@ -170,6 +171,7 @@ class Disk:
         self._left = unchanged.left(self.path)
         self.about = about_of(self._file)
         self.form = self.about.form()
+        self._keystrokes = Keystrokes()
         self._version = 0
         # How many entries were found damaged, and taken out.
         self.damaged = 0
@@ -272,13 +274,14 @@ class Disk:
         return found
 
     def _row(self, place: int, of: bytes, raw: bytes, body: bytes | None, check: int, made: int) -> Row | None:
-        with contextlib.suppress(TypeError, ValueError, struct.error, Bad):
+        try:
             if digest(raw) == of and zlib.crc32(body or b"") == check:
                 entry = self.form.reopened(raw, self.form.body(raw) if body is None else body, of)
-                if entry.chunk or entry.kind is Kind.COPIES:
-                    # A version that didn't know these has kept whatever came.
-                    check_entry(entry)
-                return Row(place, entry, bool(made))
+                # A version that didn't know these has kept whatever came.
+                types_on = (entry.kind in CHUNKS or entry.kind is Kind.COPIES) and self._keystrokes.type_on(entry)
+                return Row(place, entry, bool(made), types_on)
+        except (TypeError, ValueError, struct.error, Bad):
+            pass
         if isinstance(raw, bytes) and len(raw) >= HEAD.size and digest(raw) == of and self.form.kind(raw) is Kind.NEWER:
             # A newer version may keep it in another way, too.
             return None
@@ -387,6 +390,8 @@ class Disk:
 
     def _taken_from_withdrawn(self, entries: Sequence[Entry]) -> set[bytes]:
         """Takes those of these entries out that were withdrawn, so that they can be put in once more; their hashes."""
+        if not self._one("SELECT EXISTS (SELECT 1 FROM withdrawn)"):
+            return set()
         back = {entry.hash for entry in entries if self._one("SELECT count(*) FROM withdrawn WHERE hash = ?", entry.hash)}
         for of in back:
             for statement in FOUND:

@@ -5,9 +5,10 @@ from collections.abc import Iterable
 from contextlib import suppress
 from typing import NamedTuple, TypeVar
 
+from share.chunks import Run
 from share.looks import Dressed
 from share.measured import Measured
-from share.message import CHANGE_LOOKS, DELETE, INSERT, RESTORE, Message, Names, inserted, mentioned, names_of
+from share.message import CHANGE_LOOKS, DELETE, INSERT, RESTORE, Names
 from share.messages import Messages
 from share.note_text import boundary
 from share.site import Site
@@ -95,16 +96,16 @@ class Replays:
 def steps(history: Messages, begin: int, most: int) -> list[Step]:
     """The steps of a history from a message on, so many at most."""
     found: list[Step] = []
-    last: Message | None = None
-    for place, message in enumerate(history[begin:], begin):
-        size = sum(names.length for names in names_of(message) or mentioned(message))
-        if last and _goes_on(last, message):
-            found[-1] = found[-1]._replace(end=place + 1, size=found[-1].size + size)
+    last: Run | None = None
+    for run in history[begin:].runs():
+        size = len(run.data) or sum(names.length for names in run.mentions)
+        if last and _goes_on(last, run):
+            found[-1] = found[-1]._replace(end=begin + run.size, size=found[-1].size + size)
         elif len(found) == most:
             break
         else:
-            found.append(Step(place, place + 1, message.site, DID[message.kind], size))
-        last = message
+            found.append(Step(begin, begin + run.size, run.site, DID[run.kind], size))
+        last, begin = run, begin + run.size
     return found
 
 
@@ -113,14 +114,11 @@ def as_line(step: Step) -> dict[str, int]:
     return {"begin": step.begin, "end": step.end, "site": step.site, **dict.fromkeys(DID.values(), 0), step.did: step.size}
 
 
-def _goes_on(last: Message, message: Message) -> bool:
-    """Whether a message is of the same step as the one before it: typing that goes on, or more of the same kind."""
-    if (last.site, last.kind) != (message.site, message.kind):
+def _goes_on(last: Run, run: Run) -> bool:
+    """Whether messages are of the same step as those before them: typing that goes on, or more of the same kind."""
+    if (last.site, last.kind) != (run.site, run.kind):
         return False
-    before = inserted(last)
-    if not before:
-        return True
-    return mentioned(message) == [Names(before.site, before.at + before.length - 1, 1)]
+    return not last.data or [*run.mentions] == [Names(last.site, last.at + len(last.data) - 1, 1)]
 
 
 def wrote(site: Site, begin: int, end: int) -> list[Wrote]:

@@ -106,7 +106,7 @@ class Holdings:
         if rows:
             self._place = rows[-1].place
         again, self._again = self._again[:AGAIN], self._again[AGAIN:]
-        rows += disk.rows_at(again)
+        rows += disk.rows_at(dict.fromkeys(again))
         # What was withdrawn comes once more where a log had it after all.
         new = [row for row in rows if row.entry.hash not in self.judge]
         if new and any(row.made for row in new):
@@ -129,7 +129,8 @@ class Holdings:
     def add(self, entries: Iterable[Entry]) -> None:
         """Adds entries that were made here and are in the file."""
         for entry in entries:
-            self._add(Row(0, entry, True))
+            if entry.hash not in self.judge:
+                self._add(Row(0, entry, True))
 
     def withdraw(self, hashes: Collection[bytes]) -> None:
         """Has entries not count."""
@@ -143,7 +144,7 @@ class Holdings:
             self.judge = Judge(form=self._form, room=ROOM)
             for row in before.rows():
                 if row.entry.hash not in gone:
-                    self.judge.add(row.entry, row.place, row.made)
+                    self.judge.add_new(row)
             self.rows, self._rejudged = Rows(self.judge, self._withdrawn), True
 
     def count(self) -> Counted:
@@ -268,13 +269,14 @@ class Holdings:
         return self.judge.front(site) if self.judge.holder(site) == author else 0
 
     def _add(self, row: Row) -> None:
-        of = row.entry.hash
-        self._withdrawn.pop(of, None)
-        if not row.made and who(row.entry) in self.clients and row.entry.kind not in NOT_UNDER_A_NUMBER:
-            self._shared.add(who(row.entry))
-        self.judge.add(row.entry, row.place, row.made)
-        if who(row.entry) in self.clients:
+        entry, of = row.entry, who(row.entry)
+        is_own = of in self.clients
+        self._withdrawn.pop(entry.hash, None)
+        if is_own and not row.made and entry.kind not in NOT_UNDER_A_NUMBER:
+            self._shared.add(of)
+        self.judge.add_new(row)
+        if is_own:
             self.standing.add(row, self.rows)
-        self.recovered.add(row.entry, row.made)
-        if row.made and row.entry.kind is Kind.NEWER:
-            self.newer.add(who(row.entry))
+        self.recovered.add(entry, row.made)
+        if row.made and entry.kind is Kind.NEWER:
+            self.newer.add(of)

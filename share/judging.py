@@ -33,6 +33,7 @@ given back, and may be added again when there is room.
 """
 import hashlib
 import heapq
+import math
 from bisect import bisect_left, bisect_right
 from collections.abc import Callable, Iterable, Iterator, Sequence
 from enum import Enum
@@ -41,7 +42,7 @@ from typing import NamedTuple
 from share.chain import Chain, last_of_others
 from share.chunks import Run, of_message
 from share.copies import Copies
-from share.entry import NO_HASH, Copy, Entry, Form, Kind, digest
+from share.entry import CHUNKS, NO_HASH, ONE_BY_ONE, Copy, Entry, Form, Kind, digest
 from share.leftout import LeftOut, joined, not_copied
 from share.ledger import Ledger, Row
 from share.message import Message, Names
@@ -50,6 +51,8 @@ from share.outside import Outside, weight
 
 # A message may have a stamp so far above the greatest that was let through.
 LEAP = 2**20
+# Letters that are typed on are let through together before those of others whose stamps are lower by no more than this.
+AHEAD = 100
 # Anybody with the link can say that a note was renewed, or write what only a newer version knows: of no more than this many
 # it is known.
 MOST_RENEWED, MOST_NEWER = 1_000, 10_000
@@ -158,12 +161,17 @@ class Judge:
         number = self._ledger.number(of)
         return self._words.get(of) if number is None else self._ledger.row(number)
 
-    def add(self, entry: Entry, place: int = 0, made: bool = False) -> None:
+    def add(self, entry: Entry, place: int = 0, made: bool = False, types_on: bool = False) -> None:
         """Adds an entry that was opened. What is known already changes nothing."""
-        if entry.hash in self:
-            return
-        row = Row(place, entry, made)
-        if entry.kind is Kind.NEWER:
+        if entry.hash not in self:
+            self.add_new(Row(place, entry, made, types_on))
+
+    def add_new(self, row: Row) -> None:
+        """Adds an entry that isn't known yet."""
+        entry = row.entry
+        if entry.kind in CHUNKS or entry.kind in ONE_BY_ONE:
+            self._came(row)
+        elif entry.kind is Kind.NEWER:
             # It says nothing here, but that what follows it lacks nothing.
             if len(self._newer) < MOST_NEWER:
                 self._newer.add(entry.hash)
@@ -181,8 +189,12 @@ class Judge:
             if len(self._renewed) < MOST_RENEWED:
                 self._said(row)
                 self._renewed.setdefault((entry.site, entry.author), entry.spelled)
-        else:
-            self._came(row)
+
+    def let_through(self) -> None:
+        """Lets through what can be of what came, while what was read of it last is at hand; not where all is let through anew next,
+        which might happen with each part of it."""
+        if not self._anew:
+            self._let_through()
 
     def count(self) -> Counted:
         """What counts since this was last asked."""
@@ -397,14 +409,19 @@ class Judge:
 
     def _came(self, row: Row) -> None:
         """Puts an entry of messages into its chain, where it follows one there and holds; else outside."""
-        entry, number = row.entry, self._ledger.number(row.entry.before)
+        entry, chain = row.entry, self._chains.get(row.entry.site)
+        # Nearly always it follows the last one of its chain.
+        last = chain.line.numbers[-1] if chain else 0
+        if chain and self._ledger.hash(last) == entry.before and self._follows(entry, last):
+            self._extend(chain, row)
+            return
+        number = self._ledger.number(entry.before)
         if number is None:
             is_here = (entry.before in self._words or entry.before in self._newer
                        or entry.before in self._outside and not self._outside.is_loose(entry.before))
             self._put_outside(row, not is_here)
             return
         # The one before it may be in the chain of any site, or in none any more.
-        chain = self._chains.get(entry.site)
         at = chain.line.at(number) if chain else None
         if chain is None or at is None or not self._follows(entry, number):
             self._put_outside(row, False)
@@ -428,6 +445,8 @@ class Judge:
     def _extend(self, chain: Chain, row: Row) -> None:
         """Lengthens a chain by an entry, and by what holds after it."""
         last: Row | None = row
+        numbers = chain.line.numbers
+        before = len(numbers)
         while last is not None:
             if self._is_too_much(chain, last):
                 self._drop(last)
@@ -436,15 +455,17 @@ class Judge:
             if of in self._outside:
                 self._outside.remove(of)
                 self._changed()
-            number = self._ledger.add(last, chain.line.numbers[-1] if len(chain.line) else 0)
+            number = self._ledger.add(last, numbers[-1] if numbers else 0)
             chain.add(number)
             self._in_chains += 1
-            following = [one for one in self._outside.after(of) if self._follows(one.entry, number)]
+            if not (after := self._outside.after(of)):
+                break
+            following = [one for one in after if self._follows(one.entry, number)]
             last = min(following, key=lambda one: self._prefers(one.entry)) if following else None
             # What else follows it lost its place.
             if self._outside.settle(of, but=last.entry.hash if last else None):
                 self._changed()
-        if row is not last:
+        if len(numbers) > before:
             self._stir(row.entry.site)
 
     def _cut(self, chain: Chain, at: int, row: Row) -> None:
@@ -491,8 +512,8 @@ class Judge:
             self._stirred.add(site)
 
     def _let_through(self) -> None:
-        """Lets through what can be, the lowest stamp first, and with a message those after it in its entry. What more it
-        lets through has all that was let through before among its causes or beside it, so the order says nothing of
+        """Lets through what can be, the lowest stamp first, and with a message those after it in its entry, and some that type on. What
+        more it lets through has all that was let through before among its causes or beside it, so the order says nothing of
         what is let through in the end."""
         if not self._stirred:
             return
@@ -502,7 +523,8 @@ class Judge:
         while heads:
             site = heads[0][1]
             woken: list[int] = []
-            if run := self._pass_entry(site, woken):
+            others = min(heads[1:3], default=None)
+            if run := self._pass_entry(site, woken, others[0] + AHEAD if others else math.inf):
                 heapq.heapreplace(heads, (run.stamp, site))
             else:
                 heapq.heappop(heads)
@@ -510,9 +532,10 @@ class Judge:
                 if found := self._chains[other].next():
                     heapq.heappush(heads, (found.stamp, other))
 
-    def _pass_entry(self, site: int, woken: list[int]) -> Run | None:
-        """Lets the messages of a chain's next entry through, as far as they are right; the messages that are next where
-        all were. What follows in an entry needs nothing else, unless a version of before wrote it."""
+    def _pass_entry(self, site: int, woken: list[int], up_to: float) -> Run | None:
+        """Lets the messages of a chain's next entry through, as far as they are right, and of those that type on after it, up to
+        a stamp; the messages that are next where all were. What follows in an entry needs nothing else, unless a version of before
+        wrote it."""
         chain = self._chains[site]
         run, at = chain.next(), chain.at
         while run and chain.at == at:
@@ -520,14 +543,14 @@ class Judge:
             if state is not State.RIGHT:
                 self._block(site, chain, run, state)
                 return None
-            self._pass_on(site, chain, run, woken)
+            self._pass_on(site, chain, run, woken, up_to)
             run = chain.next()
         return run
 
-    def _pass_on(self, site: int, chain: Chain, run: Run, woken: list[int]) -> None:
+    def _pass_on(self, site: int, chain: Chain, run: Run, woken: list[int], up_to: float) -> None:
         """Lets a chain's next messages through, and wakes those that waited for them."""
-        chain.pass_on(run)
-        part = Part(chain.line, run.seq - 1, run.seq + run.size - 1)
+        chain.pass_on(run, up_to)
+        part = Part(chain.line, run.seq - 1, chain.front)
         self._out.add(part)
         self._through.add(part)
         if chain.stamp > self._greatest:

@@ -14,16 +14,22 @@ from share.entry import CHUNKS, NO_HASH, SAY_WHAT_THEY_BUILD_ON, Entry, Form, Ki
 from share.message import Message
 
 HASH_BYTES = 32
-# How many places the index begins with; at least every third one stays free.
-PLACES = 1 << 8
+# How many places the index begins with; at least every third one stays free. A place has the upper half of a hash of Python's, and
+# an entry's number.
+PLACES, NUMBER_BITS = 1 << 8, 32
+MARK, NUMBER = 0xFFFF_FFFF << NUMBER_BITS, (1 << NUMBER_BITS) - 1
+# Letters of so many entries or more that type on are one run, so that each chunk has room for it.
+MOST_TYPED = 1_000
 
 
 class Row(NamedTuple):
-    """An entry of a note's file, and its place there. `made` says that this person made it here."""
+    """An entry of a note's file, and its place there. `made` says that this person made it here, `types_on` that it is known to
+    type on after the entry before it."""
 
     place: int
     entry: Entry
     made: bool
+    types_on: bool = False
 
 
 class Ledger:
@@ -33,12 +39,12 @@ class Ledger:
         self._form = form
         self._hashes = bytearray()
         # The numbers by their hashes, one more than each, so that 0 is a free place.
-        self._index, self._mask = array("I", bytes(4 * PLACES)), PLACES - 1
+        self._index, self._mask = array("Q", bytes(8 * PLACES)), PLACES - 1
         # The sites and authors, and which of them each entry is of.
         self._clients: list[tuple[int, bytes]] = []
         self._client_of: dict[tuple[int, bytes], int] = {}
         self._whose = array("I")
-        self._kinds, self._made = bytearray(), bytearray()
+        self._kinds, self._made, self._types_on = bytearray(), bytearray(), bytearray()
         self._befores, self._firsts, self._sizes = array("I"), array("I"), array("H")
         self._places, self._ends = array("Q"), array("Q")
         # What can't be computed again of each entry, what it builds on, and its messages.
@@ -54,31 +60,33 @@ class Ledger:
         entry, number = row.entry, len(self)
         self._hashes += entry.hash
         client = (entry.site, entry.author)
-        if client not in self._client_of:
-            self._client_of[client] = len(self._clients)
+        if (whose := self._client_of.get(client)) is None:
+            whose = self._client_of[client] = len(self._clients)
             self._clients.append(client)
-        self._whose.append(self._client_of[client])
+        self._whose.append(whose)
         self._kinds.append(entry.kind)
         self._made.append(row.made)
+        self._types_on.append(row.types_on)
         self._befores.append(before)
         self._firsts.append(entry.first)
         self._sizes.append(entry.size)
         self._places.append(row.place)
+        kept = self._kept
         if self._form is None:
-            self._kept += entry.raw
+            kept += entry.raw
             self._whole.append(len(entry.raw))
         else:
-            self._kept += self._form.tail(entry.raw)
-        self._kept += entry.on
-        self._kept += entry.spelled
-        self._ends.append(len(self._kept))
+            kept += self._form.tail(entry.raw)
+        kept += entry.on
+        kept += entry.spelled
+        self._ends.append(len(kept))
         self._enter(entry.hash, number)
         return number
 
     def number(self, of: bytes) -> int | None:
         """The number of the entry that has a hash; None where there is none."""
-        found = self._index[self._seat(of)]
-        return found - 1 if found else None
+        found = self._index[self._seat(of, hash(of) & MARK)]
+        return (found & NUMBER) - 1 if found else None
 
     def hash(self, number: int) -> bytes:
         """An entry's hash."""
@@ -104,6 +112,10 @@ class Ledger:
         """Whether this person made an entry here."""
         return bool(self._made[number])
 
+    def types_on(self, number: int) -> bool:
+        """Whether an entry is known to type on after the one before it."""
+        return bool(self._types_on[number])
+
     def weight(self, number: int) -> int:
         """How many bytes are kept of an entry beside its columns."""
         return self._ends[number] - self._begin(number)
@@ -128,6 +140,11 @@ class Ledger:
         """An entry's messages, those in one that are letters typed one after the other."""
         return runs_of(Kind(self._kinds[number]), self.spelled(number))
 
+    def typed(self, number: int) -> bytes:
+        """The letters of an entry that types on."""
+        end = self._ends[number]
+        return bytes(self._kept[end - self._sizes[number]:end])
+
     def messages(self, number: int) -> Sequence[Message]:
         """An entry's messages."""
         return messages_of(Kind(self._kinds[number]), self.spelled(number))
@@ -145,7 +162,7 @@ class Ledger:
 
     def row(self, number: int) -> Row:
         """An entry with its place."""
-        return Row(self.place(number), self.entry(number), self.made(number))
+        return Row(self.place(number), self.entry(number), self.made(number), self.types_on(number))
 
     def _begin(self, number: int) -> int:
         return self._ends[number - 1] if number else 0
@@ -157,33 +174,43 @@ class Ledger:
         """How many bytes are kept of an entry that can't be computed again."""
         return self._form.tail_bytes if self._form else self._whole[number]
 
-    def _seat(self, of: bytes) -> int:
+    def _seat(self, of: bytes, mark: int) -> int:
         """The place of a hash in the index, or the free one that it would have. Nobody else can tell where hashes meet:
         Python's own hash of bytes has a secret of the process."""
-        seat = hash(of) & self._mask
-        while (found := self._index[seat]) and self.hash(found - 1) != of:
+        seat = mark >> NUMBER_BITS & self._mask
+        while (found := self._index[seat]) and (found & MARK != mark or self.hash((found & NUMBER) - 1) != of):
             seat = seat + 1 & self._mask
         return seat
 
     def _enter(self, of: bytes, number: int) -> None:
         if 3 * (number + 1) > 2 * len(self._index):
-            self._index = array("I", bytes(8 * len(self._index)))
-            self._mask = len(self._index) - 1
-            for each in range(number):
-                self._index[self._seat(self.hash(each))] = each + 1
-        self._index[self._seat(of)] = number + 1
+            self._grow()
+        mark = hash(of) & MARK
+        self._index[self._seat(of, mark)] = mark | number + 1
+
+    def _grow(self) -> None:
+        """Makes the index twice as long."""
+        before, self._mask = self._index, 2 * len(self._index) - 1
+        self._index = index = array("Q", bytes(16 * len(before)))
+        for found in filter(None, before):
+            seat = found >> NUMBER_BITS & self._mask
+            while index[seat]:
+                seat = seat + 1 & self._mask
+            index[seat] = found
 
 
 class Line:
     """Entries of a site that follow one another, the first of which is its claim. More are added, and none is taken away:
     where others take their place that is another line."""
 
-    __slots__ = ("ledger", "site", "numbers", "lasts")
+    __slots__ = ("ledger", "site", "numbers", "lasts", "types_on")
 
     def __init__(self, ledger: Ledger, site: int):
         self.ledger, self.site = ledger, site
         # The entries' numbers, which rise, and the seqs of their last messages.
         self.numbers, self.lasts = array("I"), array("I")
+        # Whether each types on after the one before it.
+        self.types_on = bytearray()
 
     def __len__(self) -> int:
         return len(self.numbers)
@@ -192,15 +219,16 @@ class Line:
         """Adds an entry."""
         self.numbers.append(number)
         self.lasts.append(self.ledger.last(number))
+        self.types_on.append(self.ledger.types_on(number))
 
     def shorten(self, at: int) -> None:
         """Takes away what nobody has looked at: the entries from a place on."""
-        del self.numbers[at:], self.lasts[at:]
+        del self.numbers[at:], self.lasts[at:], self.types_on[at:]
 
     def until(self, at: int) -> "Line":
         """The first entries as a line of its own."""
         line = Line(self.ledger, self.site)
-        line.numbers, line.lasts = self.numbers[:at], self.lasts[:at]
+        line.numbers, line.lasts, line.types_on = self.numbers[:at], self.lasts[:at], self.types_on[:at]
         return line
 
     def at(self, number: int) -> int | None:
@@ -228,13 +256,36 @@ class Line:
 
     def parts(self, begin: int, end: int) -> Iterator[tuple[bytes, Sequence[Run], int]]:
         """The same in parts: a chunk, or the runs where there is none of just these messages; and how many they are."""
-        for at, begins, ends in self._within(begin, end):
-            number, size = self.numbers[at], ends - begins
+        while begin < end:
+            at = self.at_seq(begin + 1)
+            if run := self._typed(at, begin, end):
+                yield b"", [run], run.size
+                begin += run.size
+                continue
+            first, number = self.first(at) - 1, self.numbers[at]
+            size = min(self.lasts[at], end) - begin
             if size == self.ledger.size(number):
                 chunk = self.ledger.chunk(number)
                 yield chunk, () if chunk else self.ledger.runs(number), size
             else:
-                yield b"", [*_within(self.ledger.runs(number), begins, ends)], size
+                yield b"", [*_within(self.ledger.runs(number), begin - first, begin - first + size)], size
+            begin += size
+
+    def typed_until(self, at: int) -> int:
+        """The end of the entries from one on that type on one after the other."""
+        end = self.types_on.find(0, at)
+        return len(self) if end < 0 else end
+
+    def _typed(self, at: int, begin: int, end: int) -> Run | None:
+        """The messages from one place on, to another at most, as one run: those of entries that type on one after the other, of which
+        the first is whole. None where they are those of fewer than two."""
+        if not self.types_on[at] or begin >= self.first(at):
+            return None
+        last = min(self.typed_until(at), self.at_seq(min(end, begin + MOST_TYPED) + 1))
+        if last < at + 2:
+            return None
+        data = b"".join(map(self.ledger.typed, self.numbers[at:last]))
+        return self.ledger.runs(self.numbers[at])[0]._replace(size=len(data), data=data)
 
     def _within(self, begin: int, end: int) -> Iterator[tuple[int, int, int]]:
         """The entries that have messages from one place to another, and from where to where in each of them."""

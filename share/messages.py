@@ -78,6 +78,12 @@ class Messages(Sequence[Message]):
             yield Part(holder, begin, begin + end - before)
             before = end
 
+    def runs(self) -> Iterator[Run]:
+        """The messages, those in one that are letters typed one after the other."""
+        for part in self.parts():
+            for chunk, runs, _ in part.holder.parts(part.begin, part.end):
+                yield from runs_in(chunk) if chunk else runs
+
     def chunks(self) -> Iterator[tuple[bytes, int]]:
         """Chunks of all of them, and how many each has."""
         writer, count = Writer(), 0
@@ -99,8 +105,10 @@ class Messages(Sequence[Message]):
 
     def cut(self, length: int) -> None:
         """Goes on with the first so many alone."""
-        kept = self[:length]
-        self._holders, self._begins, self._ends = kept._holders, kept._begins, kept._ends
+        while self._ends and self._end_before(-1) >= length:
+            del self._holders[-1], self._begins[-1], self._ends[-1]
+        if self._ends:
+            self._ends[-1] = min(self._ends[-1], length)
 
     def _end_before(self, number: int) -> int:
         """How many messages there are before a part."""

@@ -21,6 +21,7 @@ from share.message import Message, length_after
 from share.messages import Messages
 from share.old import Old
 from share.renewing import say_so
+from share.site import is_full
 from share.together import with_log
 from share.words import Trouble
 
@@ -51,13 +52,11 @@ def is_here(name: str) -> bool:
 
 class Renewed(NamedTuple):
     """The name that a note has that was copied into a new one, None where it was of the form of before and is where
-    it was; what isn't in the new one, in words; what was left out of the old one for good; and how many messages the new
-    one has."""
+    it was; what isn't in the new one, in words; and what was left out of the old one for good."""
 
     before: str | None
     missing: list[str]
     left_out: list[LeftOut]
-    size: int
 
 
 def opened(name: str, url: str | None, link: Link | None, password: str | None = None,
@@ -100,12 +99,12 @@ def renew(name: str, url: str | None, password: str | None, called: str = "",
     the old one are told so by one of this name."""
     path = path_of(name)
     if path.exists():
-        found = reading.found_in(path)
+        found = reading.judged(path)
         url = url or _log_of_new(found.about.url)
         if found.about.url:
             # What others wrote while nobody had the note open here is in its log alone.
             found = with_log(found, found.about.url, password)
-        judge = Judge(found.entries)
+        judge = found.judge
         messages, missing = judge.count().messages, reading.missing(judge, found.faults)
         left_out = lost.left_out(judge, reading.own(path).anew)
     elif kept := of_before(name, url, password):
@@ -114,6 +113,9 @@ def renew(name: str, url: str | None, password: str | None, called: str = "",
     else:
         raise Trouble(f"There is no note {name} here.")
     messages = begins(messages)
+    if is_full(len(messages)):
+        raise Trouble(f"The note {name} has {len(messages):,} messages, as many as a note may have. So would a copy with its history, "
+                      f"in which nothing could be typed. bin/note renew {name} --fresh makes a new note of its text.")
     beside = path.with_name(f".renewed.{os.getpid()}{SUFFIX}")
     _make_new(beside, about_new(url), by_site(messages))
     try:
@@ -123,7 +125,7 @@ def renew(name: str, url: str | None, password: str | None, called: str = "",
         beside.unlink(missing_ok=True)
     if before:
         say_so(path_of(before), called, password)
-    return Renewed(before, missing, left_out, len(messages))
+    return Renewed(before, missing, left_out)
 
 
 def _log_of_new(url: str) -> str:

@@ -5,11 +5,11 @@ from typing import NamedTuple
 from share import history, lost, opening, people, reading, renewing
 from share.disk import About
 from share.holdings import uncollected
-from share.judging import Judge
 from share.lines import Line
 from share.link import Link
 from share.messages import Messages
-from share.reading import Found, Own, Shown
+from share.judging import Judge
+from share.reading import Judged, Own, Shown
 from share.site import Site
 from share.together import with_log
 from share.words import Trouble
@@ -31,9 +31,9 @@ def printed(name: str, url: str | None, link: Link | None, password: str | None)
         return Shown(site.text(), missing)
 
 
-def counted(name: str, there: Found) -> Counted:
+def counted(name: str, there: Judged) -> Counted:
     """What counts of what there is of a note."""
-    judge, path = Judge(there.entries), opening.path_of(name)
+    judge, path = there.judge, opening.path_of(name)
     messages = judge.count().messages
     own, names = reading.own(path) if path.exists() else Own(), people.known(name)
     missing = reading.missing(judge, there.faults)
@@ -45,17 +45,18 @@ def counted(name: str, there: Found) -> Counted:
 
 
 @uncollected()
-def found(name: str, url: str | None, link: Link | None, password: str | None) -> Found:
+def found(name: str, url: str | None, link: Link | None, password: str | None) -> Judged:
     """What there is of a note, and what was wrong with it."""
     path = opening.path_of(name)
     if path.exists():
-        here = reading.found_in(path)
+        here = reading.judged(path)
     elif link:
-        here = Found(About(link.form == "sealed", link.secret, link.url), [], [])
+        about = About(link.form == "sealed", link.secret, link.url)
+        here = Judged(about, Judge(form=about.form()), [], set())
     elif kept := opening.of_before(name, url, password):
         about = opening.about_new(None)
         rows = opening.in_rows(about.form(), kept.messages)
-        return Found(about, [row.entry for row in rows], list(kept.left_out))
+        return Judged(about, Judge(row.entry for row in rows), list(kept.left_out), set())
     else:
         raise Trouble(f"There is no note {name} here. To print one that isn't here, give its link.")
     opening.agree(here.about, name, url, link)

@@ -3,25 +3,34 @@ its files."""
 import contextlib
 import pathlib
 import sqlite3
+import struct
 import urllib.parse
-from collections.abc import Callable, Iterable
-from typing import NamedTuple, TypeVar
+import zlib
+from collections.abc import Callable, Iterable, Iterator
+from typing import Any, NamedTuple, TypeVar
 
 from share.bounded import Bound
 from share.disk import APPLICATION, COPIED, About, Damaged, about_of, as_text
-from share.entry import Bad, Entry
+from share.entry import Bad, Entry, Form, digest
 from share.judging import Judge
+from share.keystrokes import Keystrokes
+from share.ledger import Row
 from share.old import copied
 from share.site import Site
 from share.words import NEWER, Trouble, entries
 
 Result = TypeVar("Result")
-RAWS = """SELECT place, CAST(raw AS BLOB) FROM entry
-          WHERE place {} ? AND hash NOT IN (SELECT hash FROM withdrawn) ORDER BY place {}"""
+RAW, KEPT = "coalesce(CAST(raw AS BLOB), x'')", ", hash, body, sum"
+ROWS = """SELECT place, {} FROM entry WHERE place {} ? AND hash NOT IN (SELECT hash FROM withdrawn) ORDER BY place {}"""
 OWN_CLIENTS = "SELECT site, author FROM client WHERE retired != ?"
 GREATEST_PLACE = 2**63 - 1
 # So many faults of a kind are told one by one.
 MOST_TOLD = 3
+# After so many entries what counts of them is let through.
+PAGE = 2_000
+
+# The bytes of an entry as a file has them, its hash, its body unsealed, and a sum of that. What the disk damaged may have other types.
+Kept = tuple[Any, ...]
 
 
 class Found(NamedTuple):
@@ -30,6 +39,43 @@ class Found(NamedTuple):
     about: About
     entries: list[Entry]
     faults: list[str]
+
+
+class Judged(NamedTuple):
+    """What a note has, judged as it was read; what was wrong with it, in words; and the hashes of what the judge doesn't keep."""
+
+    about: About
+    judge: Judge
+    faults: list[str]
+    others: set[bytes]
+
+    def has(self, of: bytes) -> bool:
+        """Whether an entry was read."""
+        return of in self.judge or of in self.others
+
+    def add(self, row: Row) -> None:
+        """Adds an entry."""
+        self.judge.add(row.entry, row.place, row.made, row.types_on)
+        if not row.entry.size and row.entry.hash not in self.judge:
+            self.others.add(row.entry.hash)
+
+
+class Faults:
+    """What is wrong with the entries of a file or a log, of which few are told one by one."""
+
+    def __init__(self, of: str):
+        self._of, self._first, self._many = of, list[str](), 0
+
+    def add(self, why: Bad) -> None:
+        """One more can't be read."""
+        self._many += 1
+        if self._many <= MOST_TOLD:
+            self._first.append(f"An entry of {self._of} {why}.")
+
+    def words(self) -> list[str]:
+        """What is told."""
+        more = self._many - MOST_TOLD
+        return [*self._first, f"{entries(more)} more of {self._of} can't be read."] if more > 0 else self._first
 
 
 class Own(NamedTuple):
@@ -70,6 +116,12 @@ def found_in(path: pathlib.Path) -> Found:
     return _with_file(path, _found)
 
 
+def judged(path: pathlib.Path) -> Judged:
+    """What a file of this person has, judged as it is read: so no more of it is in memory than of a note that is open. Who signed what was
+    seen as it was kept, and isn't looked at again, but for what the disk damaged."""
+    return _with_file(path, _judged)
+
+
 def shown(found: Found) -> Shown:
     """What a note shows that has these entries."""
     judge = Judge(found.entries)
@@ -97,33 +149,62 @@ def missing(judge: Judge, faults: Iterable[str]) -> list[str]:
 
 def opened(about_it: About, raws: list[bytes], of: str) -> tuple[list[Entry], list[str]]:
     """The entries that bytes are, and what is wrong with the others. `of` says where they are."""
-    right: list[Entry] = []
-    faults: list[str] = []
+    right, faults = list[Entry](), Faults(of)
     for one in about_it.form().open_many(raws):
         if isinstance(one, Bad):
-            faults.append(f"An entry of {of} {one}.")
+            faults.add(one)
         else:
             right.append(one)
-    if len(faults) > MOST_TOLD:
-        faults[MOST_TOLD:] = [f"{entries(len(faults) - MOST_TOLD)} more of {of} can't be read."]
-    return right, faults
+    return right, faults.words()
 
 
 def _found(file: sqlite3.Connection) -> Found:
-    about_it = about_of(file)
-    raws: dict[int, bytes] = {}
-    broken: list[str] = []
-    for way in (">", "ASC", 0), ("<", "DESC", GREATEST_PLACE):
-        try:
-            for place, raw in file.execute(RAWS.format(*way[:2]), way[2:]):
-                raws[place] = raw
-        except sqlite3.DatabaseError as why:
-            # What can be read from the other end is read, too.
-            broken = [f"The file is damaged ({why}); some of it may be lost."]
-        if not broken:
-            break
-    right, faults = opened(about_it, [raws[place] for place in sorted(raws)], "the file")
+    about_it, broken = about_of(file), list[str]()
+    right, faults = opened(about_it, [raw for raw, in _rows(file, RAW, broken)], "the file")
     return Found(about_it, right, broken + faults)
+
+
+def _judged(file: sqlite3.Connection) -> Judged:
+    about_it, broken, wrong = about_of(file), list[str](), Faults("the file")
+    form, keystrokes = about_it.form(), Keystrokes()
+    found = Judged(about_it, Judge(form=form), [], set())
+    for number, row in enumerate(_rows(file, RAW + KEPT, broken), 1):
+        try:
+            found.add(_as_kept(form, keystrokes, row))
+        except Bad as why:
+            wrong.add(why)
+        if number % PAGE == 0:
+            found.judge.let_through()
+    return found._replace(faults=broken + wrong.words())
+
+
+def _rows(file: sqlite3.Connection, columns: str, broken: list[str]) -> Iterator[Kept]:
+    """All entries that can be read, from the front; where the file is damaged, which is told, also from the other end."""
+    last = 0
+    try:
+        for row in file.execute(ROWS.format(columns, ">", "ASC"), (0,)):
+            yield row[1:]
+            last = row[0]
+    except sqlite3.DatabaseError as why:
+        broken.append(f"The file is damaged ({why}); some of it may be lost.")
+        with contextlib.suppress(sqlite3.DatabaseError):
+            for row in file.execute(ROWS.format(columns, "<", "DESC"), (GREATEST_PLACE,)):
+                if row[0] <= last:
+                    break
+                yield row[1:]
+
+
+def _as_kept(form: Form, keystrokes: Keystrokes, row: Kept) -> Row:
+    """The entry of a row. One that isn't as it was kept is looked at as a stranger's is; Bad where it is none."""
+    raw, of, body, check = row
+    try:
+        if digest(raw) == of and zlib.crc32(body or b"") == check:
+            entry = form.reopened(raw, form.body(raw) if body is None else body, of)
+            return Row(0, entry, False, keystrokes.type_on(entry))
+    except (TypeError, ValueError, struct.error):
+        # The disk damaged it.
+        pass
+    return Row(0, form.open(raw), False)
 
 
 def _with_file(path: pathlib.Path, read: Callable[[sqlite3.Connection], Result]) -> Result:

@@ -26,7 +26,7 @@ from share.messages import Messages, Part
 from share.numbers import FULL, READING, Numbers
 from share.reading import found_in
 from share.renewing import renewed_by
-from share.site import SLICE, Edited, Progress, Site, Told
+from share.site import SLICE, Edited, Progress, Site, Told, is_nearly_full
 from share.standing import Who
 from share.unchanged import inode_of
 from share.words import NEWER, Trouble, counted, entries
@@ -109,7 +109,7 @@ class Session:
             raise Trouble(f"{disk.path} has a note that isn't sealed with a log on a server. Nothing is sent there.")
         self._notices: list[str] = []
         self._told_wrong: set[tuple[int, int]] = set()
-        self._told_newer = False
+        self._told_newer = self._told_of_fullness = False
         self._trouble: str | None = None
         self._unread: str | None = None
         # Whether the site may lack something that counts, or have something that doesn't.
@@ -269,6 +269,10 @@ class Session:
 
     def notices(self) -> list[str]:
         """What the user is to be told since this was last asked."""
+        if not self._told_of_fullness and is_nearly_full(len(self.site.history)):
+            self._told_of_fullness = True
+            self._notices.append(f"This note has {len(self.site.history):,} messages, a keystroke being one, and is nearly full. bin/note "
+                                 f"renew {self._disk.path.stem} --fresh makes a new note of its text.")
         told, self._notices = self._notices, []
         while self._courier.notices:
             told.append(self._courier.notices.pop(0))
@@ -420,6 +424,7 @@ class Session:
         self._most = OPENED_BYTES
         while not self._unread:
             self._read()
+            self._holdings.judge.let_through()
             if not self._holdings.has_more:
                 break
         self._most = math.inf

@@ -10,6 +10,7 @@ from collections.abc import Callable, Iterable, Iterator, Sequence
 from itertools import accumulate, chain, islice
 from typing import NamedTuple
 
+from share.chunks import Run as Typed
 from share.coming import Coming
 from share.looks import Looks, Run, in_words
 from share.message import MOST_RANGES, Message, Names
@@ -17,7 +18,7 @@ from share.messages import Messages
 from share.names import halves, united
 from share.note_text import Change, boundary
 from share.program import MOST_LINES, Ended, Program, escaped, shown
-from share.telling import Stretch, answered, asking, count, stretches, told
+from share.telling import Stretch, answered, asking, count, stretches, told, told_as_one
 from share.words import Trouble
 
 # One message has so many bytes of an insertion at most.
@@ -34,6 +35,8 @@ KEPT = "text"
 MOST_NAMES = 10_000
 # So many messages a note has at most when it is edited: the program has half a gigabyte for a million.
 MOST_MESSAGES = 2_000_000
+# Where there is room for one in so many alone it is told that the note is nearly full.
+NEARLY = 20
 SCATTERED, NO_MEMORY, TOO_MANY = 12, 7, 21
 # The answer to a chunk of which some are taken in, some were held already, and none waits.
 UNPACKED = re.compile(rb"unpacked (\d+) (\d+) 0")
@@ -129,11 +132,11 @@ class Site:
 
     def _take_few(self, coming: Messages) -> list[Change] | None:
         """Takes in messages; what they changed, None where that isn't known."""
-        some = [*coming]
-        if len(self.history) >= MOST_MESSAGES or count(some) > MOST_NAMES:
+        runs = [*coming.runs()]
+        if is_full(len(self.history)) or count(runs) > MOST_NAMES:
             self._hand_in_chunks(coming)
             return None
-        changes = self._hand_in(some)
+        changes = self._hand_in([*told_as_one(runs)])
         self.history += coming
         return changes
 
@@ -212,13 +215,16 @@ class Site:
         """Ends the program."""
         self._program.close()
 
-    def _hand_in(self, messages: list[Message]) -> list[Change] | None:
-        """What messages changed that the program takes in; None where that can't be told."""
+    def _hand_in(self, messages: list[Message | Typed]) -> list[Change] | None:
+        """What messages changed that the program takes in, or letters that were typed one after the other; None where that can't be
+        told."""
         asked = [asking(self._program, message) for message in messages]
         found = iter(self._ask([*chain.from_iterable(asked)]))
         done = [answered(message, [*islice(found, len(events))]) for message, events in zip(messages, asked)]
         for message, (answer, _) in zip(messages, done):
-            if answer not in (b"taken 0 0", b"repeat"):
+            is_taken = (_is_unpacked(answer, message.size) if isinstance(message, Typed) else
+                        answer in (b"taken 0 0", b"repeat"))
+            if not is_taken:
                 raise _not_taken(answer, message)
         if any(changed is None for _, changed in done):
             return None
@@ -236,8 +242,7 @@ class Site:
 
     def _unpacked(self, answer: bytes, messages: Messages) -> None:
         """Checks the answer to a chunk of messages, and adds them to the history."""
-        found = UNPACKED.fullmatch(answer)
-        if not found or int(found[1]) + int(found[2]) != len(messages):
+        if not _is_unpacked(answer, len(messages)):
             raise _not_taken(answer, messages[0])
         self.history += messages
 
@@ -279,7 +284,7 @@ class Site:
         return self._sent(self._ask([self._program.event(verb, *words)]))
 
     def _full(self) -> int | None:
-        return TOO_MANY if len(self.history) >= MOST_MESSAGES else None
+        return TOO_MANY if is_full(len(self.history)) else None
 
     def _ask(self, events: list[bytes]) -> list[list[bytes]]:
         """The program's answers. Where it ended it is started again: none of these events was kept, so they
@@ -321,7 +326,23 @@ class Site:
                           "kept.") from why
 
 
-def _not_taken(answer: bytes, message: Message) -> Trouble:
+def is_full(many: int) -> bool:
+    """Whether a note of so many messages has as many as a note may have."""
+    return many >= MOST_MESSAGES
+
+
+def is_nearly_full(many: int) -> bool:
+    """Whether a note of so many messages has room for few more."""
+    return many * NEARLY >= MOST_MESSAGES * (NEARLY - 1)
+
+
+def _is_unpacked(answer: bytes, size: int) -> bool:
+    """Whether this is the answer to a chunk of so many messages that was taken in."""
+    found = UNPACKED.fullmatch(answer)
+    return found is not None and int(found[1]) + int(found[2]) == size
+
+
+def _not_taken(answer: bytes, message: Message | Typed) -> Trouble:
     """What is told where the program doesn't take in what counts: a message, or one of those from it on."""
     if answer.split()[-1:] == [b"%d" % NO_MEMORY] and answer.split()[0] in (b"refused", b"partial"):
         return Trouble("There is no memory for what came in. End other programs and open the note again.")

@@ -1,13 +1,18 @@
 """Tells what a message changes in the text: the program is asked where the characters that it names are
-shown, before it and after it."""
+shown, before it and after it. Letters that were typed one after the other are told as one."""
 import re
-from collections.abc import Iterator
+from collections.abc import Iterable, Iterator
 from typing import NamedTuple
 
-from share.message import INSERT, Message, Names, names_of
+from share.chunks import Run, Writer
+from share.message import CHANGE_LOOKS, INSERT, Message, Names, names_of
 from share.note_text import Change
 from share.program import Program, characters
 from share.words import Trouble
+
+
+# So many letters that were typed one after the other are handed in and told as one.
+MANY = 4
 
 
 class Stretch(NamedTuple):
@@ -18,22 +23,39 @@ class Stretch(NamedTuple):
     data: bytes
 
 
-def count(messages: list[Message]) -> int:
+def count(runs: Iterable[Run]) -> int:
     """How many names messages speak of."""
-    return sum(names.length for message in messages for names in names_of(message))
+    return sum(len(run.data) if run.data else sum(one.length for one in run.mentions) for run in runs if run.kind != CHANGE_LOOKS)
 
 
-def asking(program: Program, message: Message) -> list[bytes]:
-    """The events that hand a message in, and ask what it changes."""
+def told_as_one(runs: Iterable[Run]) -> Iterator[Run | Message]:
+    """Messages, of which letters that were typed one after the other are one."""
+    for run in runs:
+        if run.size < MANY:
+            yield from run.messages()
+        else:
+            yield run
+
+
+def asking(program: Program, message: Message | Run) -> list[bytes]:
+    """The events that hand a message in, or letters, and ask what it changes."""
+    if isinstance(message, Run):
+        writer = Writer()
+        writer.add(message)
+        return [program.unpacking(bytes(writer.data)), program.event("where", message.site, message.at, message.size)]
     where = [program.event("where", *names) for names in names_of(message)]
     # What is inserted is shown nowhere before that.
     earlier = [] if message.kind == INSERT else where
     return [*earlier, program.taking(message.data), *where]
 
 
-def answered(message: Message, answers: list[list[bytes]]) -> tuple[bytes, list[Change] | None]:
-    """What a message was answered, by the answers to these events, and what it changed; None where others
+def answered(message: Message | Run, answers: list[list[bytes]]) -> tuple[bytes, list[Change] | None]:
+    """What a message was answered, or letters, by the answers to these events, and what it changed; None where others
     that waited came in with it."""
+    if isinstance(message, Run):
+        taken, found = answers
+        is_new = taken[-1] == b"unpacked %d 0 0" % message.size
+        return taken[-1], told([Names(message.site, message.at, message.size)], [[]], [stretches(found)]) if is_new else None
     middle = 0 if message.kind == INSERT else len(answers) // 2
     answer = answers[middle][-1]
     if not answer.startswith(b"taken "):

@@ -3,42 +3,50 @@ import pathlib
 from collections.abc import Iterator
 from contextlib import ExitStack, closing, contextmanager
 
+from share.entry import Bad, digest
+from share.ledger import Row
 from share.log import START, Carried, Log, Lost, Unreachable, is_network, open_log
 from share.old import copied
-from share.reading import Found, opened
+from share.reading import Faults, Judged
 from share.words import Trouble, entries
 
 # How often a log is read that loses entries meanwhile.
 TRIES = 3
 
 
-def with_log(found: Found, url: str, password: str | None) -> Found:
-    """What a file has and what a log has besides."""
-    about, held, faults = found
-    carried: list[Carried] = []
+def with_log(found: Judged, url: str, password: str | None) -> Judged:
+    """What a file has and what a log has besides, which is judged a page at a time."""
+    wrong, strange = Faults("the log"), set[str]()
+    unread: list[str] = []
+    form, seen = found.about.form(), set[bytes]()
     try:
-        carried = _read(url, about.form().note, password)
+        for page in _pages(url, form.note, password):
+            raws = {digest(one.raw): one.raw for one in page if one.raw is not None}
+            strange |= {one.place for one in page if one.raw is None}
+            new = [raw for of, raw in raws.items() if not found.has(of) and of not in seen]
+            for raw, one in zip(new, form.open_many(new)):
+                if isinstance(one, Bad):
+                    wrong.add(one)
+                    seen.add(digest(raw))
+                else:
+                    found.add(Row(0, one, False))
+            found.judge.let_through()
     except (Unreachable, Trouble) as why:
-        faults = [*faults, f"The log can't be read ({why}); what was printed is what is here."]
-    known = {entry.raw for entry in held}
-    raws = [one.raw for one in carried if one.raw is not None and one.raw not in known]
-    more, wrong = opened(about, [*dict.fromkeys(raws)], "the log")
-    if strange := sum(one.raw is None for one in carried):
-        wrong.append(f"{entries(strange)} of the log can't be read.")
-    return Found(about, [*held, *more], [*faults, *wrong])
+        unread = [f"The log can't be read ({why}); what was printed is what is here."]
+    told = [f"{entries(len(strange))} of the log can't be read."] if strange else []
+    return found._replace(faults=[*found.faults, *unread, *wrong.words(), *told])
 
 
-def _read(url: str, note: bytes, password: str | None) -> list[Carried]:
-    """All that a log has."""
+def _pages(url: str, note: bytes, password: str | None) -> Iterator[list[Carried]]:
+    """All that a log has, page by page; from the front again where it loses entries meanwhile."""
     for _ in range(TRIES):
-        carried: list[Carried] = []
         try:
             with _opened(url, note, password) as log:
                 after = START
                 while page := log.read(after):
-                    carried += page
+                    yield page
                     after = page[-1].place
-            return carried
+            return
         except Lost:
             continue
     raise Unreachable(f"{url} is damaged, or loses entries as it is read")

@@ -183,6 +183,18 @@ class InARow(unittest.TestCase):
         self.row.cut(7)
         self.assertEqual(list(self.row), self.plain[:7])
 
+    def test_a_cut_looks_at_the_end_alone(self) -> None:
+        lines = [line_of([typed(site, 1, 0, b"abc")]) for site in range(1, 30)]
+        row = Messages(parts=[Part(line, begin, begin + 1) for begin in range(3) for line in lines])
+        plain = [*row]
+        with mock.patch.object(Messages, "add", side_effect=AssertionError):
+            for length in 87, 86, 80, 29, 29, 1, 0:
+                row.cut(length)
+                self.assertEqual(len(row), length)
+                self.assertEqual([*row], plain[:length])
+        row += plain[:2]
+        self.assertEqual([*row], plain[:2])
+
     def test_chunks(self) -> None:
         with mock.patch("share.messages.FEW", 6):
             whole, both = [*self.row.chunks()], [*self.row[1:].chunks()]

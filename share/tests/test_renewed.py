@@ -15,6 +15,7 @@ from share.reading import found_in
 from share.site import Site
 from share.tests.editors import Editor
 from share.tests.support import NOTE, Case, Person, type_at_the_end, wait_for, written
+from share.words import Trouble
 
 REFUSED = r"refused \(21\).*bin/note renew NAME --fresh"
 
@@ -124,17 +125,32 @@ class Renewing(Case):
             note.type("!")
             self.assertRegex(note.notice, REFUSED)
             note.session.close()
-            with self.ann.here():
-                self.assertEqual(opening.renew("note", None, None).size, 10)
-            note = self.opened(self.ann)
-            type_at_the_end(note, "!")
-            self.assertRegex(note.notice, REFUSED)
-            note.session.close()
+            # A copy with the history would be full, too.
+            with self.ann.here(), self.assertRaisesRegex(Trouble, "has 10 messages.*bin/note renew note --fresh"):
+                opening.renew("note", None, None)
+            self.assertFalse(self.ann.path("note.old-1").exists())
             with self.ann.here():
                 opening.renew("note", None, None, begins=lambda messages: renewing.fresh(messages, frozenset()).messages)
             note = self.opened(self.ann)
             type_at_the_end(note, "!")
             self.assertEqual((bytes(note.text), note.notice), (b"0123456789!", ""))
+
+    def test_that_a_note_is_nearly_full_is_told_once(self) -> None:
+        with mock.patch("share.site.MOST_MESSAGES", 21):
+            note = self.opened(self.ann)
+            for number in range(18):
+                type_at_the_end(note, "x")
+            note.take_in()
+            self.assertEqual(note.notice, "")
+            for number in range(2):
+                type_at_the_end(note, "x")
+            note.take_in()
+            self.assertRegex(note.notice, "has 20 messages.*nearly full. bin/note renew note --fresh")
+            note.notice = ""
+            type_at_the_end(note, "x")
+            note.take_in()
+            self.assertEqual(note.notice, "")
+            self.assertEqual(bytes(note.text), b"x" * 21)
 
     def test_those_who_have_the_old_one_are_told(self) -> None:
         server = self.redis()
