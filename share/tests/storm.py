@@ -50,7 +50,9 @@ class Writer:
         self.typing: dict[int, str] = {}
         self.unsure: Words = set()
         self.typed, self._read, self.clock = 0, 0, 0
-        self.said: list[str] = []
+        # What the user was told, and how many seconds after the begin.
+        self.said: list[tuple[float, str]] = []
+        self._began = time.monotonic()
 
     def open(self) -> None:
         """Opens the note, where it isn't open."""
@@ -103,7 +105,7 @@ class Writer:
 
     def _took(self, line: dict) -> None:
         if line.get("notice") == "says":
-            self.said.append(line["words"])
+            self.said.append((round(time.monotonic() - self._began, 1), line["words"]))
         if line.get("answer") != "edit":
             return
         for number in [one for one in self.typing if one <= line.get("edits", 0)]:
@@ -291,7 +293,7 @@ class Storm:
         # What happened, in order; what is to be undone, and after how many steps; what was copied.
         self.told: list[str] = []
         self.due: list[tuple[int, object]] = []
-        self.step, self.text = 0, ""
+        self.step, self.text, self._began = 0, "", time.monotonic()
         self.backups: list[tuple[Writer, pathlib.Path, Words]] = []
         self.dumps: list[pathlib.Path] = []
         self.both: list[tuple[Writer, pathlib.Path, Words, pathlib.Path]] = []
@@ -310,7 +312,7 @@ class Storm:
 
     def say(self, words: str) -> None:
         """Notes what happened."""
-        self.told.append(f"{self.step}: {words}")
+        self.told.append(f"{self.step} ({time.monotonic() - self._began:.1f} s): {words}")
 
     def round(self, steps: int) -> None:
         """Has people type, and things happen."""
@@ -541,6 +543,19 @@ class Storm:
         """Says what is wrong, and what happened before it."""
         said = {one.name: one.said[-6:] for one in self.people if one.said}
         raise AssertionError(f"seed {self.seed} ({self.log.kind}): {words}\nsaid: {said}\nhappened: {self.told[-40:]}")
+
+    def keep(self, folder: pathlib.Path, why: str) -> None:
+        """Keeps what everybody has in a folder, so that the fault can be traced."""
+        folder.mkdir(parents=True)
+        for one in self.people:
+            one.copy_to(folder / one.name)
+        with contextlib.suppress(OSError, shutil.Error):
+            self.log.copy_to(folder / "log")
+        lines = [why, *self.told]
+        for one in self.people:
+            lines += [f"{one.name}: {one.state()}", f"has {sorted(one.has)}", f"unsure {sorted(one.unsure)}",
+                      f"typing {one.typing}", *(f"{when} {words}" for when, words in one.said), one.editor.text if one.editor else ""]
+        (folder / "fault").write_text("\n".join(lines))
 
     def printed(self) -> None:
         """That all folders alone print the same."""

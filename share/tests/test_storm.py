@@ -4,8 +4,11 @@ each word that some disk has stands once, at everybody.
 
     SHARE_STORM=200 SHARE_SEED=7 share/tests/run test_storm
     SHARE_STORM=50 SHARE_KINDS=kill,backup,snapshot share/tests/run test_storm
+
+Where `SHARE_KEEP` names a folder, all files of what went wrong are kept in it, to be looked at by share/tests/trace.py.
 """
 import os
+import pathlib
 import shutil
 import subprocess
 import unittest
@@ -15,6 +18,7 @@ from share.tests.support import Case
 
 ROUNDS = int(os.environ.get("SHARE_STORM", "0"))
 SEED = int(os.environ.get("SHARE_SEED", "1"))
+KEEP = os.environ.get("SHARE_KEEP")
 KINDS = ["kill", "stop", "stop_program", "stop_log", "kill_log", "lose_log", "dump", "backup", "twin", "snapshot", "rejoin",
          "damage", "fill", "clock"]
 # What people of a note go through together before another note is begun, and how much they try in a round.
@@ -39,13 +43,18 @@ class Storms(Case):
         """Has people of one note go through some rounds."""
         self.disk()
         storm = Storm(self, seed, CHOSEN)
-        for one in storm.people:
-            one.open()
-        words = 0
-        for _ in range(rounds):
-            storm.round(STEPS)
-            words = len(storm.meet().split())
-        storm.printed()
+        try:
+            for one in storm.people:
+                one.open()
+            words = 0
+            for _ in range(rounds):
+                storm.round(STEPS)
+                words = len(storm.meet().split())
+            storm.printed()
+        except AssertionError as why:
+            if KEEP:
+                storm.keep(pathlib.Path(KEEP, f"seed-{seed}"), str(why))
+            raise
         print(f"seed {seed}: {rounds} rounds, {len(storm.told)} mishaps, {words} words", flush=True)
 
     def test_rounds(self) -> None:
