@@ -546,7 +546,8 @@ class Engine:
         """Has all but one show a text, where it isn't known what has changed."""
         before = self._text.as_note()
         if now != before:
-            self._changed([(change(before, now), None)], but)
+            changes = self.session.differing(before, now) if self.session else [change(before, now)]
+            self._changed([(one, None) for one in changes], but)
 
     def _changed(self, changes: Iterable[tuple[Change, list[Names] | None]], but: Peer | None = None,
                  undoes: Peer | None = None) -> None:

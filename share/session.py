@@ -11,6 +11,7 @@ from share import ledger, lost, packing
 from share.anew import Remade, at_once, length_of, make_anew, with_claims
 from share.coming import Coming, Pace
 from share.courier import Courier
+from share.differing import Shown, differences, shown_by
 from share.disk import Anew, Changed, Client, Damaged, Disk, Overtaken, Unkept, make
 from share.entry import Copy, Entry, Kind, in_entries
 from share.hiding import wanted
@@ -23,6 +24,7 @@ from share.losses import Turns, told_of_edits, told_of_numbers
 from share.lost import Lost
 from share.message import Message, length_after
 from share.messages import Messages, Part
+from share.note_text import Change, change
 from share.numbers import FULL, READING, Numbers
 from share.reading import found_in
 from share.renewing import renewed_by
@@ -127,6 +129,8 @@ class Session:
         self._has_number = False
         # When what was lost is made anew.
         self._turns = Turns()
+        # What the site showed that was begun anew, until it is told what differs.
+        self._was: Shown | None = None
         # How far what copies stand for counted as it was last looked at.
         self._fronts: list[int] | None = None
         self._holdings, self._left_out = Holdings(self._form), lost.Totals()
@@ -225,6 +229,7 @@ class Session:
             raise
 
     def _arrived(self) -> Told:
+        self._was = None
         # Only what the log had before the file is read says what is lost, and which claims come before all others.
         has_read, in_log = self._courier.has_read(), self._numbers.claims_in_log(self._courier)
         holdings = self._holdings
@@ -260,6 +265,16 @@ class Session:
             self._pack(max(packing.MANY, self._packed // packing.SHARE))
         hidden = [] if self.has_more() else self._hide_copies()
         return told + hidden if isinstance(told, list) and isinstance(hidden, list) else self.site.text()
+
+    def differing(self, before: bytes, now: bytes) -> list[Change]:
+        """What differs between the text that was shown before the last call of `arrived` and the one that is shown since:
+        character by character, where the site was begun anew."""
+        was, self._was = self._was, None
+        with suppress(Trouble):
+            if was and was.text == before and (shows := shown_by(self.site)).text == now:
+                if (found := differences(was, shows)) is not None:
+                    return found
+        return [change(before, now)]
 
     def tell(self, words: str) -> None:
         """Has the user be told something."""
@@ -617,6 +632,9 @@ class Session:
     def _begin_anew(self, messages: Messages) -> None:
         """Has the site be another one, under the number of now, with these messages."""
         self._coming = Coming()
+        with suppress(Trouble):
+            # Where the program has ended it is told as a whole.
+            self._was = self._was or shown_by(self.site)
         self.site.close()
         self.site = self._new_site(messages)
 
