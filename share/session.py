@@ -14,13 +14,13 @@ from share.courier import Courier
 from share.differing import Shown, differences, shown_by
 from share.disk import Anew, Changed, Client, Damaged, Disk, Overtaken, Unkept, make
 from share.entry import Copy, Entry, Kind, in_entries
-from share.hiding import wanted
+from share.hiding import said, wanted
 from share.holdings import Holdings, uncollected, who
 from share.judging import Counted
 from share.ledger import Row
 from share.lines import Line
 from share.log import is_network, open_log
-from share.losses import Turns, told_of_edits, told_of_numbers
+from share.losses import Turns, seconds_for_others, told_of_edits, told_of_numbers
 from share.lost import Lost
 from share.message import Message, length_after
 from share.messages import Messages, Part
@@ -133,6 +133,8 @@ class Session:
         self._was: Shown | None = None
         # How far what copies stand for counted as it was last looked at.
         self._fronts: list[int] | None = None
+        # When copies of others are hidden that stand beside what they stand for, unless they are hidden by then.
+        self._hides_others: float | None = None
         self._holdings, self._left_out = Holdings(self._form), lost.Totals()
         self._read_all()
         self._numbers = Numbers(self._holdings, self._form, bool(self._about.url), _File(self))
@@ -607,19 +609,22 @@ class Session:
         self._is_settled, self._anew_after = False, time.monotonic() + AGAIN_SECONDS
 
     def _hide_copies(self) -> Told:
-        """Hides copies that were made here and aren't to be seen, or shows them again; what the text has become."""
+        """Hides copies that were made here and aren't to be seen, or shows them again; what the text has become. Those of others
+        are hidden some seconds later."""
         holdings = self._holdings
-        fronts = holdings.standing.fronts(holdings.counts_up_to) + holdings.recovered.fronts(holdings.counts_up_to)
-        if (fronts == (self._fronts or []) or not self._client.stood or self._is_stale or self._numbers.is_taken
+        fronts = holdings.fronts_of_copies()
+        is_due = self._hides_others is not None and time.monotonic() >= self._hides_others
+        if (fronts == (self._fronts or []) and not is_due or not self._client.stood or self._is_stale or self._numbers.is_taken
                 or time.monotonic() < self._anew_after):
             return []
-        names, before = wanted(holdings), len(self.site.history)
+        names, before, author = wanted(holdings), len(self.site.history), self._client.author
         try:
             hidden, gone = self.site.delete(names.hidden)
+            of_others, went = self.site.delete(one for _, one in names.of_others) if is_due else (Edited([]), [])
             shown, come = self.site.restore(names.shown)
-            if messages := hidden.messages + shown.messages:
-                author = self._client.author.name
-                self._keep(messages, hidings=[Copy(author, one.site, one.seq) for one in messages])
+            if messages := hidden.messages + of_others.messages + shown.messages:
+                self._keep(messages, hidings=[Copy(author.name, one.site, one.seq) for one in messages],
+                           says=lambda last: said(self._form, author, of_others.messages, names.of_others, last))
         except BaseException as why:
             self.site.go_back(before)
             if not isinstance(why, Unkept):
@@ -627,7 +632,12 @@ class Session:
             self._later(why)
             return []
         self._fronts = fronts
-        return gone + come if isinstance(gone, list) and isinstance(come, list) else self.site.text()
+        if is_due or not names.of_others:
+            self._hides_others = None
+        elif self._hides_others is None:
+            self._hides_others = time.monotonic() + seconds_for_others()
+        told = [one for part in (gone, went, come) if isinstance(part, list) for one in part]
+        return told if all(isinstance(part, list) for part in (gone, went, come)) else self.site.text()
 
     def _begin_anew(self, messages: Messages) -> None:
         """Has the site be another one, under the number of now, with these messages."""

@@ -261,6 +261,36 @@ class Damaged(Copied):
         self.assert_shown("one behind two within", first, carla, second)
 
 
+    def beside_its_copy(self) -> None:
+        """Has the log have the original beside its copy, which nobody who is on has made."""
+        self.alone().session.close()
+        with mock.patch("share.losses.OTHERS_SECONDS", 1_000):
+            first = self.anna.open()
+            wait_for(lambda: are_alike([first]) and words(first.text) == ["behind", "behind", "one", "two"], "both to be shown")
+            first.session.close()
+
+    def test_who_made_a_copy_is_gone(self) -> None:
+        self.beside_its_copy()
+        shutil.rmtree(self.berta.data)
+        notes = [self.opened(self.person(name), link=self.anna.link()) for name in ("carla", "dora")]
+        self.assert_shown("one behind two", *notes)
+        # However many have hidden it, it is shown again where what it stands for goes.
+        self.claim(self.anna, self.entry_of(self.anna).site)
+        self.assert_shown("behind", *notes)
+        self.assert_shown("one behind two", *notes, self.opened(self.anna))
+
+    def test_who_made_a_copy_comes_back(self) -> None:
+        self.beside_its_copy()
+        carla = self.person("carla")
+        third = carla.open(link=self.anna.link())
+        self.assert_shown("one behind two", third)
+        third.session.close()
+        shutil.rmtree(carla.data)
+        self.claim(self.anna, self.entry_of(self.anna).site)
+        # Who made it shows it again, whoever has hidden it.
+        self.assert_shown("behind", self.opened(self.berta), self.opened(self.person("late"), link=self.anna.link()))
+
+
 class Renewed(Copied):
     """A note that was renewed has the numbers of the one before, whose keys are with who renewed it."""
 
