@@ -6,7 +6,7 @@ counts, else of those copies that count the one of the least site and seq. Who m
 is said to be one of what that stood for, too.
 """
 import math
-from collections.abc import Callable, Iterator, Mapping, Sequence
+from collections.abc import Callable, Container, Iterator, Mapping, Sequence
 from typing import NamedTuple
 
 from share.disk import Client
@@ -192,9 +192,9 @@ def in_stretches(pairs: Sequence[tuple[int, int]]) -> list[Stretch]:
 
 
 def said(form: Form, keys: Mapping[Who, Client], rows: Rows, new: Entry,
-         pairs: Mapping[bytes, Sequence[tuple[int, int]]]) -> list[Entry]:
+         pairs: Mapping[bytes, Sequence[tuple[int, int]]], withdrawn: Container[bytes] = ()) -> list[Entry]:
     """The entries that say which messages, of those up to a new entry, stand for those of old entries: pairs of seqs, by the
-    old entries' hashes."""
+    old entries' hashes. Nobody else may have what was withdrawn, so that what is before it is spoken of apart."""
     left, found = set(pairs), list[Entry]()
     for of in sorted(pairs, key=lambda of: rows[of].entry.last, reverse=True):
         if of not in left:
@@ -203,7 +203,7 @@ def said(form: Form, keys: Mapping[Who, Client], rows: Rows, new: Entry,
         client = last.site, last.author
         least = min(rows[one].entry.first for one in left if (rows[one].entry.site, rows[one].entry.author) == client)
         chained: list[tuple[int, int]] = []
-        while of in rows and rows[of].entry.first >= least:
+        while of in rows and rows[of].entry.first >= least and (of in withdrawn) == (last.hash in withdrawn):
             chained += pairs[of] if of in left else ()
             left.discard(of)
             of = rows[of].entry.before

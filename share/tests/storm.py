@@ -268,7 +268,8 @@ class File:
     def flush(self) -> None:
         """Has it be gone."""
         for path in self._folder.iterdir() if self._folder.is_dir() else ():
-            path.unlink()
+            # Who had it open may have removed what is beside it.
+            path.unlink(missing_ok=True)
 
     def copy_to(self, folder: pathlib.Path) -> None:
         """Copies it."""

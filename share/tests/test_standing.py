@@ -3,10 +3,10 @@ import itertools
 import random
 import unittest
 
-from share.disk import Row
+from share.disk import Client, Row
 from share.entry import Author, Copied, Copy, Entry, Plain
 from share.message import Message
-from share.standing import Standing, in_stretches
+from share.standing import Standing, in_stretches, said
 from share.tests.naive import inserting
 
 FORM = Plain(bytes(16))
@@ -84,6 +84,22 @@ class Sets(unittest.TestCase):
         standing, self.counts = Standing(), {(3, 1): made.hash}
         standing.add(Row(0, by_other, True), self.rows)
         self.assertFalse(standing.is_stood_for(self.old, 2, self.entry_of, self.rows))
+
+    def test_what_was_withdrawn_is_spoken_of_apart(self) -> None:
+        withdrawn = FORM.entry(self.old, [typed(50, 3, b"c")], OLD, length=2)
+        author = Author(bytes(16), b"")
+        new = FORM.entry(FORM.claim(60, author), [typed(60, 1, b"b"), typed(60, 2, b"c")], author)
+        here = self.rows | {withdrawn.hash: Row(0, withdrawn, True)}
+        pairs = {self.old.hash: [(2, 1)], withdrawn.hash: [(3, 2)]}
+        words = said(FORM, {(50, OLD.name): Client(50, OLD)}, here, new, pairs, {withdrawn.hash})
+        self.counts = {(60, 1): new.hash, (60, 2): new.hash}
+        # Another disk never gets what was withdrawn.
+        for rows in here, self.rows:
+            standing, rows = Standing(), rows | {new.hash: Row(0, new, True)}
+            for word in words:
+                standing.add(Row(0, word, True), rows)
+            self.assertTrue(standing.is_stood_for(self.old, 2, self.entry_of, rows))
+        self.assertEqual(len(words), 2)
 
     def test_stretches(self) -> None:
         pairs = [(1, 5), (2, 6), (2, 7), (3, 8), (4, 0), (5, 0), (6, 9)]
