@@ -60,11 +60,13 @@ class Recovered:
                 self.hidings.add(Copy(copied.by, copied.by_site, copied.stretches[0][1]))
 
     def fronts(self, counts_up_to: Callable[[bytes, int], int]) -> list[int]:
-        """What is to be looked at again where it changes: how far those count that were typed again here, and all that was
-        said of them."""
-        return [number for whose in sorted(self._own | {whose for whose, _, _ in self._others}) for number in (
+        """What is to be looked at again where it changes: how far those count that were typed again, and all that was said of
+        them."""
+        own = [number for whose in sorted(self._own) for number in (
             counts_up_to(whose[1], whose[0]), len(self._said[whose]),
             *(min(counts_up_to(one.by.author, one.by.site), one.by.seq + one.size - 1) for one in self._said[whose]))]
+        return own + [min(counts_up_to(author, site), seq) for (of_site, of_author), of_seq, copy in self._others
+                      for author, site, seq in ((of_author, of_site, of_seq), copy)]
 
     def made_here(self, judge: Judge) -> Iterator[tuple[Copy, bool]]:
         """What was typed again here and counts, and whether each message of it is to be hidden."""

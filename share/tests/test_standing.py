@@ -85,6 +85,15 @@ class Sets(unittest.TestCase):
         standing.add(Row(0, by_other, True), self.rows)
         self.assertFalse(standing.is_stood_for(self.old, 2, self.entry_of, self.rows))
 
+    def test_of_what_others_say_so_much_is_looked_at(self) -> None:
+        standing, found = Standing(most=50), [self.copied(site, False, self.old) for site in range(100, 200)]
+        self.counts = {(site, 1): made.hash for site, (_, made) in enumerate(found, 100)}
+        for row, _ in found:
+            standing.add(row._replace(made=True), self.rows)
+        looked_at = [*standing.made_by_all(self.entry_of, lambda *_: 1)]
+        self.assertEqual([is_hidden for _, is_hidden in looked_at], [False] + [True] * (len(looked_at) - 1))
+        self.assertTrue(20 < len(looked_at) <= 50, len(looked_at))
+
     def test_what_was_withdrawn_is_spoken_of_apart(self) -> None:
         withdrawn = FORM.entry(self.old, [typed(50, 3, b"c")], OLD, length=2)
         author = Author(bytes(16), b"")

@@ -1,6 +1,7 @@
 """People with real engines type at one note, over a server and over a log in a file, while at random engines, programs and
-servers are killed and stopped, disks fill, clocks go wrong, files are damaged, folders and servers are copied and put back:
-each word that some disk has stands once, at everybody.
+servers are killed and stopped, disks fill, clocks go wrong, files are damaged, folders and servers are copied, put back and
+exchanged: each word that some disk has stands once, at everybody; what was left out for good is told, and recover --lost brings
+it back.
 
     SHARE_STORM=200 SHARE_SEED=7 share/tests/run test_storm
     SHARE_STORM=50 SHARE_KINDS=kill,backup,snapshot share/tests/run test_storm
@@ -19,7 +20,7 @@ from share.tests.support import Case
 ROUNDS = int(os.environ.get("SHARE_STORM", "0"))
 SEED = int(os.environ.get("SHARE_SEED", "1"))
 KEEP = os.environ.get("SHARE_KEEP")
-KINDS = ["kill", "stop", "stop_program", "stop_log", "kill_log", "lose_log", "dump", "backup", "twin", "snapshot", "rejoin",
+KINDS = ["kill", "stop", "stop_program", "stop_log", "kill_log", "lose_log", "dump", "exchange", "backup", "twin", "snapshot", "rejoin",
          "damage", "fill", "clock"]
 # What people of a note go through together before another note is begun, and how much they try in a round.
 ROUNDS_OF_A_NOTE, STEPS = (5, 60) if ROUNDS else (1, 30)
