@@ -37,7 +37,8 @@ def wanted(holdings: Holdings) -> Wanted:
             if names := inserted(judge.message(copy.site, copy.seq)):
                 of_others.append((copy, names)) if is_hidden else hidden_here.append(names)
     own = [message for copy in holdings.hidings if (message := _made_here(holdings, copy))]
-    hidings = own + [judge.message(one.site, one.seq) for one in recovered.hidings if judge.message_counts(*one)]
+    said_so = (judge.message(one.site, one.seq) for one in recovered.hidings if judge.message_counts(*one))
+    hidings = own + [message for message in said_so if message.kind == DELETE]
     shown = _hidden_by(hidings, united(shown)) + _hidden_by(own, united(hidden_here))
     return Wanted(united(hidden), _hidden_for_that_alone(holdings, hidings, united(shown)), of_others)
 
