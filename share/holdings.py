@@ -282,7 +282,7 @@ class Holdings:
         self.judge.add(row.entry, row.place, row.made)
         if who(row.entry) in self.clients:
             self.standing.add(row, self.rows)
-        self.standing_for_all.add(row._replace(made=True), self.rows)
+        self.standing_for_all.add(row._replace(made=True) if row.entry.kind is Kind.COPIES else row, self.rows)
         self.recovered.add(row.entry, row.made)
         if row.made and row.entry.kind is Kind.NEWER:
             self.newer.add(who(row.entry))

@@ -62,9 +62,9 @@ class Recovered:
     def fronts(self, counts_up_to: Callable[[bytes, int], int]) -> list[int]:
         """What is to be looked at again where it changes: how far those count that were typed again, and all that was said of
         them."""
-        own = [number for whose in sorted(self._own) for number in (
-            counts_up_to(whose[1], whose[0]), len(self._said[whose]),
-            *(min(counts_up_to(one.by.author, one.by.site), one.by.seq + one.size - 1) for one in self._said[whose]))]
+        own = [number for whose in sorted(self._own) for one in self._said[whose] for number in (
+            min(counts_up_to(whose[1], whose[0]), one.seq + one.size - 1),
+            min(counts_up_to(one.by.author, one.by.site), one.by.seq + one.size - 1))]
         return own + [min(counts_up_to(author, site), seq) for (of_site, of_author), of_seq, copy in self._others
                       for author, site, seq in ((of_author, of_site, of_seq), copy)]
 

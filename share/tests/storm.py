@@ -300,6 +300,8 @@ class Storm:
         self.told: list[str] = []
         self.due: list[tuple[int, object]] = []
         self.step, self.text, self._began = 0, "", time.monotonic()
+        # How often something that was left out was typed again.
+        self.recovered = 0
         self.backups: list[tuple[Writer, pathlib.Path, Words]] = []
         self.dumps: list[pathlib.Path] = []
         self.other: pathlib.Path | None = None
@@ -582,6 +584,7 @@ class Storm:
         if done.returncode or {*lacks} - {*done.stdout.split()}:
             self.fault(f"lacks: {lacks}; recover --lost ended with {done.returncode}: {done.stdout}{done.stderr}")
         self.say(f"it was {done.stdout.split()}")
+        self.recovered += 1
 
     def fault(self, words: str) -> None:
         """Says what is wrong, and what happened before it."""

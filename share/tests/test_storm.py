@@ -56,7 +56,8 @@ class Storms(Case):
             if KEEP:
                 storm.keep(pathlib.Path(KEEP, f"seed-{seed}"), str(why))
             raise
-        print(f"seed {seed}: {rounds} rounds, {len(storm.told)} mishaps, {words} words", flush=True)
+        print(f"seed {seed}: {rounds} rounds, {len(storm.told)} mishaps, {words} words, "
+              f"{storm.recovered} times typed again", flush=True)
 
     def test_rounds(self) -> None:
         faults = []
