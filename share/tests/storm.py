@@ -454,10 +454,15 @@ class Storm:
             return
         if self.both and self.chance.random() < 0.5:
             one, folder, has, dump = self.chance.choice(self.both)
-            self.say(f"put back the log and {one.name}")
-            one.kill()
+            is_alone = self.chance.random() < 0.5
+            self.say(f"put back the log and {one.name}" + (", who types alone" if is_alone else ""))
+            for each in self.people if is_alone else [one]:
+                each.kill()
             self.log.put_back(dump)
             one.put_back(folder, has)
+            if is_alone:
+                # Nobody else brings what was written under the number since.
+                self.types_alone(one)
         else:
             one = self.someone()
             self.say(f"copy the log and {one.name}")
@@ -465,6 +470,13 @@ class Storm:
             has = one.copy_to(folder)
             self.log.copy_to(dump)
             self.both.append((one, folder, has, dump))
+
+    def types_alone(self, one: Writer) -> None:
+        """Somebody opens the note while nobody else has it open, and types."""
+        one.open()
+        before = len(one.has)
+        with contextlib.suppress(AssertionError):
+            wait_for(lambda: (one.type(), one.look(), not one.editor or len(one.has) > before + 2)[2], "some words", 10)
 
     def rejoin(self) -> None:
         """Somebody loses all files, and joins again by the link."""
