@@ -43,7 +43,7 @@ from share.copies import Copies
 from share.entry import NO_HASH, Copy, Entry, Form, Kind, digest
 from share.leftout import LeftOut, joined, not_copied
 from share.ledger import Ledger, Row
-from share.message import Message, Names
+from share.message import Message, Names, typed
 from share.messages import Messages, Part
 from share.outside import Outside, weight
 
@@ -309,9 +309,22 @@ class Judge:
         """The same, without those that lack one before them."""
         return (row.entry for row in self.not_through(site, author) if not self.is_loose(row.entry.hash))
 
-    def copies_of(self, author: bytes, site: int, seq: int) -> list[Copy]:
-        """The messages that stand for one, as its author says, whether they count or not; that of the least number first."""
-        return self._copies.of(author, site, seq)
+    def copies_of(self, author: bytes, site: int, seq: int, data: bytes) -> list[Copy]:
+        """The messages that stand for one that inserts this, as its author says, whether they count or not; that of the least
+        number first. Another history of the number has another message of this seq."""
+        return self._copies.of(author, site, seq, lambda last: self._typed_in(last, seq) == data)
+
+    def _typed_in(self, last: bytes, seq: int) -> bytes | None:
+        """What the message of a seq inserts, of those of an entry or of those to which it is chained; None where it isn't here."""
+        while last in self._outside:
+            entry = self._outside.row(last).entry
+            if entry.first <= seq:
+                return typed(entry.messages[seq - entry.first]) if seq <= entry.last else None
+            last = entry.before
+        number = self._ledger.number(last)
+        line = self._chains[self._ledger.client(number)[0]].line if number is not None else None
+        at = line.at(number) if line and number is not None else None
+        return typed(line.message(seq)) if line and at is not None and 0 < seq <= line.lasts[at] else None
 
     def is_copied(self, entry: Entry, seq: int) -> bool:
         """Whether something stands for a message of an entry that counts."""

@@ -87,7 +87,7 @@ class Recovered:
         """Whether something else stays that stands for a message."""
         site, author = whose
         data = typed(judge.message(copy.site, copy.seq))
-        if any(judge.message_counts(*one) for one in judge.copies_of(author, site, seq)):
+        if any(judge.message_counts(*one) for one in judge.copies_of(author, site, seq, data)):
             return True
         others = [Copy(author, site, seq)]
         others += [other for one in self._said[whose] if (other := one.copy(seq)) and (other.site, other.seq) < (copy.site, copy.seq)]

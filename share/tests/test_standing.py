@@ -5,7 +5,9 @@ import unittest
 
 from share.disk import Client, Row
 from share.entry import Author, Copied, Copy, Entry, Plain
+from share.judging import Judge
 from share.message import Message
+from share.recovered import Recovered
 from share.standing import Standing, in_stretches, said
 from share.tests.naive import inserting
 
@@ -109,6 +111,24 @@ class Sets(unittest.TestCase):
                 standing.add(Row(0, word, True), rows)
             self.assertTrue(standing.is_stood_for(self.old, 2, self.entry_of, rows))
         self.assertEqual(len(words), 2)
+
+    def test_what_was_typed_again_gives_way_to_a_copy_of_its_own_history(self) -> None:
+        # Of three messages of one place one holds, another was typed again, and the third made anew.
+        entries = sorted((FORM.entry(self.first, [typed(50, 2, data)], OLD, length=1) for data in (b"b", b"c", b"d")),
+                         key=lambda entry: entry.hash)
+        for other, gives_way in (entries[1], True), (entries[2], False):
+            judge, recovered, again = Judge([*(row.entry for row in self.rows.values()), *entries]), Recovered(), entries[1]
+            for site, old in (60, again), (70, other):
+                author = Author(site.to_bytes(16, "big"), b"")
+                claim, (message,) = FORM.claim(site, author), old.messages
+                made = FORM.entry(claim, [typed(site, 1, message.data[-1:])], author)
+                said = Copied(OLD.name, 50, author.name, site, ((2, 1, 1),), made.hash)
+                word = FORM.copies(said, author, site) if site == 60 else FORM.copies(said, OLD, 50, old.hash)
+                for entry in claim, made, word:
+                    judge.add(entry)
+                recovered.add(word, site == 60)
+            judge.count()
+            self.assertEqual([is_hidden for _, is_hidden in recovered.made_here(judge)], [gives_way])
 
     def test_stretches(self) -> None:
         pairs = [(1, 5), (2, 6), (2, 7), (3, 8), (4, 0), (5, 0), (6, 9)]
