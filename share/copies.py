@@ -65,6 +65,10 @@ class Copies:
         """Whether copies of an author's messages are spoken of."""
         return (site, author) in self._by_authors or (site, author) in self._by_others
 
+    def are_told_by(self, site: int, author: bytes) -> bool:
+        """Whether an author says of own messages what stands for them."""
+        return (site, author) in self._by_authors
+
     def of(self, author: bytes, site: int, seq: int, suits: Callable[[bytes], bool]) -> list[Copy]:
         """The messages that stand for one, as its author says, where it is the one of a history that suits, of which the hash of the
         last entry is known; that of the least number and seq first."""
