@@ -189,6 +189,7 @@ class Session:
     def recover(self) -> list[Lost]:
         """Types again what was left out, and says so of it; what that was."""
         found, holdings, copies = self.lost(), self._holdings, list[tuple[Copy, Message]]()
+        self._was = shown_by(self.site)
 
         def work() -> Edited:
             gone = holdings.withdrawn()
