@@ -261,15 +261,18 @@ class Server:
         return not self._editors
 
     def _listen(self) -> None:
+        """Listens under another name first: whoever finds the socket can connect."""
         with _socket_path(self._name) as path:
+            new = f"{os.path.dirname(path)}/.{os.getpid()}"
             with contextlib.suppress(FileNotFoundError):
-                os.unlink(path)
+                os.unlink(new)
             before = os.umask(0o177)
             try:
-                self._listener.bind(path)
+                self._listener.bind(new)
             finally:
                 os.umask(before)
-        self._listener.listen()
+            self._listener.listen()
+            os.rename(new, path)
         self._listener.setblocking(False)
         self._selector.register(self._listener, selectors.EVENT_READ)
 
