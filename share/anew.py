@@ -73,7 +73,7 @@ class Remade:
             for of, old in holdings.standing.originals(entry, message.seq):
                 if seqs or holdings.judge.entry_of(holdings.rows[of].entry.site, old) != of:
                     pairs.setdefault(of, []).extend((old, seq) for seq in seqs or [0])
-        return said(form, holdings.clients, holdings.rows, last, pairs)
+        return said(form, holdings.clients, holdings.rows, last, pairs, holdings.withdrawn())
 
 
 def at_once(lost: Sequence[Lost]) -> tuple[Sequence[Lost], bool]:

@@ -1,5 +1,5 @@
 """Which messages stand for which, as entries say it."""
-from collections.abc import Iterator
+from collections.abc import Callable, Iterator
 from typing import NamedTuple, Protocol
 
 from share.entry import NO_HASH, Copy, Entry
@@ -65,10 +65,15 @@ class Copies:
         """Whether copies of an author's messages are spoken of."""
         return (site, author) in self._by_authors or (site, author) in self._by_others
 
-    def of(self, author: bytes, site: int, seq: int) -> list[Copy]:
-        """The messages that stand for one, as its author says; that of the least number and seq first."""
+    def are_told_by(self, site: int, author: bytes) -> bool:
+        """Whether an author says of own messages what stands for them."""
+        return (site, author) in self._by_authors
+
+    def of(self, author: bytes, site: int, seq: int, suits: Callable[[bytes], bool]) -> list[Copy]:
+        """The messages that stand for one, as its author says, where it is the one of a history that suits, of which the hash of the
+        last entry is known; that of the least number and seq first."""
         found = {one.by._replace(seq=one.by.seq + seq - one.seq) for one in self._by_authors.get((site, author), ())
-                 if one.by.seq and one.seq <= seq < one.seq + one.size}
+                 if one.by.seq and one.seq <= seq < one.seq + one.size and suits(one.last)}
         return sorted(found, key=lambda copy: (copy.site, copy.seq, copy.author))
 
     def stretches(self, entry: Entry, counting: Counting) -> Iterator[tuple[int, int]]:

@@ -442,12 +442,11 @@ class Engine:
     def _take_out(self, peer: Peer, own: Op, now: bytes) -> None:
         """Has all show a text where something else came of an edit than its editor shows."""
         units = peer.carry.units
-        data = bytearray(units.encode(self._text.text()))
-        for begin, end, new in reversed(in_text(own, units)):
-            data[units.size * begin:units.size * end] = new
-        self._became(now, but=peer)
-        if op := _difference(units.decode(bytes(data)), self._text.text(), units):
-            peer.carry.changed(op)
+        data, size = units.encode(self._text.text()), units.size
+        # Two texts alone don't tell where between equal characters it was that something stood.
+        undone = [(begin, begin + units.count(new), data[size * begin:size * end]) for begin, end, new in in_text(own, units)]
+        peer.carry.changed(of_changes(undone, units))
+        self._became(now)
 
     def _undo(self, peer: Peer, redo: bool) -> Line:
         session = self._open_session()
@@ -544,11 +543,12 @@ class Engine:
         named = [(one, [] if not one.new else [one.names] if one.names else None) for one in told]
         self._changed(named, undoes=undoes)
 
-    def _became(self, now: bytes, but: Peer | None = None) -> None:
-        """Has all but one show a text, where it isn't known what has changed."""
+    def _became(self, now: bytes) -> None:
+        """Has all show a text, where it isn't known what has changed."""
         before = self._text.as_note()
         if now != before:
-            self._changed([(change(before, now), None)], but)
+            changes = self.session.differing(before, now) if self.session else [change(before, now)]
+            self._changed((one, None) for one in changes)
 
     def _changed(self, changes: Iterable[tuple[Change, list[Names] | None]], but: Peer | None = None,
                  undoes: Peer | None = None) -> None:
@@ -767,18 +767,3 @@ def _edits(site: Site, changes: list[Change]) -> Iterator[Edited]:
 def _inserted(messages: list[Message]) -> list[Names]:
     """The names that messages of an edit inserted, in their order."""
     return [names for message in messages if (names := inserted(message))]
-
-
-def _op(begin: int, end: int, data: bytes) -> Op:
-    """The op of one replacement."""
-    parts: list[int | bytes] = [begin, data, begin - end]
-    return [part for part in parts if part]
-
-
-def _difference(before: str, now: str, units: Units) -> Op:
-    """The op of one replacement that makes the one text of the other."""
-    if before == now:
-        return []
-    one = change(before.encode(), now.encode())
-    begin, end = (units.count(units.encode(before.encode()[:place].decode())) for place in (one.begin, one.end))
-    return _op(begin, end, units.encode(one.new.decode()))

@@ -24,7 +24,8 @@ wrote the messages and their site (2 bytes), who wrote the copies and their site
 copies (zeros where that isn't said), and then numbers (as in chunks) three by three: the seq of the first message of a
 stretch, that of its copy, and how many they are. What was typed in one go may have come apart and have several copies; 0 in
 place of the copy's seq says that nothing remained of them that had to be made anew. It names the last entry that has such
-messages as the one before it: two histories of one number have the same seqs. With zeros there it speaks of each.
+messages as the one before it: two histories of one number have the same seqs. With zeros there it speaks of each. Where what
+stands for a message is a deletion it was made to hide that, which is a copy itself.
 Renewed (kind 8) says that the note goes on under a new key, in no chain, too: its body is what its author is called, in 200
 bytes at most.
 An entry of another kind is a newer version's: it is kept and carried as it is, and says nothing here.

@@ -14,7 +14,7 @@ from share.leftout import LeftOut
 from share.ledger import Row
 from share.message import Message
 from share.recovered import Recovered
-from share.standing import Standing, Who
+from share.standing import MOST_OF_OTHERS, Standing, Who
 
 # What doesn't count has this many bytes in memory; what is too much is in the file alone until there is room.
 ROOM = 2**27
@@ -76,6 +76,8 @@ class Holdings:
         # The author, site and seq of each message made here that another one stands for, and what stands for which.
         self.anew: set[tuple[bytes, int, int]] = set()
         self.standing = Standing()
+        # What stands for which by the word of all.
+        self.standing_for_all = Standing(MOST_OF_OTHERS)
         # What was typed again of others' text that was left out.
         self.recovered = Recovered()
         # The author, site and seq of each message that hides copies here, or shows them again.
@@ -268,6 +270,11 @@ class Holdings:
         """How many messages of an author under a number count."""
         return self.judge.front(site) if self.judge.holder(site) == author else 0
 
+    def fronts_of_copies(self) -> list[int]:
+        """What is to be looked at again where it changes: how far those count of which there are copies, and these."""
+        return [*self.standing.fronts(self.counts_up_to), *self.standing_for_all.fronts(self.counts_up_to),
+                *self.recovered.fronts(self.counts_up_to)]
+
     def _add(self, row: Row) -> None:
         entry, of = row.entry, who(row.entry)
         is_own = of in self.clients
@@ -277,6 +284,7 @@ class Holdings:
         self.judge.add_new(row)
         if is_own:
             self.standing.add(row, self.rows)
+        self.standing_for_all.add(row._replace(made=True) if entry.kind is Kind.COPIES else row, self.rows)
         self.recovered.add(entry, row.made)
         if row.made and entry.kind is Kind.NEWER:
             self.newer.add(of)

@@ -22,7 +22,8 @@ messages through, in an order in which each is after its causes:
   waited for then. It is nothing but a word: where they do count they go on counting.
 - **Copies.** An entry says which messages stand for which, so that nobody makes them anew twice, and what stands for
   something that was left out isn't missed. It takes no text away, and gives none.
-- **Left out.** What a smaller hash keeps from counting, and what builds on that, is told, unless a copy of it counts.
+- **Left out.** What a smaller hash keeps from counting, and what builds on that, is told, unless a copy of it counts, or its
+  author, who says of nothing what stands for it, says that it was made anew.
 
 More entries can end the count of a message only where a smaller hash came: of a claim, or of two entries of one
 place. Then all is let through anew. What was left out for a smaller hash stays so.
@@ -35,7 +36,7 @@ import hashlib
 import heapq
 import math
 from bisect import bisect_left, bisect_right
-from collections.abc import Callable, Iterable, Iterator, Sequence
+from collections.abc import Callable, Collection, Iterable, Iterator, Sequence
 from enum import Enum
 from typing import NamedTuple
 
@@ -45,7 +46,7 @@ from share.copies import Copies
 from share.entry import CHUNKS, NO_HASH, ONE_BY_ONE, Copy, Entry, Form, Kind, digest
 from share.leftout import LeftOut, joined, not_copied
 from share.ledger import Ledger, Row
-from share.message import Message, Names
+from share.message import Message, Names, typed
 from share.messages import Messages, Part
 from share.outside import Outside, weight
 
@@ -324,9 +325,22 @@ class Judge:
         """The same, without those that lack one before them."""
         return (row.entry for row in self.not_through(site, author) if not self.is_loose(row.entry.hash))
 
-    def copies_of(self, author: bytes, site: int, seq: int) -> list[Copy]:
-        """The messages that stand for one, as its author says, whether they count or not; that of the least number first."""
-        return self._copies.of(author, site, seq)
+    def copies_of(self, author: bytes, site: int, seq: int, data: bytes) -> list[Copy]:
+        """The messages that stand for one that inserts this, as its author says, whether they count or not; that of the least
+        number first. Another history of the number has another message of this seq."""
+        return self._copies.of(author, site, seq, lambda last: self._typed_in(last, seq) == data)
+
+    def _typed_in(self, last: bytes, seq: int) -> bytes | None:
+        """What the message of a seq inserts, of those of an entry or of those to which it is chained; None where it isn't here."""
+        while last in self._outside:
+            entry = self._outside.row(last).entry
+            if entry.first <= seq:
+                return typed(entry.messages[seq - entry.first]) if seq <= entry.last else None
+            last = entry.before
+        number = self._ledger.number(last)
+        line = self._chains[self._ledger.client(number)[0]].line if number is not None else None
+        at = line.at(number) if line and number is not None else None
+        return typed(line.message(seq)) if line and at is not None and 0 < seq <= line.lasts[at] else None
 
     def is_copied(self, entry: Entry, seq: int) -> bool:
         """Whether something stands for a message of an entry that counts."""
@@ -645,11 +659,13 @@ class Judge:
 
     # What doesn't count.
 
-    def _held_up(self, site: int) -> tuple[int, int]:
+    def _held_up(self, site: int, is_told: bool = False) -> tuple[int, int]:
         """The messages of a site that aren't let through, but those of which it is said that they were made anew: after
-        which seq they begin, and which the last one is."""
+        which seq they begin, and which the last one is. Where it is told what was left out it is looked at which messages
+        stand for which, if that is said."""
         chain = self._chains[site]
-        said = self._made_anew.get(self._ledger.client(chain.line.numbers[0]), ())
+        who = self._ledger.client(chain.line.numbers[0])
+        said = self._said_without_copies(who) if is_told else self._made_anew.get(who, ())
         found = [chain.line.at(number) for of in said if (number := self._ledger.number(of)) is not None]
         up_to = max([chain.line.lasts[at] for at in found if at is not None], default=0)
         last = chain.line.lasts[-1]
@@ -718,7 +734,12 @@ class Judge:
 
     def _was_made_anew(self, entry: Entry) -> bool:
         """Whether the author of an entry says that it was made anew, by the word of versions that don't know copies."""
-        return any(self.is_chained(entry.hash, last) for last in self._made_anew.get((entry.site, entry.author), ()))
+        return any(self.is_chained(entry.hash, last) for last in self._said_without_copies((entry.site, entry.author)))
+
+    def _said_without_copies(self, who: Who) -> Collection[bytes]:
+        """Up to which entries an author says that what doesn't count was made anew, where he doesn't say which messages stand for
+        which. What counted as he said so was not made anew, and may count no more."""
+        return () if self._copies.are_told_by(*who) else self._made_anew.get(who, ())
 
     def _stands_elsewhere(self, entry: Entry) -> bool:
         """Whether another entry that counts has the same messages; looked at again once that may be so."""
@@ -738,7 +759,7 @@ class Judge:
     def _behind_what_was_lost(self) -> Iterator[LeftOut]:
         """What isn't let through since it builds on what was left out."""
         for site in sorted(self._built_on_what_was_left_out()):
-            (begin, end), line = self._held_up(site), self._chains[site].line
+            (begin, end), line = self._held_up(site, is_told=True), self._chains[site].line
             for number in line.numbers[line.at_seq(begin + 1):] if begin < end else ():
                 yield from not_copied(self._ledger.entry(number), begin + 1, self._typed(number), self._copies, self)
 

@@ -7,7 +7,8 @@ from collections.abc import Sequence
 from share.disk import Client
 from share.words import counted
 
-# Who wrote under a key that is here, too, has so many seconds to make anew what was lost, and up to twice as many.
+# Who wrote under a key that is here, too, has so many seconds to make anew what was lost, and up to twice as many; so has who made
+# a copy to hide it.
 OTHERS_SECONDS = 3.0
 # After edits were made anew the next ones wait for so many seconds, which double up to a most; from the front again after
 # so many in which nothing was lost.
@@ -27,7 +28,7 @@ class Turns:
         """Says what was lost. What waits already has its turn."""
         now = time.monotonic()
         self._own = None if not own else self._own or max(now, self._free)
-        self._others = None if not others else self._others or max(now + OTHERS_SECONDS * (1 + random.random()), self._free)
+        self._others = None if not others else self._others or max(now + seconds_for_others(), self._free)
 
     def is_due(self) -> bool:
         """Whether something has its turn now."""
@@ -51,6 +52,11 @@ class Turns:
             self._own = None
         else:
             self._others = None
+
+
+def seconds_for_others() -> float:
+    """How many seconds others have to do something themselves."""
+    return OTHERS_SECONDS * (1 + random.random())
 
 
 def told_of_numbers(site: int, broken: Sequence[Client], shared: Sequence[Client]) -> str:

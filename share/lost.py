@@ -180,16 +180,42 @@ class Typed(NamedTuple):
 def type_again(found: Iterable[Lost], entries: Sequence[Entry], judge: Judge, site: Site) -> Typed:
     """Types at a site, which has all that counts of these entries, what was left out."""
     left = {message: one.author for one in found for message in one.messages if inserted(message)}
-    made, edits, authors = dict[Message, Message](), list[Edited](), dict(left)
+    made, edits, authors, parts = dict[Message, Message](), list[Edited](), dict(left), _parts(left, judge)
     for _ in range(MOST_VIEWS):
         view = _View(entries, judge, left)
         # Others may have the same names in each view.
-        edits += _typed_as_seen(view, _Typist(site, made))
+        edits += _typed_as_seen(view, _Typist(site, made, parts))
         left = {message: author for message, author in left.items() if message not in view.lost}
         if not (view.lost and left):
             break
-    edits.append(_Typist(site, made).type_in_a_row(left, len(site.text()) if left else 0))
-    return Typed(one_by_one(edits), [(Copy(authors[old], old.site, old.seq), new) for old, new in made.items()])
+    edits.append(_Typist(site, made, parts).type_in_a_row(left, len(site.text()) if left else 0))
+    return Typed(one_by_one(edits), [(Copy(author, old.site, old.seq), made[part]) for old, author in authors.items()
+                                     for part in parts.get(old, [old]) if part in made])
+
+
+def _parts(left: Mapping[Message, bytes], judge: Judge) -> dict[Message, list[Message]]:
+    """Of messages that were left out those for which others of them stand, as their authors say, and these, in their order: what was
+    made anew was left out in its turn, and is typed once."""
+    known = {Copy(author, message.site, message.seq): message for message, author in left.items()}
+    found: dict[Message, list[Message]] = {}
+    for message, author in left.items():
+        groups: dict[Who, list[Message]] = {}
+        for copy in judge.copies_of(author, message.site, message.seq, typed(message)):
+            if copy in known and known[copy] != message:
+                groups.setdefault((copy.site, copy.author), []).append(known[copy])
+        for parts in groups.values():
+            if b"".join(map(typed, parts)) == typed(message):
+                found[message] = parts
+    # A copy may have copies, too, and those that say so may be anybody.
+    return {message: last for message in found if (last := _last_of(message, found, MOST_VIEWS))}
+
+
+def _last_of(message: Message, found: Mapping[Message, list[Message]], most: int) -> list[Message]:
+    """The messages that stand for one and for which no others do; nothing where they are too many times copied."""
+    if message not in found:
+        return [message]
+    parts = [_last_of(part, found, most - 1) for part in found[message]] if most else []
+    return [one for part in parts for one in part] if parts and all(parts) else []
 
 
 def words_of(copies: Iterable[tuple[Copy, Message]], form: Form, author: Author, last: Entry) -> list[Entry]:
@@ -284,17 +310,18 @@ class _Insertions:
 class _Typist:
     """Types messages again at a site, and knows which characters stand for which."""
 
-    def __init__(self, site: Site, made: dict[Message, Message]):
-        self.site, self._made = site, made
+    def __init__(self, site: Site, made: dict[Message, Message], parts: Mapping[Message, Sequence[Message]]):
+        self.site, self._made, self._parts = site, made, parts
         self._done = _Insertions()
         self._waiting: list[tuple[int, Message]] = []
 
     def type_in_a_row(self, messages: Iterable[Message], place: int) -> Edited:
         """Types messages one after the other from a place on."""
-        edits = []
+        edits = list[Edited]()
         for message in messages:
-            edits.append(self._put(place, message))
-            place += _new(message).length
+            for part in self._lacking(message, edits):
+                edits.append(self._put(place, part))
+                place += _new(part).length
         return one_by_one([*edits, self._type()])
 
     def type_below(self, root: _Root) -> Edited:
@@ -307,19 +334,31 @@ class _Typist:
                 edits.append(self._type())
                 copy = self.copies([Names(*cause, 1)]) if cause else []
                 place = self.site.where(copy)[0][0].position + 1 if copy else root.place
-            edits.append(self._put(place, message))
-            after, place = (new.site, new.at + new.length - 1), place + new.length
+            for part in self._lacking(message, edits):
+                edits.append(self._put(place, part))
+                after, place = (new.site, new.at + new.length - 1), place + _new(part).length
         return one_by_one([*edits, self._type()])
+
+    def _lacking(self, message: Message, edits: list[Edited]) -> Sequence[Message]:
+        """What is to be typed for a message: itself, or what stands for it; nothing where that was typed."""
+        parts = self._parts.get(message, [message])
+        if parts != [message]:
+            edits.append(self._type())
+            self._done.add(message)
+        return [] if any(part in self._made for part in parts) else parts
 
     def copies(self, names: Iterable[Names]) -> list[Names]:
         """The names of the characters that stand for these, as far as they were typed again."""
         found = []
         for one in names:
             for message in self._done.of(one):
-                old, new = _new(message), _new(self._made[message])
-                begin, end = max(one.at, old.at), min(one.at + one.length, old.at + old.length)
-                if begin < end:
-                    found.append(Names(new.site, new.at + begin - old.at, end - begin))
+                at = _new(message).at
+                for part in self._parts.get(message, [message]):
+                    old, new = _new(part)._replace(at=at), _new(self._made[part]) if part in self._made else None
+                    begin, end = max(one.at, old.at), min(one.at + one.length, old.at + old.length)
+                    if new and begin < end:
+                        found.append(Names(new.site, new.at + begin - old.at, end - begin))
+                    at += old.length
         return found
 
     def _put(self, place: int, message: Message) -> Edited:

@@ -26,7 +26,7 @@ from share.session import Bar, Session
 from share.words import Trouble
 
 # How long a relay waits for an engine to listen, and an engine for one that is ending.
-START_SECONDS = 20
+START_SECONDS = 60
 AGAIN_SECONDS = 0.01
 # An engine to which nobody has come for so long ends.
 ALONE_SECONDS = 10

@@ -11,18 +11,20 @@ from share import ledger, lost, packing
 from share.anew import Remade, at_once, length_of, make_anew, with_claims
 from share.coming import Coming, Pace
 from share.courier import Courier
+from share.differing import Shown, differences, shown_by
 from share.disk import Anew, Changed, Client, Damaged, Disk, Overtaken, Unkept, make
 from share.entry import Copy, Entry, Kind, in_entries
-from share.hiding import wanted
+from share.hiding import said, wanted
 from share.holdings import Holdings, uncollected, who
 from share.judging import Counted
 from share.ledger import Row
 from share.lines import Line
 from share.log import is_network, open_log
-from share.losses import Turns, told_of_edits, told_of_numbers
+from share.losses import Turns, seconds_for_others, told_of_edits, told_of_numbers
 from share.lost import Lost
 from share.message import Message, length_after
 from share.messages import Messages, Part
+from share.note_text import Change, change
 from share.numbers import FULL, READING, Numbers
 from share.reading import found_in
 from share.renewing import renewed_by
@@ -129,8 +131,12 @@ class Session:
         self._has_number = False
         # When what was lost is made anew.
         self._turns = Turns()
+        # What the site showed that was begun anew, until it is told what differs.
+        self._was: Shown | None = None
         # How far what copies stand for counted as it was last looked at.
         self._fronts: list[int] | None = None
+        # When copies of others are hidden that stand beside what they stand for, unless they are hidden by then.
+        self._hides_others: float | None = None
         self._holdings, self._left_out = Holdings(self._form), lost.Totals()
         self._read_all()
         self._numbers = Numbers(self._holdings, self._form, bool(self._about.url), _File(self))
@@ -185,6 +191,7 @@ class Session:
     def recover(self) -> list[Lost]:
         """Types again what was left out, and says so of it; what that was."""
         found, holdings, copies = self.lost(), self._holdings, list[tuple[Copy, Message]]()
+        self._was = shown_by(self.site)
 
         def work() -> Edited:
             gone = holdings.withdrawn()
@@ -227,6 +234,7 @@ class Session:
             raise
 
     def _arrived(self) -> Told:
+        self._was = None
         # Only what the log had before the file is read says what is lost, and which claims come before all others.
         has_read, in_log = self._courier.has_read(), self._numbers.claims_in_log(self._courier)
         holdings = self._holdings
@@ -262,6 +270,16 @@ class Session:
             self._pack(max(packing.MANY, self._packed // packing.SHARE))
         hidden = [] if self.has_more() else self._hide_copies()
         return told + hidden if isinstance(told, list) and isinstance(hidden, list) else self.site.text()
+
+    def differing(self, before: bytes, now: bytes) -> list[Change]:
+        """What differs between the text that was shown before the last call of `arrived` and the one that is shown since:
+        character by character, where the site was begun anew."""
+        was, self._was = self._was, None
+        with suppress(Trouble):
+            if was and was.text == before and (shows := shown_by(self.site)).text == now:
+                if (found := differences(was, shows)) is not None:
+                    return found
+        return [change(before, now)]
 
     def tell(self, words: str) -> None:
         """Has the user be told something."""
@@ -600,19 +618,22 @@ class Session:
         self._is_settled, self._anew_after = False, time.monotonic() + AGAIN_SECONDS
 
     def _hide_copies(self) -> Told:
-        """Hides copies that were made here and aren't to be seen, or shows them again; what the text has become."""
+        """Hides copies that were made here and aren't to be seen, or shows them again; what the text has become. Those of others
+        are hidden some seconds later."""
         holdings = self._holdings
-        fronts = holdings.standing.fronts(holdings.counts_up_to) + holdings.recovered.fronts(holdings.counts_up_to)
-        if (fronts == (self._fronts or []) or not self._client.stood or self._is_stale or self._numbers.is_taken
+        fronts = holdings.fronts_of_copies()
+        is_due = self._hides_others is not None and time.monotonic() >= self._hides_others
+        if (fronts == (self._fronts or []) and not is_due or not self._client.stood or self._is_stale or self._numbers.is_taken
                 or time.monotonic() < self._anew_after):
             return []
-        names, before = wanted(holdings), len(self.site.history)
+        names, before, author = wanted(holdings), len(self.site.history), self._client.author
         try:
             hidden, gone = self.site.delete(names.hidden)
+            of_others, went = self.site.delete(one for _, one in names.of_others) if is_due else (Edited([]), [])
             shown, come = self.site.restore(names.shown)
-            if messages := hidden.messages + shown.messages:
-                author = self._client.author.name
-                self._keep(messages, hidings=[Copy(author, one.site, one.seq) for one in messages])
+            if messages := hidden.messages + of_others.messages + shown.messages:
+                self._keep(messages, hidings=[Copy(author.name, one.site, one.seq) for one in messages],
+                           says=lambda last: said(self._form, author, of_others.messages, names.of_others, last))
         except BaseException as why:
             self.site.go_back(before)
             if not isinstance(why, Unkept):
@@ -620,11 +641,19 @@ class Session:
             self._later(why)
             return []
         self._fronts = fronts
-        return gone + come if isinstance(gone, list) and isinstance(come, list) else self.site.text()
+        if is_due or not names.of_others:
+            self._hides_others = None
+        elif self._hides_others is None:
+            self._hides_others = time.monotonic() + seconds_for_others()
+        told = [one for part in (gone, went, come) if isinstance(part, list) for one in part]
+        return told if all(isinstance(part, list) for part in (gone, went, come)) else self.site.text()
 
     def _begin_anew(self, messages: Messages) -> None:
         """Has the site be another one, under the number of now, with these messages."""
         self._coming = Coming()
+        with suppress(Trouble):
+            # Where the program has ended it is told as a whole.
+            self._was = self._was or shown_by(self.site)
         self.site.close()
         self.site = self._new_site(messages)
 

@@ -5,7 +5,8 @@ Of a message and all that stands for it one is shown, whatever comes and in what
 counts, else of those copies that count the one of the least site and seq. Who made another copy hides it. A copy of a copy
 is said to be one of what that stood for, too.
 """
-from collections.abc import Callable, Iterator, Mapping, Sequence
+import math
+from collections.abc import Callable, Container, Iterator, Mapping, Sequence
 from typing import NamedTuple
 
 from share.disk import Client
@@ -16,9 +17,13 @@ from share.ledger import Row
 Who = tuple[int, bytes]
 # Which entry has the message of a site and a seq that counts.
 EntryOf = Callable[[int, int], bytes | None]
+# How many messages of an author and site count that an entry has, or one to which it is chained.
+FrontUpTo = Callable[[bytes, int, bytes], int]
 Rows = Mapping[bytes, Row]
 # An entry of copies has so many stretches at most.
 MOST_STRETCHES = 1_000
+# Of what others say of copies so much is looked at, by entries and messages.
+MOST_OF_OTHERS = 4_096
 
 
 class Stretch(NamedTuple):
@@ -50,9 +55,10 @@ class Piece(NamedTuple):
 
 
 class Standing:
-    """What entries of copies say of messages whose keys are here."""
+    """What entries of copies say of messages whose keys are here; or, of so many entries and messages, of any."""
 
-    def __init__(self) -> None:
+    def __init__(self, most: float = math.inf) -> None:
+        self._room = most
         # By the hash of the old entry.
         self._pieces: dict[bytes, list[Piece]] = {}
         # What is to be said of old entries that aren't here yet, by the hash of the last of them.
@@ -83,9 +89,11 @@ class Standing:
         least = min(old for old, _, _ in said.stretches)
         while of in rows:
             entry = rows[of].entry
-            if (entry.author, entry.site) != said[:2] or not entry.size:
+            self._room -= 1
+            if (entry.author, entry.site) != said[:2] or not entry.size or self._room < 0:
                 return
             for stretch in _within(said.stretches, entry):
+                self._room -= entry.size
                 self._note(entry, Piece(said.by, said.by_site, stretch, own, said.last))
             if entry.first <= least:
                 return
@@ -129,6 +137,15 @@ class Standing:
 
     def made_here(self, entry_of: EntryOf, rows: Rows) -> Iterator[tuple[Copy, bool]]:
         """The copies that were made here and count, and whether each is to be hidden."""
+        return self._to_be_seen(entry_of, lambda piece, seq: _counts(piece, seq, entry_of, rows))
+
+    def made_by_all(self, entry_of: EntryOf, front_up_to: FrontUpTo) -> Iterator[tuple[Copy, bool]]:
+        """The same of all that is looked at, where all of it was added as if it had been made here."""
+        fronts = {piece: front_up_to(piece.author, piece.site, piece.last) if piece.last != NO_HASH else 0
+                  for of in self._own for piece in self._pieces[of]}
+        return self._to_be_seen(entry_of, lambda piece, seq: 0 < piece.stretch.new + seq - piece.stretch.old <= fronts[piece])
+
+    def _to_be_seen(self, entry_of: EntryOf, counts: Callable[[Piece, int], bool]) -> Iterator[tuple[Copy, bool]]:
         for entry in self._own.values():
             for seq in range(entry.first, entry.last + 1):
                 if any(True for _ in self.originals(entry, seq)):
@@ -137,11 +154,11 @@ class Standing:
                 for piece in self._pieces[entry.hash]:
                     if copy := piece.copy(seq):
                         found = copies.setdefault((copy.site, copy.author), [])
-                        found.append((copy, piece.own, _counts(piece, seq, entry_of, rows)))
+                        found.append((copy, piece.own, counts(piece, seq)))
                 stays = entry_of(entry.site, seq) == entry.hash
                 for of in sorted(copies, key=lambda of: (of[0], min(copy.seq for copy, _, _ in copies[of]))):
-                    yield from ((copy, stays) for copy, own, counts in copies[of] if own and counts)
-                    stays = stays or all(counts for _, _, counts in copies[of])
+                    yield from ((copy, stays) for copy, own, counts_now in copies[of] if own and counts_now)
+                    stays = stays or all(counts_now for _, _, counts_now in copies[of])
 
 
 def _counts(piece: Piece, seq: int, entry_of: EntryOf, rows: Rows) -> bool:
@@ -175,9 +192,9 @@ def in_stretches(pairs: Sequence[tuple[int, int]]) -> list[Stretch]:
 
 
 def said(form: Form, keys: Mapping[Who, Client], rows: Rows, new: Entry,
-         pairs: Mapping[bytes, Sequence[tuple[int, int]]]) -> list[Entry]:
+         pairs: Mapping[bytes, Sequence[tuple[int, int]]], withdrawn: Container[bytes] = ()) -> list[Entry]:
     """The entries that say which messages, of those up to a new entry, stand for those of old entries: pairs of seqs, by the
-    old entries' hashes."""
+    old entries' hashes. Nobody else may have what was withdrawn, so that what is before it is spoken of apart."""
     left, found = set(pairs), list[Entry]()
     for of in sorted(pairs, key=lambda of: rows[of].entry.last, reverse=True):
         if of not in left:
@@ -186,7 +203,7 @@ def said(form: Form, keys: Mapping[Who, Client], rows: Rows, new: Entry,
         client = last.site, last.author
         least = min(rows[one].entry.first for one in left if (rows[one].entry.site, rows[one].entry.author) == client)
         chained: list[tuple[int, int]] = []
-        while of in rows and rows[of].entry.first >= least:
+        while of in rows and rows[of].entry.first >= least and (of in withdrawn) == (last.hash in withdrawn):
             chained += pairs[of] if of in left else ()
             left.discard(of)
             of = rows[of].entry.before

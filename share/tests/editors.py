@@ -88,8 +88,9 @@ class Editor:
         """The condition's value, as soon as it is a true one."""
         end = time.monotonic() + PATIENCE
         while not (value := condition()):
-            if time.monotonic() > end:
-                raise AssertionError(f"waited {PATIENCE} seconds for {what}; the last lines: {str(self.lines[-5:])[-2_000:]}")
+            if time.monotonic() > end or self.process.poll() is not None and not self.read():
+                raise AssertionError(f"waited {PATIENCE} seconds for {what}; the process's end: {self.process.poll()}; "
+                                     f"the last lines: {str(self.lines[-5:])[-2_000:]}")
             self.read(0.02)
         return value
 

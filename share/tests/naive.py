@@ -193,8 +193,9 @@ class Answer:
         lost = [(entry, one) for entry in known.values() if entry.hash not in in_chains and entry.messages
                 and is_rooted(entry, known) and not self._has_just(entry.messages) and not is_said_anew(entry, known)
                 for one in entry.messages]
+        told = [entry for entry in entries if entry.kind is not Kind.ANEW or not tells_copies(entry, known)]
         for site in self._blocked_by_what_was_left_out(entries):
-            held = self.held_up(site, entries)
+            held = self.held_up(site, told)
             lost += [(entry, one) for entry in self.chains[site] for one in entry.messages if one in held]
         return sorted((one.site, entry.author, one.seq, reading(one.data).length) for entry, one in lost
                       if not self._is_copied(entry, one, known))
@@ -305,9 +306,15 @@ def follows(entry: Entry, before: Entry) -> bool:
             and entry.first == (before.messages[-1].seq if before.messages else 0) + 1)
 
 
+def tells_copies(entry: Entry, known: Mapping[bytes, Entry]) -> bool:
+    """Whether its author says of own messages what stands for them."""
+    return any(one.kind is Kind.COPIES and (one.site, one.author) == (entry.site, entry.author)
+               == (one.copied.site, one.copied.author) for one in known.values())
+
+
 def is_said_anew(entry: Entry, known: Mapping[bytes, Entry]) -> bool:
-    """Whether its author says that it was made anew."""
-    return any(one.kind is Kind.ANEW and (one.site, one.author) == (entry.site, entry.author)
+    """Whether its author says that it was made anew, and doesn't say what stands for what."""
+    return not tells_copies(entry, known) and any(one.kind is Kind.ANEW and (one.site, one.author) == (entry.site, entry.author)
                and entry.hash in chained_to(one.before, known) for one in known.values())
 
 

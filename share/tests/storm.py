@@ -9,7 +9,6 @@ import json
 import os
 import pathlib
 import random
-import re
 import shutil
 import signal
 import subprocess
@@ -33,9 +32,10 @@ right = time.time
 time.time = lambda: right() + float(os.environ["SHARE_CLOCK"])
 """
 CLOCKS = (400 * 86_400, -400 * 86_400, 10_000, -10_000, 0)
-OPEN_PATIENCE, MEET_PATIENCE = 60.0, 90.0
+MEET_PATIENCE = 90.0
+# Who has the key of what was left out has so many seconds to make it anew.
+ANEW_PATIENCE = 15.0
 Words = set[str]
-WORD = re.compile(r"[pc]\d+-\d+|begin")
 
 
 class Writer:
@@ -50,7 +50,9 @@ class Writer:
         self.typing: dict[int, str] = {}
         self.unsure: Words = set()
         self.typed, self._read, self.clock = 0, 0, 0
-        self.said: list[str] = []
+        # What the user was told, and how many seconds after the begin.
+        self.said: list[tuple[float, str]] = []
+        self._began = time.monotonic()
 
     def open(self) -> None:
         """Opens the note, where it isn't open."""
@@ -103,7 +105,7 @@ class Writer:
 
     def _took(self, line: dict) -> None:
         if line.get("notice") == "says":
-            self.said.append(line["words"])
+            self.said.append((round(time.monotonic() - self._began, 1), line["words"]))
         if line.get("answer") != "edit":
             return
         for number in [one for one in self.typing if one <= line.get("edits", 0)]:
@@ -176,6 +178,11 @@ class Writer:
         shutil.copytree(folder, self.person.data, dirs_exist_ok=True)
         self.unsure |= self.has - has
         self.has = set(has)
+
+    def note(self, *words: str) -> subprocess.CompletedProcess:
+        """A run of bin/note with this person's notes."""
+        return subprocess.run([NOTE, *words], capture_output=True, text=True, timeout=MEET_PATIENCE, check=False,
+                              env={**os.environ, "VIALSHOAL_DATA": str(self.person.data)})
 
     def clear(self) -> None:
         """Takes all out of the data folder, which may be a disk of its own."""
@@ -266,7 +273,8 @@ class File:
     def flush(self) -> None:
         """Has it be gone."""
         for path in self._folder.iterdir() if self._folder.is_dir() else ():
-            path.unlink()
+            # Who had it open may have removed what is beside it.
+            path.unlink(missing_ok=True)
 
     def copy_to(self, folder: pathlib.Path) -> None:
         """Copies it."""
@@ -291,9 +299,12 @@ class Storm:
         # What happened, in order; what is to be undone, and after how many steps; what was copied.
         self.told: list[str] = []
         self.due: list[tuple[int, object]] = []
-        self.step, self.text = 0, ""
+        self.step, self.text, self._began = 0, "", time.monotonic()
+        # How often something that was left out was typed again.
+        self.recovered = 0
         self.backups: list[tuple[Writer, pathlib.Path, Words]] = []
         self.dumps: list[pathlib.Path] = []
+        self.other: pathlib.Path | None = None
         self.both: list[tuple[Writer, pathlib.Path, Words, pathlib.Path]] = []
         first = case.person("p0").open(url=self.log.url)
         written(first, "begin ")
@@ -310,7 +321,7 @@ class Storm:
 
     def say(self, words: str) -> None:
         """Notes what happened."""
-        self.told.append(f"{self.step}: {words}")
+        self.told.append(f"{self.step} ({time.monotonic() - self._began:.1f} s): {words}")
 
     def round(self, steps: int) -> None:
         """Has people type, and things happen."""
@@ -405,6 +416,15 @@ class Storm:
             self.dumps.append(self.case.folder / f"dump-{len(self.dumps)}-{self.step}")
             self.log.copy_to(self.dumps[-1])
 
+    def exchange(self) -> None:
+        """Another server takes the place of this one, which takes its place later."""
+        if not self.due:
+            self.say("exchange the server")
+            folder = self.case.folder / f"other-{self.step}"
+            self.log.copy_to(folder)
+            self.log.put_back(self.other)
+            self.other = folder
+
     def backup(self) -> None:
         """A folder is copied, or is again what was copied once."""
         if self.due:
@@ -434,10 +454,15 @@ class Storm:
             return
         if self.both and self.chance.random() < 0.5:
             one, folder, has, dump = self.chance.choice(self.both)
-            self.say(f"put back the log and {one.name}")
-            one.kill()
+            is_alone = self.chance.random() < 0.5
+            self.say(f"put back the log and {one.name}" + (", who types alone" if is_alone else ""))
+            for each in self.people if is_alone else [one]:
+                each.kill()
             self.log.put_back(dump)
             one.put_back(folder, has)
+            if is_alone:
+                # Nobody else brings what was written under the number since.
+                self.types_alone(one)
         else:
             one = self.someone()
             self.say(f"copy the log and {one.name}")
@@ -445,6 +470,13 @@ class Storm:
             has = one.copy_to(folder)
             self.log.copy_to(dump)
             self.both.append((one, folder, has, dump))
+
+    def types_alone(self, one: Writer) -> None:
+        """Somebody opens the note while nobody else has it open, and types."""
+        one.open()
+        before = len(one.has)
+        with contextlib.suppress(AssertionError):
+            wait_for(lambda: (one.type(), one.look(), not one.editor or len(one.has) > before + 2)[2], "some words", 10)
 
     def rejoin(self) -> None:
         """Somebody loses all files, and joins again by the link."""
@@ -500,53 +532,94 @@ class Storm:
     # What has to be then.
 
     def meet(self) -> str:
-        """Waits until all show the same with all sent; that, which has what it has to have."""
+        """Waits until all show the same with all sent, and that has what it has to have; that. What was left out for good is typed
+        again."""
         self.undo_all()
         for one in self.people:
             one.open()
-
-        def are_alike() -> bool:
-            for one in self.people:
-                one.look()
-                one.open()
-            states = [one.state() for one in self.people]
-            shown = {one.editor.text if one.editor else "" for one in self.people}
-            self.text = shown.pop()
-            return (not shown and all(state.get("log") == "sent" and state["types"] and not state["unsent"] for state in states) and not any(one.typing for one in self.people)
-                    and len({one.editor.text for one in self.people if one.editor}) == 1)
-        try:
-            wait_for(are_alike, "all to show the same", MEET_PATIENCE)
-        except AssertionError as why:
-            found = {one.name: (one.state(), len(one.editor.text.split()) if one.editor else None) for one in self.people}
-            self.fault(f"{why}: {found}")
-        self.check(self.text)
+        self.comes(lambda: self.are_alike() and not self.wrong(), MEET_PATIENCE)
+        if self.left_out() or self.lacks():
+            # Who has the key makes it anew, if anybody has it.
+            with contextlib.suppress(AssertionError):
+                wait_for(lambda: self.are_alike() and not (self.wrong() or self.left_out() or self.lacks()), "", ANEW_PATIENCE)
+        if self.left_out():
+            self.recover()
+            self.comes(lambda: self.are_alike() and not (self.wrong() or self.left_out()), MEET_PATIENCE)
+        if lacks := self.lacks():
+            self.fault(f"lacks: {lacks}")
+        words = {*self.text.split()}
+        for one in self.people:
+            one.unsure -= words
+            one.has |= words
         return self.text
 
-    def check(self, text: str) -> None:
-        """That each word is there once that somebody has, and no word twice."""
-        words = text.split()
-        twice = sorted({word for word in words if words.count(word) > 1})
-        must = set[str]().union(*(one.has for one in self.people)) | {"begin"}
-        may = set[str]().union(*(one.unsure for one in self.people))
-        lacks, strange = sorted(must - {*words}), sorted({*words} - must - may)
-        told = [one.state().get("left_out") for one in self.people if one.state().get("left_out")]
-        if twice or strange or lacks and not told:
-            self.fault(f"twice: {twice}; lacks: {lacks}; strange: {strange}; told: {told}; "
-                       f"broken: {[word for word in words if not WORD.fullmatch(word)]}")
+    def comes(self, condition, patience: float) -> None:
+        """Waits for what has to come."""
+        try:
+            wait_for(condition, "all to show the same", patience)
+        except AssertionError as why:
+            found = {one.name: (one.state(), len(one.editor.text.split()) if one.editor else None) for one in self.people}
+            self.fault(f"{why}: {self.wrong()}; lacks: {self.lacks()}; {found}")
+
+    def are_alike(self) -> bool:
+        """Whether all show the same, with all sent."""
         for one in self.people:
-            one.unsure -= {*words}
-            one.has |= {*words}
+            one.look()
+            one.open()
+        states = [one.state() for one in self.people]
+        shown = {one.editor.text if one.editor else "" for one in self.people}
+        self.text = shown.pop()
+        return (not shown and all(state.get("log") == "sent" and state["types"] and not state["unsent"] for state in states)
+                and not any(one.typing for one in self.people))
+
+    def lacks(self) -> list[str]:
+        """The words that somebody has and that aren't there."""
+        return sorted(set[str]().union({"begin"}, *(one.has for one in self.people)) - {*self.text.split()})
+
+    def left_out(self) -> bool:
+        """Whether somebody is told that something was left out."""
+        return any(one.state().get("left_out") for one in self.people)
+
+    def wrong(self) -> str:
+        """Which words are there twice or nobody typed; and which lack, where not all are told that something was left out."""
+        words = self.text.split()
+        twice = sorted({word for word in words if words.count(word) > 1})
+        strange = sorted({*words} - {"begin"}.union(*(one.has | one.unsure for one in self.people)))
+        lacks = [] if all(one.state().get("left_out") for one in self.people) else self.lacks()
+        return f"twice: {twice}, strange: {strange}, lacks: {lacks}" if twice or strange or lacks else ""
+
+    def recover(self) -> None:
+        """Has somebody type again what was left out; that has all that lacks."""
+        one, lacks = self.someone(), self.lacks()
+        self.say(f"{one.name} types again what was left out")
+        done = one.note("recover", "--lost", "note")
+        if done.returncode or {*lacks} - {*done.stdout.split()}:
+            self.fault(f"lacks: {lacks}; recover --lost ended with {done.returncode}: {done.stdout}{done.stderr}")
+        self.say(f"it was {done.stdout.split()}")
+        self.recovered += 1
 
     def fault(self, words: str) -> None:
         """Says what is wrong, and what happened before it."""
         said = {one.name: one.said[-6:] for one in self.people if one.said}
         raise AssertionError(f"seed {self.seed} ({self.log.kind}): {words}\nsaid: {said}\nhappened: {self.told[-40:]}")
 
+    def keep(self, folder: pathlib.Path, why: str) -> None:
+        """Keeps what everybody has in a folder, so that the fault can be traced."""
+        folder.mkdir(parents=True)
+        for one in self.people:
+            one.copy_to(folder / one.name)
+        with contextlib.suppress(OSError, shutil.Error):
+            self.log.copy_to(folder / "log")
+        lines = [why, *self.told]
+        for one in self.people:
+            lines += [f"{one.name}: {one.state()}", f"has {sorted(one.has)}", f"unsure {sorted(one.unsure)}",
+                      f"typing {one.typing}", *(f"{when} {words}" for when, words in one.said), one.editor.text if one.editor else ""]
+        (folder / "fault").write_text("\n".join(lines))
+
     def printed(self) -> None:
         """That all folders alone print the same."""
         for one in self.people:
             one.close()
-        texts = {subprocess.run([NOTE, "cat", "note"], capture_output=True, timeout=MEET_PATIENCE, check=False, env={
-            **os.environ, "VIALSHOAL_DATA": str(one.person.data)}).stdout for one in self.people}
+        texts = {one.note("cat", "note").stdout for one in self.people}
         if len(texts) != 1:
             self.fault(f"the folders print {len(texts)} texts")

@@ -313,10 +313,20 @@ def plain_text(messages) -> bytes:
 
 def engine_of(data: pathlib.Path) -> int:
     """The process that has a person's note open, which is called `note`."""
-    lock = os.stat(data / "run" / "note.lock").st_ino
-    found = re.findall(rf"FLOCK +ADVISORY +WRITE +(\d+) [0-9a-f]+:[0-9a-f]+:{lock} ",
+    lock = os.stat(data / "run" / "note.lock")
+    # Files of other disks have the same numbers.
+    found = re.findall(rf"FLOCK +ADVISORY +WRITE +(\d+) [0-9a-f]+:[0-9a-f]+:{lock.st_ino} ",
                        pathlib.Path("/proc/locks").read_text(encoding="ascii"))
-    return int(found[0])
+    return [process for process in map(int, found) if _has_open(process, lock)][0]
+
+
+def _has_open(process: int, file: os.stat_result) -> bool:
+    """Whether a process has a file open."""
+    for one in pathlib.Path(f"/proc/{process}/fd").glob("*"):
+        with contextlib.suppress(OSError):
+            if os.path.samestat(one.stat(), file):
+                return True
+    return False
 
 
 def alive(process: int) -> bool:

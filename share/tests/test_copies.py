@@ -14,6 +14,7 @@ from share.disk import Disk, Unkept
 from share.entry import LENGTH, Copy, Entry, Kind
 from share.judging import rank
 from share.message import Message
+from share.tests.editors import Editor
 from share.tests.note import Note
 from share.tests.support import Case, Person, are_alike, change, type_at_the_end, wait_for, written
 
@@ -260,6 +261,36 @@ class Damaged(Copied):
         self.assert_shown("one behind two within", first, carla, second)
 
 
+    def beside_its_copy(self) -> None:
+        """Has the log have the original beside its copy, which nobody who is on has made."""
+        self.alone().session.close()
+        with mock.patch("share.losses.OTHERS_SECONDS", 1_000):
+            first = self.anna.open()
+            wait_for(lambda: are_alike([first]) and words(first.text) == ["behind", "behind", "one", "two"], "both to be shown")
+            first.session.close()
+
+    def test_who_made_a_copy_is_gone(self) -> None:
+        self.beside_its_copy()
+        shutil.rmtree(self.berta.data)
+        notes = [self.opened(self.person(name), link=self.anna.link()) for name in ("carla", "dora")]
+        self.assert_shown("one behind two", *notes)
+        # However many have hidden it, it is shown again where what it stands for goes.
+        self.claim(self.anna, self.entry_of(self.anna).site)
+        self.assert_shown("behind", *notes)
+        self.assert_shown("one behind two", *notes, self.opened(self.anna))
+
+    def test_who_made_a_copy_comes_back(self) -> None:
+        self.beside_its_copy()
+        carla = self.person("carla")
+        third = carla.open(link=self.anna.link())
+        self.assert_shown("one behind two", third)
+        third.session.close()
+        shutil.rmtree(carla.data)
+        self.claim(self.anna, self.entry_of(self.anna).site)
+        # Who made it shows it again, whoever has hidden it.
+        self.assert_shown("behind", self.opened(self.berta), self.opened(self.person("late"), link=self.anna.link()))
+
+
 class Renewed(Copied):
     """A note that was renewed has the numbers of the one before, whose keys are with who renewed it."""
 
@@ -343,6 +374,38 @@ class Forked(Copied):
         expected = sorted([*expected, "the-line"])
         wait_for(lambda: are_alike(notes) and words(notes[0].text) == expected, "the line to be there once")
         self.assertEqual(self.assert_meet(self.opened(self.person("late"), link=anna.link()), *notes), bytes(notes[0].text))
+
+
+class BegunAnew(Copied):
+    """What is shown is begun anew, since something else counts."""
+
+    def test_an_edit_on_its_way_stays_with_its_character(self) -> None:
+        anna, berta = self.person("anna"), self.person("berta")
+        second = berta.open(url=self.file_log())
+        written(second, "middle word ")
+        second.session.close()
+        first = anna.open(link=berta.link())
+        self.assert_comes_to(first, b"middle word ")
+        first.moved_to(0)
+        first.type("first ")
+        line = first.session.last()
+        written(first, "last ")
+        first.session.close()
+        editor = Editor(berta.data)
+        self.addCleanup(editor.close)
+        editor.shows("first middle word last ")
+        # It shows nothing of what comes for a while, and types meanwhile.
+        editor.read(0.1)
+        editor.listens, known = False, len(editor.lines)
+        word, fork = self.word_against(anna, line, "first ", holds=True)
+        with contextlib.closing(anna.log()) as log:
+            log.append([fork.raw])
+        editor.wait_for(lambda: [line for line in editor.lines[known:] if line.get("notice") == "changes"], "other text")
+        editor.edit((13, 13, "more "))
+        editor.listens = True
+        for line in editor.lines[known:]:
+            editor.mirror.take(line)
+        editor.shows(f"{word}middle more word ")
 
 
 class Clock:

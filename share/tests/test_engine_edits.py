@@ -1,4 +1,5 @@
 """The engine, by the real command: edits that meet, and what no editor should send."""
+import dataclasses
 import json
 import os
 import random
@@ -272,6 +273,30 @@ class Wrong(Engines):
         editor.shows(("x" * 4_000 + "\n") * kept)
         editor.ask("on")
         self.assertEqual(self.printed(), editor.text)
+
+    def test_what_is_typed_beside_what_is_taken_out_stays_there(self) -> None:
+        engine = Engine("note", lambda: Session(opening.opened("note", None, None)), lambda: None)
+        self.addCleanup(engine.close)
+        sent: list[bytes] = []
+        peer = engine.joined(sent.append, lambda: 0)
+        engine.take(peer, [b'{"do": "open", "protocol": 1, "units": ["utf-8"]}'])
+        engine.turn()
+        lines: list[dict] = []
+        mirror = Mirror(json.loads(sent[0]), lines.append)
+        for at, word in (0, "one two "), (4, "twin "), (9, "twice "):
+            mirror.edit([(at, at, word)])
+        first, second, third = [json.dumps(line).encode() for line in lines]
+        engine.take(peer, [first])
+        status = engine.session.status()
+        with mock.patch.object(engine.session, "status", return_value=dataclasses.replace(status, can_type=False)):
+            # The number is another one now, which doesn't hold yet.
+            engine.take(peer, [second])
+        engine.take(peer, [third])
+        engine.turn()
+        for line in map(json.loads, sent):
+            mirror.take(line)
+        self.assertEqual(mirror.text, "one twice two ")
+        self.assertEqual(engine.session.text(), b"one twice two ")
 
     def test_a_program_that_can_not_be_started_again(self) -> None:
         engine = Engine("note", lambda: Session(opening.opened("note", None, None)), lambda: None)

@@ -618,6 +618,18 @@ class MadeAnew(unittest.TestCase):
         self.assertEqual(self.incomplete(FORM.made_anew(self.more, self.second), without=[self.typed]), 1)
         self.assertEqual(self.incomplete(FORM.made_anew(self.typed, self.second), without=[self.typed]), 1)
 
+    def test_what_counted_as_it_was_said_is_told_where_it_is_left_out_later(self) -> None:
+        claim = next(one for one in (FORM.claim(2, FORM.new_author()) for _ in range(10_000)) if rank(one) < rank(self.all[1]))
+        said, by = FORM.made_anew(self.more, self.second), self.all[-1]
+        copied = Copied(self.second.name, 2, self.third.name, 3, ((2, 1, 1),), by.hash)
+        copies = FORM.copies(copied, self.second, 2, self.more.hash)
+        for words, told in ([], [(1, 2)]), ([said], []), ([said, copies], [(1, 1)]):
+            follower = Follower(self)
+            for entry in [*self.all, claim, *words]:
+                follower.add(entry)
+            follower.agrees()
+            self.assertEqual([(one.first, one.last) for one in follower.judge.left_out() if one.site == 2], told)
+
     def test_what_counts_after_all_goes_on_counting(self) -> None:
         came = [self.unsent if one == self.sent else one for one in self.all]
         judge = Judge([*came, FORM.made_anew(self.more, self.second)])

@@ -115,6 +115,13 @@ class Killed(Case):
             try:
                 # What only others had of a history that was put back is made anew some seconds later.
                 wait_for(lambda: are_alike(notes) and self.is_whole(notes), "all to show the same, with all sent")
+                if self.without_a_key(notes):
+                    # Nobody can make it anew; but it is told, and somebody types it again.
+                    note = self.chance.choice(notes)
+                    note.session.recover()
+                    note.text[:] = note.session.text()
+                    wait_for(lambda: are_alike(notes) and not self.without_a_key(notes) and self.is_whole(notes),
+                             "what was left out to be there")
             except AssertionError as why:
                 self.assert_whole(bytes(notes[0].text), self.without_a_key(notes))
                 raise AssertionError("\n".join([str(why), *map(self.told_of, self.people, notes)])) from None

@@ -5,6 +5,7 @@ import itertools
 import json
 import os
 import random
+import shutil
 import subprocess
 import unittest
 
@@ -55,6 +56,19 @@ class Taken(Case):
             note.session.close()
         self.assertEqual(shown(self.carol), ("Dear all of you, we meet at ten. Bob. ", []))
         return anna.session.number
+
+    def test_what_was_made_anew_and_left_out_in_its_turn_is_typed_again_once(self) -> None:
+        take(self.anna, self.begun())
+        anna = self.anna.open()
+        wait_for(lambda: (anna.take_in(), bytes(anna.text) == SENTENCE.encode())[1], "it to be made anew")
+        written(anna, "")
+        anna.session.close()
+        self.carol.open().session.close()
+        take(self.anna, anna.session.number)
+        shutil.rmtree(self.anna.data)
+        self.run_as(self.carol, "recover", "--lost", "note")
+        self.assertEqual(shown(self.carol), ("Dear all of you, we meet at ten. Bob. ", []))
+        self.assertEqual(self.run_as(self.carol, "recover", "--lost", "note"), "Nothing was left out.\n")
 
     def test_it_is_told_how_much_and_whose_and_typed_again_once(self) -> None:
         site = self.begun()

@@ -3,10 +3,12 @@ import itertools
 import random
 import unittest
 
-from share.disk import Row
+from share.disk import Client, Row
 from share.entry import Author, Copied, Copy, Entry, Plain
+from share.judging import Judge
 from share.message import Message
-from share.standing import Standing, in_stretches
+from share.recovered import Recovered
+from share.standing import Standing, in_stretches, said
 from share.tests.naive import inserting
 
 FORM = Plain(bytes(16))
@@ -84,6 +86,49 @@ class Sets(unittest.TestCase):
         standing, self.counts = Standing(), {(3, 1): made.hash}
         standing.add(Row(0, by_other, True), self.rows)
         self.assertFalse(standing.is_stood_for(self.old, 2, self.entry_of, self.rows))
+
+    def test_of_what_others_say_so_much_is_looked_at(self) -> None:
+        standing, found = Standing(most=50), [self.copied(site, False, self.old) for site in range(100, 200)]
+        self.counts = {(site, 1): made.hash for site, (_, made) in enumerate(found, 100)}
+        for row, _ in found:
+            standing.add(row._replace(made=True), self.rows)
+        looked_at = [*standing.made_by_all(self.entry_of, lambda *_: 1)]
+        self.assertEqual([is_hidden for _, is_hidden in looked_at], [False] + [True] * (len(looked_at) - 1))
+        self.assertTrue(20 < len(looked_at) <= 50, len(looked_at))
+
+    def test_what_was_withdrawn_is_spoken_of_apart(self) -> None:
+        withdrawn = FORM.entry(self.old, [typed(50, 3, b"c")], OLD, length=2)
+        author = Author(bytes(16), b"")
+        new = FORM.entry(FORM.claim(60, author), [typed(60, 1, b"b"), typed(60, 2, b"c")], author)
+        here = self.rows | {withdrawn.hash: Row(0, withdrawn, True)}
+        pairs = {self.old.hash: [(2, 1)], withdrawn.hash: [(3, 2)]}
+        words = said(FORM, {(50, OLD.name): Client(50, OLD)}, here, new, pairs, {withdrawn.hash})
+        self.counts = {(60, 1): new.hash, (60, 2): new.hash}
+        # Another disk never gets what was withdrawn.
+        for rows in here, self.rows:
+            standing, rows = Standing(), rows | {new.hash: Row(0, new, True)}
+            for word in words:
+                standing.add(Row(0, word, True), rows)
+            self.assertTrue(standing.is_stood_for(self.old, 2, self.entry_of, rows))
+        self.assertEqual(len(words), 2)
+
+    def test_what_was_typed_again_gives_way_to_a_copy_of_its_own_history(self) -> None:
+        # Of three messages of one place one holds, another was typed again, and the third made anew.
+        entries = sorted((FORM.entry(self.first, [typed(50, 2, data)], OLD, length=1) for data in (b"b", b"c", b"d")),
+                         key=lambda entry: entry.hash)
+        for other, gives_way in (entries[1], True), (entries[2], False):
+            judge, recovered, again = Judge([*(row.entry for row in self.rows.values()), *entries]), Recovered(), entries[1]
+            for site, old in (60, again), (70, other):
+                author = Author(site.to_bytes(16, "big"), b"")
+                claim, (message,) = FORM.claim(site, author), old.messages
+                made = FORM.entry(claim, [typed(site, 1, message.data[-1:])], author)
+                said = Copied(OLD.name, 50, author.name, site, ((2, 1, 1),), made.hash)
+                word = FORM.copies(said, author, site) if site == 60 else FORM.copies(said, OLD, 50, old.hash)
+                for entry in claim, made, word:
+                    judge.add(entry)
+                recovered.add(word, site == 60)
+            judge.count()
+            self.assertEqual([is_hidden for _, is_hidden in recovered.made_here(judge)], [gives_way])
 
     def test_stretches(self) -> None:
         pairs = [(1, 5), (2, 6), (2, 7), (3, 8), (4, 0), (5, 0), (6, 9)]

@@ -1,11 +1,15 @@
 """People with real engines type at one note, over a server and over a log in a file, while at random engines, programs and
-servers are killed and stopped, disks fill, clocks go wrong, files are damaged, folders and servers are copied and put back:
-each word that some disk has stands once, at everybody.
+servers are killed and stopped, disks fill, clocks go wrong, files are damaged, folders and servers are copied, put back and
+exchanged: each word that some disk has stands once, at everybody; what was left out for good is told, and recover --lost brings
+it back.
 
     SHARE_STORM=200 SHARE_SEED=7 share/tests/run test_storm
     SHARE_STORM=50 SHARE_KINDS=kill,backup,snapshot share/tests/run test_storm
+
+Where `SHARE_KEEP` names a folder, all files of what went wrong are kept in it, to be looked at by share/tests/trace.py.
 """
 import os
+import pathlib
 import shutil
 import subprocess
 import unittest
@@ -15,7 +19,8 @@ from share.tests.support import Case
 
 ROUNDS = int(os.environ.get("SHARE_STORM", "0"))
 SEED = int(os.environ.get("SHARE_SEED", "1"))
-KINDS = ["kill", "stop", "stop_program", "stop_log", "kill_log", "lose_log", "dump", "backup", "twin", "snapshot", "rejoin",
+KEEP = os.environ.get("SHARE_KEEP")
+KINDS = ["kill", "stop", "stop_program", "stop_log", "kill_log", "lose_log", "dump", "exchange", "backup", "twin", "snapshot", "rejoin",
          "damage", "fill", "clock"]
 # What people of a note go through together before another note is begun, and how much they try in a round.
 ROUNDS_OF_A_NOTE, STEPS = (5, 60) if ROUNDS else (1, 30)
@@ -39,14 +44,20 @@ class Storms(Case):
         """Has people of one note go through some rounds."""
         self.disk()
         storm = Storm(self, seed, CHOSEN)
-        for one in storm.people:
-            one.open()
-        words = 0
-        for _ in range(rounds):
-            storm.round(STEPS)
-            words = len(storm.meet().split())
-        storm.printed()
-        print(f"seed {seed}: {rounds} rounds, {len(storm.told)} mishaps, {words} words", flush=True)
+        try:
+            for one in storm.people:
+                one.open()
+            words = 0
+            for _ in range(rounds):
+                storm.round(STEPS)
+                words = len(storm.meet().split())
+            storm.printed()
+        except AssertionError as why:
+            if KEEP:
+                storm.keep(pathlib.Path(KEEP, f"seed-{seed}"), str(why))
+            raise
+        print(f"seed {seed}: {rounds} rounds, {len(storm.told)} mishaps, {words} words, "
+              f"{storm.recovered} times typed again", flush=True)
 
     def test_rounds(self) -> None:
         faults = []
