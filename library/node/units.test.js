@@ -3,7 +3,6 @@
 // Positions in UTF-16 units against plain bytes, against positions in bytes, and against the program that plays scripts.
 const assert = require('assert');
 const { spawnSync } = require('child_process');
-const { existsSync } = require('fs');
 const path = require('path');
 
 const PACKAGE = process.env.VIALSHOAL_PACKAGE ?? '../out/node';
@@ -11,6 +10,7 @@ const { Refused, Text } = require(PACKAGE);
 const { Positions } = require(`${PACKAGE}/positions.js`);
 
 const PROGRAM = process.env.VIALSHOAL_PROGRAM ?? path.join(__dirname, '../../bin/built');
+const IS_BUILT = spawnSync(PROGRAM, ['--help']).status === 0;
 const ROUNDS = 400;
 // Whole characters of one to four bytes, and bytes that are of none until others stand beside them.
 const ATOMS = ['61', '6263', 'c3a9', 'e282ac', 'f09f9880', '80', 'e2', '82', 'ac', 'f09f', '9880', 'eda080', 'c0', 'c3', 'f490',
@@ -181,7 +181,7 @@ for (const block of [3, 2048]) {
     Positions.BLOCK = block;
     for (let seed = 1; seed <= ROUNDS; seed += 1) {
         const events = meet(drawn(seed));
-        if (seed % 40 === 0 && existsSync(PROGRAM)) playedByTheProgram(events);
+        if (seed % 40 === 0 && IS_BUILT) playedByTheProgram(events);
     }
 }
 
