@@ -1,6 +1,7 @@
 """The Debian package: the program, and the note in the terminal, Emacs, Neovim and the page, with the manual's pages."""
 from __future__ import annotations
 
+import hashlib
 import shutil
 from email.utils import formatdate
 from pathlib import Path
@@ -27,7 +28,8 @@ def make(release: Release, sources: Path, binaries: Binaries, room: Path, to: Pa
     program = folder / "crates" / PROGRAM / "out" / PROGRAM
     program.parent.mkdir(parents=True)
     shutil.copy(binaries.program(), program)
-    program.with_name(BUILT_FROM).write_text(f"{release.about}\n{release.proof}\n")
+    sums = f"{release.commit} {hashlib.sha256(program.read_bytes()).hexdigest()}"
+    program.with_name(BUILT_FROM).write_text(f"{release.about}\n{release.proof}\n{sums}\n")
     shutil.copytree(sources / "tools" / "packages" / "debian", folder / "debian")
     _fill(folder / "debian", release)
     words = ["dpkg-buildpackage", f"--host-arch={binaries.processor.debian}", "--build=any", "--no-sign", "--no-check-builddeps"]

@@ -26,6 +26,8 @@ def unpacked(trial: Trial) -> None:
     command: Words = [*trial.wish.processors[0].runs, folder / "usr/lib" / NAME / "crates/site_cli/out/site_cli"]
     for row in plain_rows():
         assert call(command, given=row.script.decode()) == row.expected.decode(), row.name
+    said = call([folder / "usr/lib" / NAME / "bin/built", "--version"])
+    assert said == f"{trial.release.about}\n{trial.release.proof}\n", said
 
 
 def installed(trial: Trial) -> None:
