@@ -1162,7 +1162,9 @@ The signal that ends Emacs may keep it from hearing that a process has."
        (lambda (line)
          (when (and (buffer-live-p history) (not (plist-get line :error)))
            (with-current-buffer history
-             (vialshoal-history--show line at))))
+             ;; Else another step was asked for since.
+             (when (= at vialshoal-history--at)
+               (vialshoal-history--show line at)))))
        :do "past" :at messages))))
 
 (defun vialshoal-history--as-past (left-out)

@@ -125,11 +125,15 @@
         (should (equal (get-text-property 2 'help-echo) "Bo"))
         (should-not (get-text-property 5 'help-echo))
         (should (equal (get-text-property 6 'help-echo) "you"))
-        (vialshoal-history-previous 1)
-        (with-current-buffer note
-          (vialshoal-support--take :id vialshoal--asked :answer "past" :at 1
-                                   :text "tea\n" :stretches []))
-        (should (equal (buffer-string) "tea\n"))
+        (dolist (goes-on '(t nil))
+          (vialshoal-history-previous 1)
+          (when goes-on
+            (vialshoal-history-next 1))
+          (with-current-buffer note
+            (vialshoal-support--take :id vialshoal--asked :answer "past" :at 1
+                                     :text "tea\n" :stretches []))
+          (should (equal (vialshoal-support--text)
+                         (if goes-on "lost\nhe\n" "tea\n"))))
         (kill-buffer)))))
 
 (ert-deftest vialshoal-test-point-and-region-stay ()

@@ -69,6 +69,10 @@ test('the history has what was left out', function()
   same({ { 0, 0, 0, 4 }, { 1, 0, 2, 0 } }, vim.tbl_map(function(mark)
     return { mark[2], mark[3], mark[4].end_row, mark[4].end_col }
   end, marks))
+  -- An answer that comes when another step is shown is late.
+  vim.api.nvim_feedkeys('pn', 'xt', false)
+  past()
+  same({ 'lost', 'hé', '' }, lines())
   vim.api.nvim_feedkeys('p', 'xt', false)
   past()
   same({ 'tea' }, lines())

@@ -90,8 +90,9 @@ local function browse(note, steps, left_out)
       api.nvim_echo({ { words(steps, left_out, at) } }, false, {})
       return
     end
+    local asked = at
     note:ask({ ['do'] = 'past', at = at == 0 and 0 or steps[at]['end'] }, function(answer)
-      if answer.text and api.nvim_buf_is_valid(buffer) then
+      if answer.text and asked == at and api.nvim_buf_is_valid(buffer) then
         show(buffer, answer)
         api.nvim_echo({ { words(steps, left_out, at) } }, false, {})
       end
