@@ -6,14 +6,15 @@ import time
 import unittest
 from unittest import mock
 
-from share import heard, presence
-from share.courier import Courier
-from share.heard import OF_BEFORE, Heard, Lack, Others, Said, Voices, Way
-from share.log import MOST_PRESENCE, ON_SECONDS
-from share.presence import Present, Shows
-from share.redis_log import RedisLog
-from share.redis_wire import Wire
-from share.sealing import NONCE_BYTES, TAG_BYTES
+from share.format import presence
+from share.format.presence import Present, Shows
+from share.format.sealed import NONCE_BYTES, TAG_BYTES
+from share.log.base import MOST_PRESENCE, ON_SECONDS
+from share.log.redis import RedisLog
+from share.log.resp import Wire
+from share.sync import heard
+from share.sync.heard import OF_BEFORE, Heard, Lack, Others, Said, Voices, Way
+from share.sync.replicator import Courier
 from share.tests.support import Case, damage, type_at_the_end, wait_for, written
 
 SOON = 20
@@ -47,7 +48,7 @@ class Words(unittest.TestCase):
         self.assertEqual([voices.hears(OTHER, count) for count in (5, 5, 4, 6, 5, 6, 9)],
                          [Heard.FIRST, Heard.NOTHING, Heard.NOTHING, Heard.MORE, Heard.NOTHING, Heard.NOTHING, Heard.MORE])
         self.assertFalse(voices.is_on(ME))
-        with mock.patch("share.heard.MOST_TOKENS", 3):
+        with mock.patch("share.sync.heard.MOST_TOKENS", 3):
             for number in range(3):
                 voices.hears(bytes([number]), 1)
             self.assertEqual(voices.hears(bytes([2]), 1), Heard.NOTHING)
@@ -63,10 +64,10 @@ class Words(unittest.TestCase):
 
     def test_who_says_nothing_new_is_off(self) -> None:
         others, now = Others(ME), time.monotonic()
-        with mock.patch("share.heard.time.monotonic", lambda: now):
+        with mock.patch("share.sync.heard.time.monotonic", lambda: now):
             others.heard([said(3, 0), said(1, 0, token=ME)])
             self.assertEqual(others.on, 2)
-        with mock.patch("share.heard.time.monotonic", lambda: now + ON_SECONDS + 1):
+        with mock.patch("share.sync.heard.time.monotonic", lambda: now + ON_SECONDS + 1):
             others.heard([said(3, 0), said(3, 0), said(2, 0)])
             self.assertEqual(others.on, 1)
             others.heard([said(4, 0)])
@@ -108,7 +109,7 @@ class OnAServer(Case):
         self.server = self.redis()
         self.wire = Wire(self.server.url)
         self.addCleanup(self.wire.close)
-        quick = mock.patch("share.courier.ON_SECONDS", 1)
+        quick = mock.patch("share.sync.replicator.ON_SECONDS", 1)
         quick.start()
         self.addCleanup(quick.stop)
         self.ann = self.opened(self.person("ann"), url=self.server.url)
