@@ -5,7 +5,7 @@ from collections.abc import Iterable, Sequence
 
 from share.admission.ledger import Ledger, Line
 from share.format.chunk import Run
-from share.format.operation import Names
+from share.text.names import Names
 
 
 class Chain:

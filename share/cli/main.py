@@ -23,10 +23,7 @@ from share.format.history import Messages
 from share.format.link import Link
 from share.program import retyping
 from share.program.process import TOP, make_ready
-from share.store import contents
-from share.store import nicknames
-from share.store import notes
-from share.store import renewal
+from share.store import contents, nicknames, notes, renewal
 from share.store.note_file import Unkept
 from share.sync.session import Bar, Session
 from share.text.errors import Refused, Trouble, counted

@@ -15,25 +15,20 @@ from share.cli import html
 from share.editors import client as clients
 from share.editors.terminal.keys import shown
 from share.engine import server
-from share.engine.protocol import Line
 from share.format import link as links
 from share.format.history import Messages
 from share.format.operation import INSERT, typed
-from share.program import replay
-from share.program import retyping
+from share.program import replay, retyping
 from share.program.process import make_ready
 from share.program.replay import Replays, Step, Wrote
 from share.program.site import Site
-from share.store import atomic
-from share.store import contents
-from share.store import nicknames
-from share.store import notes
-from share.store import read_only
+from share.store import atomic, contents, nicknames, notes, read_only
 from share.store.contents import Counted
 from share.sync.session import Bar, Session
 from share.text.errors import Trouble, counted
-from share.text.rope import shown as as_text
+from share.text.line import Line
 from share.text.rope import swapped
+from share.text.rope import shown as as_text
 
 NOTHING_DONE, MISSING = 1, 3
 # So many lines are compared one by one, which takes the third power of their number; more are one change.

@@ -8,12 +8,11 @@ from collections.abc import Callable, Iterator
 from contextlib import contextmanager
 from typing import Protocol
 
-from share.engine import protocol
-from share.engine import server
+from share.engine import protocol, server
 from share.engine.engine import Engine
-from share.engine.protocol import Line
 from share.sync.session import CLOSE_SECONDS, Session
 from share.text.errors import Trouble
+from share.text.line import Line
 
 # How long an engine may take for an answer, and a log for a number.
 ANSWER_SECONDS, NUMBER_SECONDS = 120.0, 5.0

@@ -12,10 +12,10 @@ from contextlib import suppress
 
 from share.editors.mirror import Mirror, Replacement
 from share.engine import protocol
-from share.engine.protocol import Line
 from share.sync.session import CLOSE_SECONDS, Bar, Status
 from share.text.change import Change, boundary, found
 from share.text.errors import Trouble
+from share.text.line import Line
 from share.text.rope import swapped
 from share.text.units import UNITS
 

@@ -5,11 +5,13 @@ from collections.abc import Callable
 
 from share.engine import protocol
 from share.engine.formatting import Dress
-from share.engine.protocol import Line, Wrong
+from share.engine.protocol import Wrong
 from share.engine.transform import Carrying
+from share.format import presence
 from share.program.replay import in_units
 from share.program.undo import Undoing
 from share.text.change import Change
+from share.text.line import Line
 from share.text.looks import told
 from share.text.rope import Measured
 from share.text.units import UNITS
@@ -70,7 +72,7 @@ class Peer:
         name, colour = request.get("name", ""), request.get("colour", "")
         if not isinstance(name, str) or not isinstance(colour, str) or colour and not protocol.COLOUR.fullmatch(colour):
             raise Wrong("field", "name has to be a string, and colour one as #3366cc.")
-        self.name, self.colour = protocol.clean_name(name) or self.name, colour or self.colour
+        self.name, self.colour = presence.clean_name(name) or self.name, colour or self.colour
         self.sees_looks = request.get("looks") is True
         return Carrying(units)
 

@@ -15,26 +15,25 @@ from share.engine import protocol
 from share.engine.editor import Peer
 from share.engine.formatting import Dress
 from share.engine.others import SHOW_SECONDS, Company
-from share.engine.protocol import MOST_LINE, Line, Wrong
+from share.engine.protocol import MOST_LINE, Wrong
 from share.format import presence
-from share.format.operation import MOST_RANGES, Message, Names, inserted
+from share.format.operation import MOST_RANGES, Message, inserted
 from share.format.presence import FRONT, Place, Present
 from share.log.base import Unreachable
-from share.program import replay
-from share.program import retyping
+from share.program import replay, retyping
 from share.program.replay import Past, Replays, Wrote
 from share.program.site import SLICE, Edited, Site, Told
 from share.program.undo import Step, do, looks_of
-from share.store import atomic
-from share.store import nicknames
+from share.store import atomic, nicknames
 from share.store.note_file import Damaged, Unkept
 from share.store.renewal import telling
 from share.sync.session import Session, Status
 from share.text.change import Change, change
 from share.text.delta import Op, in_text, of_changes
 from share.text.errors import Refused, Trouble
+from share.text.line import Line
 from share.text.looks import COLOURS, Looked, setting
-from share.text.names import united
+from share.text.names import Names, united
 from share.text.rope import Measured, Outside, Split, shown, swapped
 from share.text.units import Units
 

@@ -1,9 +1,10 @@
 """The looks that editors are shown of a note, and when the program is to be asked for them anew."""
 import time
 
+from share.format.operation import may_dress
 from share.program.site import SLICE, Site
 from share.text.change import Change
-from share.text.looks import Dressed, dressed, may_dress
+from share.text.looks import Dressed, dressed
 
 # So many stretches of a note are shown in looks, from the front on.
 MOST_STRETCHES = 20_000

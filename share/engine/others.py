@@ -3,12 +3,12 @@ import time
 from collections.abc import Callable, Sequence
 from dataclasses import dataclass
 
-from share.engine.protocol import Line
 from share.format import presence
-from share.format.operation import Names
 from share.format.presence import FRONT, Place, Present
 from share.program.site import Site
 from share.text.change import Change
+from share.text.line import Line
+from share.text.names import Names
 
 # What editors show of themselves is looked at so often.
 SHOW_SECONDS = 0.1

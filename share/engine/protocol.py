@@ -1,23 +1,18 @@
 """Lines of the engine's protocol, and what is wrong with one."""
 import json
 import re
-from typing import Any
 
-from share.format.operation import MOST_COLOUR
-
-Line = dict[str, Any]
+from share.text.line import Line
+from share.text.looks import MOST_COLOUR
 
 # A line has so many bytes at most.
 MOST_LINE = 1 << 25
 # An edit has so many changes at most, which take some seconds.
 MOST_CHANGES = 50_000
-MOST_NAME = 40
 # Greater numbers aren't the same in all languages.
 MOST_NUMBER = 2**53 - 1
 MOST_ID = 64
 COLOUR = re.compile(r"#[0-9a-fA-F]{6}")
-# What a name doesn't have: controls, and what turns the direction of writing for all that follows.
-_NO_NAME = re.compile("[\0-\x1f\x7f-\x9f\u061c\u200e\u200f\u2028-\u202e\u2066-\u2069\ud800-\udfff]")
 
 
 class Wrong(Exception):
@@ -114,6 +109,3 @@ def _is_replacement(one: object) -> bool:
             and max(abs(begin), abs(end)) <= MOST_NUMBER)
 
 
-def clean_name(name: str) -> str:
-    """A person's name as it may be shown anywhere."""
-    return _NO_NAME.sub("", name).strip()[:MOST_NAME]

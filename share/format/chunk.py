@@ -10,10 +10,11 @@ from collections.abc import Iterator, Sequence
 from functools import lru_cache
 from typing import NamedTuple
 
-from share.text.looks import DEFAULT_BYTES
-from share.format.operation import (CHANGE_LOOKS, DELETE, GREATEST_STAMP, HEADER, INSERT, INSERTION, LENGTH, MOST_COLOUR, MOST_INSERTED,
-                           MOST_OF_A_SITE, MOST_RANGES, RANGE, RESTORE, TAG, TEXT, Message, Names, begin_of_ranges, is_font,
-                           mentioned)
+from share.format.operation import (CHANGE_LOOKS, DEFAULT_BYTES, DELETE, GREATEST_STAMP, HEADER, INSERT, INSERTION, LENGTH,
+                                    MOST_INSERTED, MOST_OF_A_SITE, MOST_RANGES, RANGE, RESTORE, TAG, TEXT, Message, begin_of_ranges,
+                                    is_font, mentioned)
+from share.text.looks import MOST_COLOUR
+from share.text.names import Names
 
 # What a chunk begins with: its tag and its text.
 BEGIN = b"OTC1" + TEXT.to_bytes(2, "big")

@@ -47,7 +47,7 @@ from typing import NamedTuple
 from share.format import chunk
 from share.format.chunk import GREATEST_SEQ, UNFOLDED, NoChunk, Run, Writer, number_of, of_message, packed
 from share.format.operation import Message, is_spelled, length_after
-from share.log.base import MOST_PRESENCE
+from share.format.presence import MOST_PRESENCE
 
 HEAD = struct.Struct(">BB16sHIH32s")
 LENGTH = struct.Struct(">H")

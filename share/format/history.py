@@ -6,7 +6,8 @@ from collections.abc import Iterable, Iterator, Sequence
 from itertools import chain, islice
 from typing import NamedTuple, Protocol, overload
 
-from share.format.chunk import Run, Writer, of_message, runs as runs_in
+from share.format.chunk import Run, Writer, of_message
+from share.format.chunk import runs as runs_in
 from share.format.operation import Message
 
 # A chunk of fewer messages is handed in with others, since the program takes some lines alone.

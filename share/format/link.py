@@ -10,8 +10,8 @@ import hashlib
 import os
 import re
 from typing import Literal, NamedTuple
+from urllib.parse import urlsplit
 
-from share.log.base import is_network
 from share.text.errors import Trouble
 
 FormName = Literal["plain", "sealed"]
@@ -122,3 +122,8 @@ def _secret(form: FormName, spelled: str) -> bytes:
 
 def _check(form: FormName, secret: bytes) -> bytes:
     return hashlib.blake2b(secret, digest_size=CHECK_BYTES, person=f"vialshoal {form[0]}".encode()).digest()
+
+
+def is_network(url: str) -> bool:
+    """Whether a log's URL is that of a server, to which nothing goes unsealed."""
+    return urlsplit(url).scheme in ("redis", "rediss", "unix")

@@ -7,6 +7,9 @@ import struct
 from collections.abc import Iterable, Iterator
 from typing import NamedTuple
 
+from share.text.looks import LONGEST_FONT, MOST_COLOUR
+from share.text.names import Names
+
 TEXT = 1
 INSERT, DELETE, CHANGE_LOOKS, RESTORE = 1, 2, 3, 4
 GREATEST_STAMP = 2**48 - 1
@@ -15,7 +18,6 @@ LONGEST_MESSAGE = 10_297
 MOST_OF_A_SITE = 2**24
 # One message has so many bytes of an insertion at most, and so many ranges.
 MOST_INSERTED, MOST_RANGES = 4_096, 1_024
-LONGEST_FONT, MOST_COLOUR = 31, 15
 
 HEADER = struct.Struct(">2sBBHHIQ")
 # The cause, where it begins, and how long its font is.
@@ -25,6 +27,8 @@ RANGE = struct.Struct(">HII")
 TAG = b"OT"
 FONT_BYTES = frozenset(b"ABCDEFGHIJKLMNOPQRSTUVWXYZabcdefghijklmnopqrstuvwxyz0123456789.")
 LETTERS = frozenset(b"ABCDEFGHIJKLMNOPQRSTUVWXYZabcdefghijklmnopqrstuvwxyz")
+# The looks of a plain character, as an insertion has them.
+DEFAULT_BYTES = b"\x10Oberon10.Scn.Fnt\x01\x00"
 
 
 class Message(NamedTuple):
@@ -43,14 +47,6 @@ class Message(NamedTuple):
             raise ValueError("no message")
         _, _, kind, _, site, seq, stamp = HEADER.unpack_from(data)
         return cls(site, seq, stamp, kind, data)
-
-
-class Names(NamedTuple):
-    """The names of a stretch of a site's file."""
-
-    site: int
-    at: int
-    length: int
 
 
 def is_spelled(data: bytes) -> bool:
@@ -109,6 +105,13 @@ def length_after(messages: Iterable[Message], length: int) -> int:
     for names in filter(None, map(inserted, messages)):
         length = names.at + names.length
     return length
+
+
+def may_dress(message: bytes) -> bool:
+    """Whether after a message there can be looks where there were none: it sets some, or brings characters back."""
+    if message[3] == INSERT:
+        return not message.startswith(DEFAULT_BYTES, HEADER.size + INSERTION.size - 1)
+    return message[3] in (CHANGE_LOOKS, RESTORE)
 
 
 def begin_of_ranges(data: bytes) -> int:

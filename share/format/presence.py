@@ -4,19 +4,24 @@ It goes through the log beside the entries, is kept nowhere, and is sealed where
 the note's link could say it as well, so nothing hangs on it. A cursor is the character before it, by its name.
 
 As it is sent a count that only rises stands in the second half of the engine's token, so that what was said before and is
-put into the log again, under whatever name, is known to be nothing (heard.py). What versions of before say has no count.
+put into the log again, under whatever name, is known to be nothing (sync/heard.py). What versions of before say has no count.
 """
+import re
 import struct
-from collections.abc import Iterable
 from typing import NamedTuple
 
-from share.engine.protocol import clean_name
-from share.sync.heard import RANDOM_BYTES, TOKEN_BYTES, Heard, Voices
 
+TOKEN_BYTES = 16
+# Of a token the first bytes are random, and the others zeros.
+RANDOM_BYTES = 8
 # The engine's token and the editor's, the site, the colour, which places there are, the cursor and the other end of
 # a selection; then the name. A place before all characters is (0, 0).
 FORM = struct.Struct(">16s16sH3sBHIHI")
-MOST_NAME_BYTES = 160
+# All that is said has this many bytes at most.
+MOST_PRESENCE = 256
+MOST_NAME, MOST_NAME_BYTES = 40, 160
+# What a name doesn't have: controls, and what turns the direction of writing for all that follows.
+_NO_NAME = re.compile("[\0-\x1f\x7f-\x9f\u061c\u200e\u200f\u2028-\u202e\u2066-\u2069\ud800-\udfff]")
 HAS_CURSOR, HAS_ANCHOR = 1, 2
 # Zeros, which a token of versions of before doesn't have there, and the count.
 COUNT = struct.Struct(">II")
@@ -57,6 +62,11 @@ def read(data: bytes) -> Present | None:
                    clean_name(data[FORM.size:].decode("utf-8", "ignore")))
 
 
+def clean_name(name: str) -> str:
+    """A person's name as it may be shown anywhere."""
+    return _NO_NAME.sub("", name).strip()[:MOST_NAME]
+
+
 def _is_place(place: Place) -> bool:
     return place == FRONT or place[0] > 0 and place[1] < 2**24
 
@@ -64,26 +74,3 @@ def _is_place(place: Place) -> bool:
 def counted(data: bytes, count: int) -> bytes:
     """What an editor says, with a count."""
     return data[:RANDOM_BYTES] + COUNT.pack(0, count) + data[TOKEN_BYTES:]
-
-
-class Shows:
-    """What others' editors show of themselves."""
-
-    def __init__(self, engine: bytes) -> None:
-        self._engine, self._voices = engine[:RANDOM_BYTES], Voices()
-        self._now: dict[bytes, bytes] = {}
-
-    def heard(self, said: Iterable[bytes]) -> list[bytes]:
-        """Takes over what all say who are on; what each editor of others has said last. What was said before that, or comes
-        again once its editor has left, is nothing."""
-        now: dict[bytes, bytes] = {}
-        for data in said:
-            if not FORM.size <= len(data) <= FORM.size + MOST_NAME_BYTES or data.startswith(self._engine):
-                continue
-            zeros, count = COUNT.unpack_from(data, RANDOM_BYTES)
-            token = data[:RANDOM_BYTES] + data[TOKEN_BYTES:2 * TOKEN_BYTES]
-            is_new = bool(zeros) or self._voices.hears(token, count) is not Heard.NOTHING
-            if is_new or token not in now and self._now.get(token) == data and self._voices.is_on(token):
-                now[token] = data
-        self._now = now
-        return [data if COUNT.unpack_from(data, RANDOM_BYTES)[0] else counted(data, 0) for data in now.values()]

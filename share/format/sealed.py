@@ -18,7 +18,7 @@ from collections.abc import Sequence
 from concurrent.futures import ThreadPoolExecutor
 
 from share.format.entry import Author, Bad, Entry, Form
-from share.log.base import MOST_PRESENCE
+from share.format.presence import MOST_PRESENCE
 from share.text.errors import Trouble
 
 try:

@@ -8,7 +8,8 @@ import pathlib
 from abc import ABC, abstractmethod
 from collections.abc import Sequence
 from typing import NamedTuple
-from urllib.parse import urlsplit
+
+from share.format.link import is_network
 
 # The place before all entries.
 START = ""
@@ -16,8 +17,6 @@ START = ""
 PAGE = 2_000
 # An editor counts as on for so many seconds after it has last said so.
 ON_SECONDS = 15
-# What an editor says of itself has so many bytes at most.
-MOST_PRESENCE = 256
 
 
 class Unreachable(Exception):
@@ -76,11 +75,6 @@ class Log(ABC):
     @abstractmethod
     def close(self) -> None:
         """Lets go of the log."""
-
-
-def is_network(url: str) -> bool:
-    """Whether a log's URL is that of a server, to which nothing goes unsealed."""
-    return urlsplit(url).scheme in ("redis", "rediss", "unix")
 
 
 def open_log(url: str, note: bytes, password: str | None = None) -> Log:

@@ -8,7 +8,8 @@ import time
 from collections.abc import Iterator, Sequence
 
 from share.format.entry import MOST_BYTES, Kind
-from share.log.base import MOST_PRESENCE, ON_SECONDS, PAGE, START, Carried, Log, Lost
+from share.format.presence import MOST_PRESENCE
+from share.log.base import ON_SECONDS, PAGE, START, Carried, Log, Lost
 from share.log.resp import Answer, TooLong, Wire
 
 # An append has so many bytes, and a reading, and each entry in it so many beside its own.

@@ -12,7 +12,8 @@ from collections.abc import Iterator, Sequence
 from urllib.parse import quote
 
 from share.format.entry import HEAD, MOST_BYTES, NOTE_BYTES, digest
-from share.log.base import MOST_PRESENCE, ON_SECONDS, PAGE, START, Carried, Log, Lost, Unreachable
+from share.format.presence import MOST_PRESENCE
+from share.log.base import ON_SECONDS, PAGE, START, Carried, Log, Lost, Unreachable
 from share.log.bounded import Bound
 from share.text.errors import Trouble
 

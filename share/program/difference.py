@@ -12,9 +12,10 @@ from typing import NamedTuple
 
 from share.admission.ledger import Line
 from share.format.history import Messages
-from share.format.operation import Names, inserted
+from share.format.operation import inserted
 from share.program.site import Site
 from share.text.change import Change, make
+from share.text.names import Names
 
 # Where more stretches than this differ, they aren't told one by one.
 MOST_CHANGES = 2_000

@@ -5,10 +5,11 @@ from collections.abc import Iterable, Iterator
 from typing import NamedTuple
 
 from share.format.chunk import Run, Writer
-from share.format.operation import CHANGE_LOOKS, INSERT, Message, Names, names_of
+from share.format.operation import CHANGE_LOOKS, INSERT, Message, names_of
 from share.program.process import Program, characters
 from share.text.change import Change
 from share.text.errors import Trouble
+from share.text.names import Names
 
 
 # So many letters that were typed one after the other are handed in and told as one.

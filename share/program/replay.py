@@ -7,11 +7,12 @@ from typing import NamedTuple, TypeVar
 
 from share.format.chunk import Run
 from share.format.history import Messages
-from share.format.operation import CHANGE_LOOKS, DELETE, INSERT, RESTORE, Names
+from share.format.operation import CHANGE_LOOKS, DELETE, INSERT, RESTORE
 from share.program.site import Site
 from share.text.change import boundary
 from share.text.errors import Trouble
 from share.text.looks import Dressed
+from share.text.names import Names
 from share.text.rope import Measured
 from share.text.units import Units
 

@@ -6,23 +6,23 @@ stands after the characters after which it was typed, as far as these are there,
 before it was left out is deleted again, and its looks are given again; what its authors did to other text isn't done
 again.
 """
-from bisect import bisect_left, bisect_right, insort
+from bisect import bisect_left, bisect_right
 from collections.abc import Iterable, Mapping, Sequence, Set
 from contextlib import closing
 from typing import NamedTuple
 
 from share.admission.judge import Judge, rank
 from share.admission.left_out import LeftOut
-from share.engine.protocol import Line
 from share.format.entry import Author, Copied, Copy, Entry, Form
-from share.format.operation import Message, Names, inserted, mentioned, typed
+from share.format.operation import Message, inserted, mentioned, typed
 from share.program.effects import Stretch
 from share.program.site import Edited, Site, one_by_one
 from share.text.errors import Refused, counted
+from share.text.line import Line
 from share.text.looks import DEFAULT, Dressed, Looks, dressed
-from share.text.names import Name, united, without
-from share.text.rope import shown as as_text
+from share.text.names import Name, Names, united, without
 from share.text.rope import swapped
+from share.text.rope import shown as as_text
 
 # A number may have been claimed, or a place taken, by several that lost: so often what was left out is looked at anew.
 MOST_VIEWS = 8

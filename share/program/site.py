@@ -12,14 +12,14 @@ from typing import NamedTuple
 
 from share.format.chunk import Run as Typed
 from share.format.history import Messages
-from share.format.operation import MOST_RANGES, Message, Names
+from share.format.operation import MOST_RANGES, Message
 from share.program.effects import Stretch, answered, asking, count, stretches, told, told_as_one
 from share.program.intake import Coming
 from share.program.process import MOST_LINES, Ended, Program, escaped, shown
 from share.text.change import Change, boundary
 from share.text.errors import Trouble
 from share.text.looks import Looks, Run, in_words
-from share.text.names import halves, united
+from share.text.names import Names, halves, united
 
 # One message has so many bytes of an insertion at most.
 MOST_BYTES = 4_096

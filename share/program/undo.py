@@ -4,10 +4,10 @@ from collections.abc import Iterable, Iterator
 from dataclasses import dataclass, field
 from itertools import accumulate, chain
 
-from share.format.operation import INSERT, Message, Names, names_of
+from share.format.operation import INSERT, Message, names_of
 from share.program.site import Edited, Site, Told, one_by_one
 from share.text.looks import Looked, Looks
-from share.text.names import united, without
+from share.text.names import Names, united, without
 
 
 @dataclass

@@ -3,21 +3,16 @@ from contextlib import closing
 from typing import NamedTuple
 
 from share.admission.judge import Judge
-from share.engine.protocol import Line
 from share.format.history import Messages
 from share.format.link import Link
-from share.program import replay
-from share.program import retyping
+from share.program import replay, retyping
 from share.program.site import Site
-from share.store import nicknames
-from share.store import notes
-from share.store import read_only
-from share.store import renewal
+from share.store import nicknames, notes, read_only, renewal
 from share.store.note_file import About
-from share.store.read_only import Judged, Own, Shown
+from share.store.read_only import Judged, Own, Shown, uncollected
 from share.store.with_log import with_log
-from share.sync.state import uncollected
 from share.text.errors import Trouble
+from share.text.line import Line
 
 
 class Counted(NamedTuple):

@@ -8,8 +8,8 @@ import os
 import secrets
 from contextlib import suppress
 
-from share.engine.protocol import clean_name
 from share.format.entry import GREATEST_SITE
+from share.format.presence import clean_name
 from share.store import notes
 
 SUFFIX = ".people"

@@ -19,7 +19,7 @@ from typing import NamedTuple
 
 from share.store import unchanged
 from share.format.entry import (CHUNKS, HEAD, MOST_AUTHOR_BYTES, NO_HASH, NOTE_BYTES, Author, Bad, Copy, Entry, Form, Kind, Plain,
-                         digest)
+                                digest)
 from share.admission.ledger import Row
 from share.format.keystrokes import Keystrokes
 from share.store.unchanged import Inode, inode_of

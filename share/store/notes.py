@@ -14,13 +14,12 @@ from share.admission.ledger import Row
 from share.admission.left_out import LeftOut
 from share.format.entry import GREATEST_SITE, NOTE_BYTES, Entry, Form, in_entries
 from share.format.history import Messages
-from share.format.link import Link
+from share.format.link import Link, is_network
 from share.format.operation import Message, length_after
-from share.log.base import Unreachable, is_network
+from share.log.base import Unreachable
 from share.program import retyping
 from share.program.site import is_full
-from share.store import old
-from share.store import read_only
+from share.store import old, read_only
 from share.store.note_file import About, Client, Damaged, Disk, make
 from share.store.old import Old
 from share.store.renewal import say_so

@@ -1,6 +1,7 @@
 """Reads notes' files and changes nothing: for printing, for links, and to bring a note back from what is left of
 its files."""
 import contextlib
+import gc
 import pathlib
 import sqlite3
 import struct
@@ -237,3 +238,15 @@ def _read(path: pathlib.Path, copy: pathlib.Path, read: Callable[[sqlite3.Connec
         raise Trouble(f"{path} is damaged, or isn't a note's file ({why}).") from why
     except Damaged as why:
         raise Trouble(f"{path} is damaged ({why}).") from why
+
+
+@contextlib.contextmanager
+def uncollected() -> Iterator[None]:
+    """Has Python look for no garbage meanwhile, which takes as long as all the rest where a long history is read, nor
+    later in what was read, which stays."""
+    gc.disable()
+    try:
+        yield
+    finally:
+        gc.enable()
+        gc.freeze()

@@ -10,15 +10,17 @@ from contextlib import closing, suppress
 from typing import NamedTuple
 
 from share.admission.judge import Judge
-from share.engine.protocol import Line, clean_name
 from share.format.chunk import Run as Typing
 from share.format.history import Messages
-from share.format.operation import INSERT, Message, Names
+from share.format.operation import INSERT, Message
+from share.format.presence import clean_name
 from share.log.base import Lost, Unreachable, open_log
 from share.program.site import Site, split
 from share.store.note_file import Damaged, Disk, Unkept
 from share.text.errors import Trouble, counted
+from share.text.line import Line
 from share.text.looks import Run
+from share.text.names import Names
 
 # The number of a site by which is only looked.
 LOOKING = 1

@@ -5,7 +5,8 @@ from contextlib import ExitStack, closing, contextmanager
 
 from share.admission.ledger import Row
 from share.format.entry import Bad, digest
-from share.log.base import START, Carried, Log, Lost, Unreachable, is_network, open_log
+from share.format.link import is_network
+from share.log.base import START, Carried, Log, Lost, Unreachable, open_log
 from share.store.old import copied
 from share.store.read_only import Faults, Judged
 from share.text.errors import Trouble, entries

@@ -4,82 +4,18 @@ Who can write to the log can put there again what was said before, under any nam
 count that only rises, inside what is sealed: what isn't above the greatest that was heard under its token is nothing.
 What has passed since can't be told from what is said to somebody who has just come; so what is heard first under a
 token asks for nothing.
-
-A courier says two things. One is what versions of before say and hear: a token, and how often it has asked. They read
-the whole log for it. The other one, of a length that those versions pass over, has besides which entries are lacked: by
-their hashes, or by that of the entry before them. Who has just these gives them again. Since a token of this version
-ends in zeros, the first of the two is known to be said for versions of before alone.
 """
-import secrets
-import struct
 import time
 from collections.abc import Iterable, Sequence
 from enum import IntEnum
 from typing import NamedTuple
 
+from share.format.heartbeat import OF_BEFORE, Lack, Said, is_of_now, read
+from share.format.presence import COUNT, FORM, MOST_NAME_BYTES, RANDOM_BYTES, TOKEN_BYTES, counted
 from share.log.base import ON_SECONDS
 
-TOKEN_BYTES = 16
-# Of a token the first bytes are random, and the others zeros.
-RANDOM_BYTES = 8
-OF_BEFORE = struct.Struct(">16sI")
-# The token, the count, how often it has asked; then what it lacks.
-HEAD, LACK = struct.Struct(">16sII"), struct.Struct(">B32s")
-MOST_LACKS = 5
-# No version of before takes anything of this length for something that it knows, and it fits when it is sealed.
-BYTES = 216
 # So many tokens are remembered; the one that was silent longest is forgotten first.
 MOST_TOKENS = 4_096
-
-
-class Way(IntEnum):
-    """How an entry that is lacked is named: by its own hash, or by that of the entry before it."""
-
-    IT = 1
-    AFTER = 2
-
-
-class Lack(NamedTuple):
-    """An entry that is lacked."""
-
-    way: Way
-    hash: bytes
-
-
-class Said(NamedTuple):
-    """What a courier of this version has said."""
-
-    token: bytes
-    number: int
-    asks: int
-    lacks: Sequence[Lack]
-
-
-def new_token() -> bytes:
-    """A token that nobody else has."""
-    return secrets.token_bytes(RANDOM_BYTES).ljust(TOKEN_BYTES, b"\0")
-
-
-def is_of_now(token: bytes) -> bool:
-    """Whether a token is that of a courier of this version."""
-    return not any(token[RANDOM_BYTES:])
-
-
-def written(one: Said) -> bytes:
-    """What a courier says, as bytes."""
-    lacks = b"".join(LACK.pack(*lack) for lack in one.lacks[:MOST_LACKS])
-    # Of one length, so that a server's operator can't tell who lacks something.
-    return (HEAD.pack(one.token, one.number, one.asks) + lacks).ljust(BYTES, b"\0")
-
-
-def read(data: bytes) -> Said | None:
-    """What a courier has said; None where these bytes are something else."""
-    if len(data) != BYTES:
-        return None
-    ways, end = {int(way): way for way in Way}, HEAD.size + MOST_LACKS * LACK.size
-    lacks = [Lack(ways[way], of) for way, of in LACK.iter_unpack(data[HEAD.size:end]) if way in ways]
-    token, number, asks = HEAD.unpack_from(data)
-    return Said(token, number, asks, lacks)
 
 
 class Heard(IntEnum):
@@ -151,3 +87,26 @@ class Others:
         if self._voices.is_on(one.token):
             on.add(one.token)
         return one.lacks if is_more and self._asking.hears(one.token, one.asks) is Heard.MORE else ()
+
+
+class Shows:
+    """What others' editors show of themselves."""
+
+    def __init__(self, engine: bytes) -> None:
+        self._engine, self._voices = engine[:RANDOM_BYTES], Voices()
+        self._now: dict[bytes, bytes] = {}
+
+    def heard(self, said: Iterable[bytes]) -> list[bytes]:
+        """Takes over what all say who are on; what each editor of others has said last. What was said before that, or comes
+        again once its editor has left, is nothing."""
+        now: dict[bytes, bytes] = {}
+        for data in said:
+            if not FORM.size <= len(data) <= FORM.size + MOST_NAME_BYTES or data.startswith(self._engine):
+                continue
+            zeros, count = COUNT.unpack_from(data, RANDOM_BYTES)
+            token = data[:RANDOM_BYTES] + data[TOKEN_BYTES:2 * TOKEN_BYTES]
+            is_new = bool(zeros) or self._voices.hears(token, count) is not Heard.NOTHING
+            if is_new or token not in now and self._now.get(token) == data and self._voices.is_on(token):
+                now[token] = data
+        self._now = now
+        return [data if COUNT.unpack_from(data, RANDOM_BYTES)[0] else counted(data, 0) for data in now.values()]

@@ -9,9 +9,9 @@ from itertools import chain
 from typing import NamedTuple
 
 from share.format.entry import Author, Copied, Copy, Entry, Form
-from share.format.operation import DELETE, RESTORE, Message, Names, inserted, mentioned
+from share.format.operation import DELETE, RESTORE, Message, inserted, mentioned
 from share.sync.state import Holdings
-from share.text.names import Name, united, without
+from share.text.names import Name, Names, united, without
 
 
 class Wanted(NamedTuple):

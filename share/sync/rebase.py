@@ -13,7 +13,7 @@ from typing import NamedTuple
 from share.admission.judge import Judge
 from share.admission.ledger import Row
 from share.format.entry import Copy, Entry, Form, Kind
-from share.format.operation import CHANGE_LOOKS, DELETE, RESTORE, Message, Names, inserted, mentioned
+from share.format.operation import CHANGE_LOOKS, DELETE, RESTORE, Message, inserted, mentioned
 from share.program.effects import Stretch
 from share.program.site import Edited, Site
 from share.program.undo import looks_of
@@ -22,7 +22,7 @@ from share.sync.standing import said
 from share.sync.state import Holdings, Lost, who
 from share.text.errors import Trouble
 from share.text.looks import DEFAULT, Dressed, dressed
-from share.text.names import Name, united, without
+from share.text.names import Name, Names, united, without
 
 # So many stretches in looks are looked at.
 MOST_DRESSED = 20_000

@@ -9,15 +9,15 @@ from collections.abc import Callable, Iterable, Sequence
 from contextlib import closing
 from itertools import count
 
-from share.format import presence
+from share.format import heartbeat, presence
 from share.format.entry import NOT_UNDER_A_NUMBER, SAY_WHAT_BECAME, Bad, Entry, Form, Kind, before_of, digest
-from share.format.presence import Shows
-from share.log.base import Carried as InLog
+from share.format.heartbeat import MOST_LACKS, OF_BEFORE, Lack, Said, Way, new_token
+from share.format.presence import RANDOM_BYTES
 from share.log.base import ON_SECONDS, START, Log, Lost, Unreachable
+from share.log.base import Carried as InLog
 from share.store.note_file import Damaged, Disk, Place, Unkept
-from share.sync import heard
 from share.sync.carried import Carried
-from share.sync.heard import MOST_LACKS, OF_BEFORE, RANDOM_BYTES, Lack, Others, Said, Way, new_token
+from share.sync.heard import Others, Shows
 from share.text.errors import Trouble, entries
 
 # After so many seconds a log that couldn't be reached is tried again.
@@ -334,7 +334,7 @@ class Courier:
         """Says that this editor is on, and what it lacks; hears who else is, and gives what they lack."""
         self._ask_for_more()
         mine = Said(self._token, next(self._counts), self._asks, self._lacks)
-        log.meet(self._token[:RANDOM_BYTES] + ASKING, self._form.presence(heard.written(mine)))
+        log.meet(self._token[:RANDOM_BYTES] + ASKING, self._form.presence(heartbeat.written(mine)))
         said = log.meet(self._token, self._form.presence(OF_BEFORE.pack(self._token, self._asks)))
         asked = self._others.heard(found for raw in said if (found := self._form.present(raw)))
         for one in asked.lacks[:MOST_WANTED - len(self._wanted)]:

@@ -10,11 +10,11 @@ from typing import TypeVar
 from share.admission import ledger
 from share.admission.judge import Counted
 from share.admission.ledger import Row
-from share.engine.protocol import Line
 from share.format.entry import Copy, Entry, Kind, in_entries
 from share.format.history import Messages, Part
+from share.format.link import is_network
 from share.format.operation import Message, length_after
-from share.log.base import is_network, open_log
+from share.log.base import open_log
 from share.program import retyping
 from share.program.difference import Shown, differences, shown_by
 from share.program.intake import Coming, Pace
@@ -22,7 +22,7 @@ from share.program.retyping import Lost
 from share.program.site import SLICE, Edited, Progress, Site, Told, is_nearly_full
 from share.store import snapshot
 from share.store.note_file import Anew, Changed, Client, Damaged, Disk, Overtaken, Unkept, make
-from share.store.read_only import found_in
+from share.store.read_only import found_in, uncollected
 from share.store.renewal import renewed_by
 from share.store.unchanged import inode_of
 from share.sync.backoff import Turns, seconds_for_others, told_of_edits, told_of_numbers
@@ -31,9 +31,10 @@ from share.sync.numbers import FULL, READING, Numbers
 from share.sync.rebase import Remade, at_once, length_of, make_anew, with_claims
 from share.sync.replicator import Courier
 from share.sync.standing import Who
-from share.sync.state import Holdings, uncollected, who
+from share.sync.state import Holdings, who
 from share.text.change import Change, change
 from share.text.errors import NEWER, Trouble, counted, entries
+from share.text.line import Line
 
 # How long opening waits for a log that answers, and closing for what isn't sent.
 OPEN_SECONDS = CLOSE_SECONDS = 3

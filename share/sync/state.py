@@ -1,8 +1,6 @@
 """What a note's file has, in memory: all entries, the numbers of this person, and what counts of it."""
-import gc
 import math
 from collections.abc import Collection, Iterable, Iterator, Mapping, Sequence
-from contextlib import contextmanager
 from itertools import chain, takewhile
 from typing import NamedTuple
 
@@ -27,18 +25,6 @@ class Lost(NamedTuple):
 
     entry: Entry
     messages: list[Message]
-
-
-@contextmanager
-def uncollected() -> Iterator[None]:
-    """Has Python look for no garbage meanwhile, which takes as long as all the rest where a long history is read, nor
-    later in what was read, which stays."""
-    gc.disable()
-    try:
-        yield
-    finally:
-        gc.enable()
-        gc.freeze()
 
 
 def who(one: Client | Entry) -> Who:

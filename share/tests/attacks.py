@@ -18,9 +18,9 @@ from typing import NamedTuple
 from share.format import chunk
 from share.format.chunk import Run
 from share.format.entry import GREATEST_SITE, HEAD, MOST_BYTES, Author, Bad, Entry, Form, Kind, digest
-from share.format.operation import DELETE, INSERT, MOST_RANGES, Names
-from share.sync.heard import OF_BEFORE
-from share.text.looks import DEFAULT_BYTES
+from share.format.heartbeat import OF_BEFORE
+from share.format.operation import DEFAULT_BYTES, DELETE, INSERT, MOST_RANGES
+from share.text.names import Names
 
 # Of what somebody types at the front so many letters fit an entry, each by itself; of what is typed on, so many.
 AT_THE_FRONT, TYPED = 5_300, 15_900

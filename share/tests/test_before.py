@@ -3,7 +3,6 @@ wrote: the files of two people, whose editors were killed with edits that weren'
 that they showed; `both` is what that version shows of all of it."""
 import contextlib
 import json
-import os
 import pathlib
 import shutil
 import subprocess

@@ -7,13 +7,14 @@ from unittest import mock
 
 from share.editors.mirror import Mirror
 from share.engine import transform
-from share.engine.protocol import Line, Wrong
+from share.engine.protocol import Wrong
 from share.engine.transform import Carrying
-from share.format.operation import Names
 from share.program.undo import united, without
 from share.text import rope
 from share.text.change import Change, boundary
 from share.text.delta import carried_over, composed, growth, in_text, in_turn, moved, of_changes
+from share.text.line import Line
+from share.text.names import Names
 from share.text.rope import Measured, Outside, Split, shown, swapped
 from share.text.units import UNITS, Units
 

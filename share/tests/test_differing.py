@@ -6,11 +6,11 @@ import unittest
 from share.admission.judge import Judge
 from share.format.entry import Entry, Plain
 from share.format.history import Messages
-from share.format.operation import Message, Names, inserted
+from share.format.operation import Message, inserted
 from share.program.difference import Shown, differences, shown_by
 from share.program.site import Site
 from share.tests.support import Carried
-from share.text.names import Name
+from share.text.names import Name, Names
 
 SITES = (1, 2, 3)
 

@@ -18,7 +18,7 @@ from typing import Any
 
 from share.store import atomic
 from share.editors.terminal.keys import (ESCAPE_SECONDS, LONGEST_PASTE, PASTE_LOST_SECONDS, PASTE_QUIET_SECONDS,
-                            SEQUENCE_SECONDS, Event, Key, Keyboard, Pasted, shown)
+                                         SEQUENCE_SECONDS, Event, Key, Keyboard, Pasted, shown)
 from share.editors.terminal.app import Bar, edit
 from share.sync.session import Status
 from share.tests.support import TOP, Case, python, wait_for
@@ -323,7 +323,7 @@ class Saving(Case):
         (closed / "file").write_bytes(b"old")
         (closed / "other").write_bytes(b"old")
         (closed / "other").chmod(0o444)
-        script = ("import os, sys\nfrom share import saving\nif not os.getuid():\n    os.setgroups([])\n"
+        script = ("import os, sys\nfrom share.store import atomic\nif not os.getuid():\n    os.setgroups([])\n"
                   "    os.setresgid(65534, 65534, 65534)\n    os.setresuid(65534, 65534, 65534)\n"
                   "for path in sys.argv[1:]:\n    try:\n        atomic.save(path, b'new')\n"
                   "    except atomic.NotSaved as why:\n        print(why)\n")

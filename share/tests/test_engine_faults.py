@@ -18,7 +18,7 @@ from share.engine.transform import Carrying
 from share.format import link as links
 from share.format.presence import Present, written
 from share.program.process import Ended
-from share.program.replay import in_units, Wrote
+from share.program.replay import Wrote, in_units
 from share.store import notes
 from share.store.note_file import Disk, Unkept
 from share.sync.session import Session

@@ -5,7 +5,7 @@ import unittest
 
 from share.format.chunk import BEGIN, MOST_CHUNK, number_of, packed
 from share.format.entry import (GREATEST_SITE, HEAD, LENGTH, MOST_BYTES, NO_HASH, Author, Bad, Copied, Entry, Kind, Plain, body_of,
-                         in_entries)
+                                in_entries)
 from share.format.operation import LONGEST_MESSAGE, MOST_RANGES, Message, is_spelled
 from share.tests.naive import CHANGE_LOOKS, DELETE, about, inserting
 

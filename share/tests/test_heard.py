@@ -6,25 +6,25 @@ import time
 import unittest
 from unittest import mock
 
-from share.format import presence
-from share.format.presence import Present, Shows
+from share.format import heartbeat, presence
+from share.format.heartbeat import OF_BEFORE, Lack, Said, Way
+from share.format.presence import MOST_PRESENCE, Present
 from share.format.sealed import NONCE_BYTES, TAG_BYTES
-from share.log.base import MOST_PRESENCE, ON_SECONDS
+from share.log.base import ON_SECONDS
 from share.log.redis import RedisLog
 from share.log.resp import Wire
-from share.sync import heard
-from share.sync.heard import OF_BEFORE, Heard, Lack, Others, Said, Voices, Way
+from share.sync.heard import Heard, Others, Shows, Voices
 from share.sync.replicator import Courier
 from share.tests.support import Case, damage, type_at_the_end, wait_for, written
 
 SOON = 20
-ME, OTHER = heard.new_token(), heard.new_token()
+ME, OTHER = heartbeat.new_token(), heartbeat.new_token()
 LACK = Lack(Way.IT, bytes(range(32)))
 
 
 def said(number: int, asks: int, *lacks: Lack, token: bytes = OTHER) -> bytes:
     """What a courier says."""
-    return heard.written(Said(token, number, asks, lacks))
+    return heartbeat.written(Said(token, number, asks, lacks))
 
 
 class Words(unittest.TestCase):
@@ -32,16 +32,16 @@ class Words(unittest.TestCase):
 
     def test_what_is_written_is_read(self) -> None:
         one = Said(OTHER, 7, 3, [LACK, Lack(Way.AFTER, bytes(32))])
-        self.assertEqual(heard.read(heard.written(one)), one)
-        many = heard.written(one._replace(lacks=[LACK] * 20))
-        self.assertEqual(len(many), len(heard.written(one)))
+        self.assertEqual(heartbeat.read(heartbeat.written(one)), one)
+        many = heartbeat.written(one._replace(lacks=[LACK] * 20))
+        self.assertEqual(len(many), len(heartbeat.written(one)))
         self.assertEqual(len(many) + NONCE_BYTES + TAG_BYTES, MOST_PRESENCE)
         # Versions of before pass it over: it isn't their own word, nor a cursor.
         self.assertNotEqual(len(many), OF_BEFORE.size)
         self.assertIsNone(presence.read(many))
         for wrong in b"", many[1:], many + b"\0":
-            self.assertIsNone(heard.read(wrong))
-        self.assertEqual(heard.read(bytes([255]) * heard.BYTES), Said(b"\xff" * 16, 2**32 - 1, 2**32 - 1, []))
+            self.assertIsNone(heartbeat.read(wrong))
+        self.assertEqual(heartbeat.read(bytes([255]) * heartbeat.BYTES), Said(b"\xff" * 16, 2**32 - 1, 2**32 - 1, []))
 
     def test_only_what_is_greater_is_heard(self) -> None:
         voices = Voices()

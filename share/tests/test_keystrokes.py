@@ -14,14 +14,14 @@ from share.format import chunk as chunks
 from share.format.chunk import MOST_CHUNK, Run
 from share.format.entry import Bad, Entry, Kind, Plain, check_entry
 from share.format.keystrokes import Keystrokes
-from share.format.operation import DELETE, GREATEST_STAMP, INSERT, MOST_OF_A_SITE, Names
+from share.format.operation import DEFAULT_BYTES, DELETE, GREATEST_STAMP, INSERT, MOST_OF_A_SITE
 from share.format.sealed import Sealed
 from share.program.site import Site
 from share.store import contents
 from share.store.note_file import About, Client, make
 from share.tests.support import Case
 from share.text.change import make as make_changes
-from share.text.looks import DEFAULT_BYTES
+from share.text.names import Names
 
 FORM = Plain(bytes(range(16)))
 OTHER_LOOKS = b"\4Sans\1\0"

@@ -21,7 +21,8 @@ from contextlib import closing
 from unittest import mock
 
 from share.format.entry import MOST_BYTES, Plain
-from share.log.base import MOST_PRESENCE, PAGE, START, Log, Lost, Unreachable, open_log
+from share.format.presence import MOST_PRESENCE
+from share.log.base import PAGE, START, Log, Lost, Unreachable, open_log
 from share.log.sqlite import SqliteLog
 from share.tests.servers import RedisServer, free_port
 from share.text.errors import Trouble
@@ -480,7 +481,7 @@ class Files(Shared.Both):
 
     def test_kept_files_of_those_who_die(self) -> None:
         """What was appended stands, whenever who appended was killed."""
-        code = ("import sys\nfrom share.log import open_log\nlog = open_log(sys.argv[1], bytes(range(16)))\n"
+        code = ("import sys\nfrom share.log.base import open_log\nlog = open_log(sys.argv[1], bytes(range(16)))\n"
                 "for number in range(10 ** 6):\n"
                 "    log.append([b'%06d' % number]); print(number, flush=True)")
         for turn in range(5):

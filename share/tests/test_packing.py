@@ -27,8 +27,7 @@ import os, sys
 from unittest import mock
 from share.program.process import Program
 from share.program.site import Site
-from share.store import notes
-from share.store import snapshot
+from share.store import notes, snapshot
 from share.store.note_file import Disk
 from share.sync.session import Session
 from share.tests.note import Note

@@ -9,7 +9,7 @@ from types import ModuleType
 
 from share.editors.terminal import layout
 from share.editors.terminal.layout import (NEAR, PART, Layout, Text, cluster_after, cluster_before, decoded, drawn, word_after,
-                          word_before)
+                                           word_before)
 from share.program.site import MOST_BYTES, split
 from share.tests.support import Case
 from share.text.change import Change, boundary, make

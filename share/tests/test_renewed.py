@@ -10,9 +10,7 @@ from unittest import mock
 from share.admission.judge import Judge
 from share.format.history import Messages
 from share.program.site import Site
-from share.store import nicknames
-from share.store import notes
-from share.store import renewal
+from share.store import nicknames, notes, renewal
 from share.store.read_only import found_in
 from share.tests.editors import Editor
 from share.tests.support import NOTE, Case, Person, type_at_the_end, wait_for, written

@@ -12,8 +12,8 @@ from share.format.chunk import MOST_CHUNK
 from share.format.entry import HEAD, MOST_BYTES, Author, Bad, Entry, Form, Plain, in_entries
 from share.format.link import Link, url_of
 from share.format.operation import DELETE, Message
+from share.format.presence import MOST_PRESENCE
 from share.format.sealed import KEY_BYTES, SIGNATURE_BYTES, Sealed, identity_of, new_key
-from share.log.base import MOST_PRESENCE
 from share.tests.naive import about
 from share.text.errors import Trouble
 

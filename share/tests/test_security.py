@@ -17,17 +17,16 @@ from unittest import mock
 
 from share.admission.judge import rank
 from share.format.entry import MOST_BYTES, Author, Entry, Form
+from share.format.heartbeat import OF_BEFORE
 from share.format.link import Link, read
 from share.format.operation import DELETE, Message
 from share.store.note_file import About
-from share.sync.heard import OF_BEFORE
 from share.tests.naive import about, inserting
 from share.tests.note import Note
 from share.tests.servers import Hostile
 from share.tests.servers import RedisServer as Server
 from share.tests.support import (NOTE, TOP, Case, Person, python, raws_of, type_at_the_end, wait_for,
                                  written)
-from share.text.errors import Trouble
 
 HUGE = 100_000_000
 # More than the 100 MB of one entry that must not be held.

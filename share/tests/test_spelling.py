@@ -11,10 +11,11 @@ import unittest
 
 from share.format import chunk
 from share.format import operation as messages
-from share.format.operation import (CHANGE_LOOKS, DELETE, INSERT, LONGEST_MESSAGE, RESTORE, Message, Names, inserted,
-                           is_spelled, mentioned, names_of)
+from share.format.operation import (CHANGE_LOOKS, DELETE, INSERT, LONGEST_MESSAGE, RESTORE, Message, inserted,
+                                    is_spelled, mentioned, names_of)
 from share.program.process import Program
 from share.tests.naive import about, head, reading
+from share.text.names import Names
 
 TIMES = int(os.environ.get("VIALSHOAL_EXAMPLES", "0"))
 TRIES = 4_000 * max(TIMES, 1)

@@ -5,7 +5,7 @@ import shlex
 import unittest
 from unittest import mock
 
-from share.format.operation import MOST_OF_A_SITE, MOST_RANGES, Names, names_of
+from share.format.operation import MOST_OF_A_SITE, MOST_RANGES, names_of
 from share.program.effects import stretches
 from share.program.process import Program, command
 from share.program.site import MOST_BYTES, MOST_NAMES, TOO_MANY, Edited, Site, Told
@@ -13,6 +13,7 @@ from share.tests.note import Note
 from share.tests.support import Pair, edit_at_random
 from share.text.change import boundary, make
 from share.text.errors import Trouble
+from share.text.names import Names
 
 ROUNDS = 150
 # The number by which the program refuses names that aren't here.

@@ -3,7 +3,7 @@ after."""
 from collections.abc import Callable
 from dataclasses import dataclass, field
 
-from share.format.operation import Names
+from share.text.names import Names
 
 # The line end inside a text.
 LINE_END = b"\r"

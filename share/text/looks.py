@@ -3,12 +3,13 @@ bytes and words."""
 from collections.abc import Callable, Sequence
 from typing import NamedTuple
 
-from share.format.operation import CHANGE_LOOKS, HEADER, INSERT, INSERTION, LONGEST_FONT, RESTORE, Names
+from share.text.names import Names
 
 # The colours of a text, by their numbers.
 COLOURS = ("#000000", "#000000", "#cc2222", "#228822", "#2222cc", "#aa22aa", "#aa7700", "#227777",
            "#555555", "#888888", "#dd6666", "#66aa66", "#6666dd", "#cc66cc", "#ccaa44", "#66aaaa")
 PLAIN_COLOURS = (0, 1)
+LONGEST_FONT, MOST_COLOUR = 31, len(COLOURS) - 1
 LETTERS = "ABCDEFGHIJKLMNOPQRSTUVWXYZabcdefghijklmnopqrstuvwxyz"
 
 
@@ -55,8 +56,6 @@ class Looked(NamedTuple):
 
 
 DEFAULT = Looks("Oberon10.Scn.Fnt", 1, 0)
-# The same as an Insert has them.
-DEFAULT_BYTES = b"\x10Oberon10.Scn.Fnt\x01\x00"
 
 
 def is_bold(font: str) -> bool:
@@ -107,13 +106,6 @@ def told(looks: Looks) -> dict[str, object]:
     if looks.offset:
         line["offset"] = looks.offset
     return line
-
-
-def may_dress(message: bytes) -> bool:
-    """Whether after a message there can be looks where there were none: it sets some, or brings characters back."""
-    if message[3] == INSERT:
-        return not message.startswith(DEFAULT_BYTES, HEADER.size + INSERTION.size - 1)
-    return message[3] in (CHANGE_LOOKS, RESTORE)
 
 
 def in_words(looks: Looks) -> bytes:

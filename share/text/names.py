@@ -1,10 +1,17 @@
 """Sets of characters' names, as ranges that rise and don't meet."""
 from collections.abc import Iterable, Sequence
-
-from share.format.operation import Names
+from typing import NamedTuple
 
 # The site and the offset of a character.
 Name = tuple[int, int]
+
+
+class Names(NamedTuple):
+    """The names of a stretch of a site's file."""
+
+    site: int
+    at: int
+    length: int
 
 
 def united(names: Iterable[Names]) -> list[Names]:

@@ -21,7 +21,7 @@ from share.editors.terminal.keys import PASTES_OFF, PASTES_ON, Event, Key, Keybo
 from share.program import retyping
 from share.store import atomic
 from share.editors.terminal.layout import (Layout, Row, cluster_after, cluster_before, clusters, rows_of, word_after,
-                          word_before)
+                                           word_before)
 from share.sync.session import Status
 from share.text.change import LINE_END
 from share.text.errors import Refused, Trouble, counted

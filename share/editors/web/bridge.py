@@ -9,7 +9,8 @@ from collections.abc import AsyncIterator, Sequence
 
 from aiohttp import WSCloseCode, WSMsgType, web
 
-from share.engine.protocol import MOST_LINE, Line, Wrong, read, written
+from share.engine.protocol import MOST_LINE, Wrong, read, written
+from share.text.line import Line
 
 # What a page may ask for. It names no file: who has the secret alone is to reach this note and nothing else.
 REQUESTS = {"open", "edit", "undo", "redo", "looks", "cursor", "seen", "text", "on", "who", "history", "past", "close"}
