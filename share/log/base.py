@@ -28,7 +28,7 @@ class Lost(Exception):
     be opened and read anew. What was damaged was set aside."""
 
 
-class Carried(NamedTuple):
+class InLog(NamedTuple):
     """What stands at a place of the log: the bytes of an entry, or None where it can't be one (it is too long,
     or something else)."""
 
@@ -45,7 +45,7 @@ class Log(ABC):
         """Appends entries so that they last. One that is held already, byte for byte, is left as it is."""
 
     @abstractmethod
-    def read(self, after: str) -> list[Carried]:
+    def read(self, after: str) -> list[InLog]:
         """What stands after a place, PAGE at most. Nothing that is longer than an entry may be is read."""
 
     @abstractmethod

@@ -9,7 +9,7 @@ from collections.abc import Iterator, Sequence
 
 from share.format.entry import MOST_BYTES, Kind
 from share.format.presence import MOST_PRESENCE
-from share.log.base import ON_SECONDS, PAGE, START, Carried, Log, Lost
+from share.log.base import ON_SECONDS, PAGE, START, InLog, Log, Lost
 from share.log.resp import Answer, TooLong, Wire
 
 # An append has so many bytes, and a reading, and each entry in it so many beside its own.
@@ -111,7 +111,7 @@ class Stream:
         self._wire, self._key, self._field, self._most = wire, key, field, most
         self._room = LEAST_ROOM
 
-    def read(self, after: str) -> list[Carried]:
+    def read(self, after: str) -> list[InLog]:
         """The entries after a place, PAGE at most."""
         last, count = _place(after)
         begin = time.monotonic()
@@ -168,7 +168,7 @@ class Stream:
     def _lost(self) -> Lost:
         return Lost(f"{self._wire.url} has lost entries.")
 
-    def _page(self, answer: Answer, last: str, count: int) -> tuple[list[Carried], int | None]:
+    def _page(self, answer: Answer, last: str, count: int) -> tuple[list[InLog], int | None]:
         """What a reading gives, and how many entries there are, where it came to their end."""
         match answer:
             case [int(size), int(at_end), list(found)] if len(found) <= 2 * PAGE and not len(found) % 2:
@@ -182,7 +182,7 @@ class Stream:
                 raise self._wire.strange()
             before = place
             entry = raw if isinstance(raw, bytes) and len(raw) <= self._most else None
-            page.append(Carried(f"{place[0]}-{place[1]}/{number}", entry))
+            page.append(InLog(f"{place[0]}-{place[1]}/{number}", entry))
         return page, size if at_end else None
 
 
@@ -205,7 +205,7 @@ class RedisLog(Log):
         for part in _parts(raws):
             self._wire.run(APPEND, (self._entries, self._places), part)
 
-    def read(self, after: str) -> list[Carried]:
+    def read(self, after: str) -> list[InLog]:
         return self._stream.read(after)
 
     def watch(self, after: str, seconds: float) -> None:

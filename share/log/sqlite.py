@@ -13,7 +13,7 @@ from urllib.parse import quote
 
 from share.format.entry import HEAD, MOST_BYTES, NOTE_BYTES, digest
 from share.format.presence import MOST_PRESENCE
-from share.log.base import ON_SECONDS, PAGE, START, Carried, Log, Lost, Unreachable
+from share.log.base import ON_SECONDS, PAGE, START, InLog, Log, Lost, Unreachable
 from share.log.bounded import Bound
 from share.text.errors import Trouble
 
@@ -82,13 +82,13 @@ class SqliteLog(Log):
             for raw in raws:
                 self._append(raw, digest(raw))
 
-    def read(self, after: str) -> list[Carried]:
+    def read(self, after: str) -> list[InLog]:
         with self._at_file():
             place = self._stands(after)
             rows = self._file.execute(AFTER, (MOST_BYTES, place, PAGE)).fetchall()
         if rows and rows[-1][0] > GREATEST_PLACE:
             raise self._set_aside("has a place that can't be")
-        return [Carried(f"{place}.{mark}", raw) for place, mark, raw in rows]
+        return [InLog(f"{place}.{mark}", raw) for place, mark, raw in rows]
 
     def watch(self, after: str, seconds: float) -> None:
         end = time.monotonic() + seconds

@@ -6,7 +6,7 @@ from contextlib import ExitStack, closing, contextmanager
 from share.admission.ledger import Row
 from share.format.entry import Bad, digest
 from share.format.link import is_network
-from share.log.base import START, Carried, Log, Lost, Unreachable, open_log
+from share.log.base import START, InLog, Log, Lost, Unreachable, open_log
 from share.store.old import copied
 from share.store.read_only import Faults, Judged
 from share.text.errors import Trouble, entries
@@ -38,7 +38,7 @@ def with_log(found: Judged, url: str, password: str | None) -> Judged:
     return found._replace(faults=[*found.faults, *unread, *wrong.words(), *told])
 
 
-def _pages(url: str, note: bytes, password: str | None) -> Iterator[list[Carried]]:
+def _pages(url: str, note: bytes, password: str | None) -> Iterator[list[InLog]]:
     """All that a log has, page by page; from the front again where it loses entries meanwhile."""
     for _ in range(TRIES):
         try:

@@ -1,5 +1,7 @@
-"""When edits that don't count any more are made anew: at once, and ever later where that happens again and again; and what
-others made with a key that is here only when they had time to do it themselves."""
+"""Back-off: what goes wrong again and again is done again ever later. Edits that don't count any more are rebased at once, and
+what others made with a key that is here only when they had time to do it themselves; a log that keeps losing what it is given
+gets it ever more rarely."""
+import math
 import random
 import time
 from collections.abc import Sequence
@@ -7,16 +9,43 @@ from collections.abc import Sequence
 from share.store.note_file import Client
 from share.text.errors import counted
 
-# Who wrote under a key that is here, too, has so many seconds to make anew what was lost, and up to twice as many; so has who made
-# a copy to hide it.
+# The least time that others have who wrote under a key that is here, too, to rebase what was lost, and who made a copy to hide
+# it; they have up to twice as much.
 OTHERS_SECONDS = 3.0
-# After edits were made anew the next ones wait for so many seconds, which double up to a most; from the front again after
-# so many in which nothing was lost.
-FIRST_SECONDS, MOST_SECONDS, CALM_SECONDS = 2.0, 300.0, 900.0
+# The pause after a rebase, which doubles up to a most, and how long nothing has to be lost for it to be short again.
+FIRST_SECONDS, MOST_REBASE_SECONDS, CALM_SECONDS = 2.0, 300.0, 900.0
+# The pause before a log is given again what it has lost more than once, which doubles up to a most. After that long it is short
+# again.
+GIVE_SECONDS, MOST_GIVE_SECONDS = 1, 600
+
+
+class Losses:
+    """When a log is given again what it has lost. The fetcher's thread says what was lost, and the giver's asks whether it
+    is time."""
+
+    def __init__(self) -> None:
+        self._again, self._last, self._pauses = math.inf, -math.inf, 0
+
+    def lost(self) -> bool:
+        """Notes that something was lost now; whether that is the first time in a while."""
+        now = time.monotonic()
+        is_first = now > self._last + MOST_GIVE_SECONDS
+        if is_first:
+            self._pauses = 0
+        self._last, self._again = now, now + min(GIVE_SECONDS * self._pauses, MOST_GIVE_SECONDS)
+        self._pauses = 2 * self._pauses or 1
+        return is_first
+
+    def is_due(self) -> bool:
+        """Whether it is time to give again what was lost; once for each time."""
+        if time.monotonic() < self._again:
+            return False
+        self._again = math.inf
+        return True
 
 
 class Turns:
-    """When what was made here is made anew, and when what others made."""
+    """When what was made here is rebased, and when what others made. The editor's thread alone calls it."""
 
     def __init__(self) -> None:
         self._wait, self._free, self._last = FIRST_SECONDS, 0.0, -CALM_SECONDS
@@ -39,14 +68,14 @@ class Turns:
         return self._own is not None and time.monotonic() >= self._own
 
     def seconds(self) -> int:
-        """In how many seconds what was lost is made anew; 0 where nothing was."""
+        """The seconds until what was lost is rebased; 0 where nothing was."""
         ends = [end for end in (self._own, self._others) if end is not None]
         return max(1, round(min(ends) - time.monotonic())) if ends else 0
 
     def made(self, own: bool) -> None:
-        """Says that all of it was made anew now."""
+        """Says that all of it was rebased now."""
         now = time.monotonic()
-        self._wait = FIRST_SECONDS if now - self._last > CALM_SECONDS else min(2 * self._wait, MOST_SECONDS)
+        self._wait = FIRST_SECONDS if now - self._last > CALM_SECONDS else min(2 * self._wait, MOST_REBASE_SECONDS)
         self._last, self._free = now, now + self._wait
         if own:
             self._own = None
@@ -69,7 +98,7 @@ def told_of_numbers(site: int, broken: Sequence[Client], shared: Sequence[Client
 
 
 def told_of_edits(own: int, others: int) -> str:
-    """What the user is told of edits that were made anew."""
+    """What the user is told of edits that were rebased."""
     if own:
         return f"Made anew: {counted(own, 'edit')} that nobody else has."
     if others:

@@ -6,17 +6,17 @@ without it. While the log is read again from its front, what it had before count
 import threading
 from collections.abc import Iterable
 
-# What is known of a place: it was read in the log; the log was given it; the log had it before it is read again; it has
+# The marks of a place: it was read in the log; the log was given it; the log had it before it is read again; it has
 # an edit of this person; and it isn't to be given.
-READ, GIVEN, HAD, OWN, HELD_BACK = 1, 2, 4, 8, 16
-IN_LOG = READ | GIVEN | HAD
-_BEGUN = bytes(mark & OWN | (HAD if mark & IN_LOG else 0) for mark in range(256))
-_ENDED = bytes(mark & (OWN | READ | GIVEN) for mark in range(256))
+WAS_READ, WAS_GIVEN, WAS_HAD, OWN_EDIT, HELD_BACK = 1, 2, 4, 8, 16
+IN_LOG = WAS_READ | WAS_GIVEN | WAS_HAD
+_AFTER_BEGIN = bytes(mark & OWN_EDIT | (WAS_HAD if mark & IN_LOG else 0) for mark in range(256))
+_AFTER_END = bytes(mark & (OWN_EDIT | WAS_READ | WAS_GIVEN) for mark in range(256))
 _LET_GO = bytes(mark & ~HELD_BACK for mark in range(256))
 
 
 class Carried:
-    """What a log has, for all threads that carry entries between it and this file."""
+    """What a log has of one file. Any thread may call it."""
 
     def __init__(self, file: tuple[int, int] | None):
         # What tells the file from one that takes its name, whose places are others.
@@ -46,30 +46,30 @@ class Carried:
     def was_read(self, place: int) -> bool:
         """Whether what is at a place was read in the log, since that was last begun to be read from its front."""
         with self._lock:
-            return bool(self._of(place) & READ)
+            return bool(self._of(place) & WAS_READ)
 
     def found(self, last: int, own: Iterable[int]) -> None:
         """Takes over that the file was looked at up to a place, and where this person's edits are."""
         with self._lock:
-            self._mark(own, OWN)
+            self._mark(own, OWN_EDIT)
             self._grow(last)
             self.looked = max(self.looked, last)
 
     def made(self, own: Iterable[int]) -> None:
         """Takes over that this person made edits, which are at these places."""
         with self._lock:
-            self._mark(own, OWN)
+            self._mark(own, OWN_EDIT)
 
     def took_back(self, number: int, places: Iterable[int]) -> None:
         """Takes over which places were withdrawn, up to a number: nothing has to be sent of these."""
         with self._lock:
-            self._unmark(places, OWN)
+            self._unmark(places, OWN_EDIT)
             self.withdrawn = max(self.withdrawn, number)
 
     def begin(self) -> None:
         """The log is to be read from its front."""
         with self._lock:
-            self._marks = self._marks.translate(_BEGUN)
+            self._marks = self._marks.translate(_AFTER_BEGIN)
             self._given.clear()
             self._first = 1
 
@@ -77,15 +77,15 @@ class Carried:
         """These places were read in the log."""
         with self._lock:
             places = [*places]
-            self._mark(places, READ)
+            self._mark(places, WAS_READ)
             self._given.difference_update(places)
 
     def end(self) -> list[int]:
         """All that the log had as `begin` was called was read; the places that it had before and has no more."""
         with self._lock:
-            missing = [place for place, mark in enumerate(self._marks) if mark & IN_LOG == HAD]
-            self._marks = self._marks.translate(_ENDED)
-            self._unsent = self._marks.count(OWN)
+            missing = [place for place, mark in enumerate(self._marks) if mark & IN_LOG == WAS_HAD]
+            self._marks = self._marks.translate(_AFTER_END)
+            self._unsent = self._marks.count(OWN_EDIT)
             self._first = 1
             self.whole += 1
         return missing
@@ -93,8 +93,8 @@ class Carried:
     def gave(self, places: Iterable[int]) -> None:
         """The log was given these places, and has said that it has them."""
         with self._lock:
-            places = [place for place in places if not self._of(place) & READ]
-            self._mark(places, GIVEN)
+            places = [place for place in places if not self._of(place) & WAS_READ]
+            self._mark(places, WAS_GIVEN)
             self._given.update(places)
 
     def given(self) -> frozenset[int]:
@@ -113,7 +113,7 @@ class Carried:
             lost = given & self._given
             self._given -= lost
             self._mark(lost, HELD_BACK)
-            self._unmark(lost, GIVEN)
+            self._unmark(lost, WAS_GIVEN)
             return len(lost)
 
     def lets_go(self) -> None:
@@ -125,7 +125,7 @@ class Carried:
     def next_lacking(self) -> int | None:
         """The first place that was looked at, that the log isn't known to have, and that isn't held back."""
         with self._lock:
-            found = [place for mark in (0, OWN) if (place := self._marks.find(mark, self._first)) >= 0]
+            found = [place for mark in (0, OWN_EDIT) if (place := self._marks.find(mark, self._first)) >= 0]
             self._first = min(found, default=len(self._marks))
             return self._first if self._first <= self.looked else None
 
@@ -155,5 +155,5 @@ class Carried:
                 self._change(place, self._marks[place] & ~bit)
 
     def _change(self, place: int, mark: int) -> None:
-        self._unsent += (mark & ~HELD_BACK == OWN) - (self._marks[place] & ~HELD_BACK == OWN)
+        self._unsent += (mark & ~HELD_BACK == OWN_EDIT) - (self._marks[place] & ~HELD_BACK == OWN_EDIT)
         self._marks[place] = mark

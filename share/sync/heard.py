@@ -1,4 +1,4 @@
-"""What couriers say of themselves through a log: that they are on, and which entries they lack; and who was heard.
+"""What replicators say of themselves through a log: that they are on, and which entries they lack; and who was heard.
 
 Who can write to the log can put there again what was said before, under any name. So what is said has a token and a
 count that only rises, inside what is sealed: what isn't above the greatest that was heard under its token is nothing.
@@ -14,7 +14,7 @@ from share.format.heartbeat import OF_BEFORE, Lack, Said, is_of_now, read
 from share.format.presence import COUNT, FORM, MOST_NAME_BYTES, RANDOM_BYTES, TOKEN_BYTES, counted
 from share.log.base import ON_SECONDS
 
-# So many tokens are remembered; the one that was silent longest is forgotten first.
+# The most tokens that are remembered; the one that was silent longest is forgotten first.
 MOST_TOKENS = 4_096
 
 
@@ -57,7 +57,7 @@ class Asked(NamedTuple):
 
 
 class Others:
-    """The couriers of others, by what they say."""
+    """The replicators of others, by what they say."""
 
     def __init__(self, token: bytes) -> None:
         self._token = token

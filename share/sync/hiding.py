@@ -4,14 +4,78 @@ to be shown again, since that is so no more.
 Shown again is only what was hidden for this: never what a user has deleted. What others made is hidden where they don't do so,
 since their disk may be gone.
 """
+import time
 from collections.abc import Iterable
 from itertools import chain
 from typing import NamedTuple
 
 from share.format.entry import Author, Copied, Copy, Entry, Form
 from share.format.operation import DELETE, RESTORE, Message, inserted, mentioned
+from share.program.site import Edited, Told
+from share.program.trace import trace
+from share.store.note_file import Unkept
+from share.sync.backoff import seconds_for_others
+from share.sync.edits import OwnEdits
+from share.sync.numbers import Numbers
+from share.sync.rebasing import Rebaser
+from share.sync.replica import Replica
 from share.sync.state import Holdings
 from share.text.names import Name, Names, united, without
+
+
+class Hider:
+    """Hides copies that aren't to be seen, and shows them again. The editor's thread alone calls it."""
+
+    def __init__(self, holdings: Holdings, form: Form, numbers: Numbers, replica: Replica, edits: OwnEdits, rebaser: Rebaser):
+        self._holdings, self._form, self._numbers = holdings, form, numbers
+        self._replica, self._edits, self._rebaser = replica, edits, rebaser
+        # How far what copies stand for counted when it was last looked at.
+        self._fronts: list[int] | None = None
+        # When copies of others are hidden that stand beside what they stand for, unless they are hidden by then.
+        self._hides_others: float | None = None
+
+    def look_again(self) -> None:
+        """Has all be looked at, since the site began anew."""
+        self._fronts = None
+
+    def hide(self) -> Told:
+        """Hides copies that were made here and aren't to be seen, or shows them again; what the text has become. Those of
+        others are hidden some seconds later."""
+        fronts = self._holdings.fronts_of_copies()
+        is_due = self._hides_others is not None and time.monotonic() >= self._hides_others
+        if fronts == (self._fronts or []) and not is_due or not self._may_hide():
+            return []
+        names, before = wanted(self._holdings), len(self._replica.site.history)
+        try:
+            told = self._hide(names, is_due)
+        except BaseException as why:
+            self._replica.site.go_back(before)
+            if not isinstance(why, Unkept):
+                raise
+            self._rebaser.later(why)
+            return []
+        self._fronts = fronts
+        if is_due or not names.of_others:
+            self._hides_others = None
+        elif self._hides_others is None:
+            self._hides_others = time.monotonic() + seconds_for_others()
+        return told
+
+    def _may_hide(self) -> bool:
+        numbers = self._numbers
+        return numbers.own.stood and not self._replica.is_stale and not numbers.is_taken and self._rebaser.may_write()
+
+    def _hide(self, names: "Wanted", of_others_too: bool) -> Told:
+        site, author = self._replica.site, self._numbers.own.author
+        hidden, gone = site.delete(names.hidden)
+        of_others, went = site.delete(one for _, one in names.of_others) if of_others_too else (Edited([]), [])
+        shown, come = site.restore(names.shown)
+        if messages := hidden.messages + of_others.messages + shown.messages:
+            self._edits.keep(messages, hidings=[Copy(author.name, one.site, one.seq) for one in messages],
+                             says=lambda last: said_of_hidden(self._form, author, of_others.messages, names.of_others, last))
+            trace("hidden", messages=len(hidden.messages), of_others=len(of_others.messages), shown=len(shown.messages))
+        told = [one for part in (gone, went, come) if isinstance(part, list) for one in part]
+        return told if all(isinstance(part, list) for part in (gone, went, come)) else site.text()
 
 
 class Wanted(NamedTuple):
@@ -43,13 +107,13 @@ def wanted(holdings: Holdings) -> Wanted:
     return Wanted(united(hidden), _hidden_for_that_alone(holdings, hidings, united(shown)), of_others)
 
 
-def said(form: Form, author: Author, made: Iterable[Message], hidden: Iterable[tuple[Copy, Names]], last: Entry) -> list[Entry]:
+def said_of_hidden(form: Form, author: Author, made: Iterable[Message], hidden: Iterable[tuple[Copy, Names]], last: Entry) -> list[Entry]:
     """The entries by which the author of messages, of which this is the last entry, says of which copies of others they are
     made to hide: of one for each."""
     copies, found = [*hidden], list[Entry]()
     for message in made:
         names = mentioned(message)
-        of = next((copy for copy, one in copies if _common([one], names)), None)
+        of = next((copy for copy, one in copies if _in_both([one], names)), None)
         if of and message.kind == DELETE:
             stretches = ((of.seq, message.seq, 1),)
             found.append(form.copies(Copied(of.author, of.site, author.name, last.site, stretches, last.hash), author, last.site))
@@ -69,7 +133,7 @@ def _made_here(holdings: Holdings, copy: Copy) -> Message | None:
 
 def _hidden_by(hidings: Iterable[Message], names: list[Names]) -> list[Names]:
     """Those of these characters that messages mention."""
-    return _common(names, united(part for message in hidings for part in mentioned(message))) if names else []
+    return _in_both(names, united(part for message in hidings for part in mentioned(message))) if names else []
 
 
 def _hidden_for_that_alone(holdings: Holdings, hidings: Iterable[Message], names: list[Names]) -> list[Names]:
@@ -86,7 +150,7 @@ def _gone(names: list[Names], messages: Iterable[Message]) -> set[Name]:
     """Those of these characters that messages have deleted and not restored: of each the greatest stamp decides."""
     last: dict[Name, tuple[int, int, int]] = {}
     for message in messages:
-        for one in _common(mentioned(message), names):
+        for one in _in_both(mentioned(message), names):
             for at in range(one.at, one.at + one.length):
                 last[one.site, at] = max(last.get((one.site, at), (0, 0, 0)), (message.stamp, message.site, message.kind))
     return {name for name, (_, _, kind) in last.items() if kind == DELETE}
@@ -96,6 +160,6 @@ def _of(names: Iterable[Name]) -> list[Names]:
     return united(Names(site, at, 1) for site, at in names)
 
 
-def _common(names: list[Names], others: list[Names]) -> list[Names]:
+def _in_both(names: list[Names], others: list[Names]) -> list[Names]:
     """Names that are in both sets."""
     return without(names, without(names, others))

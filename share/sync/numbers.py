@@ -4,54 +4,45 @@ import secrets
 import time
 from collections.abc import Callable, Sequence
 from contextlib import suppress
-from typing import Protocol, TypeVar
 
-from share.admission.ledger import Row
+from share.admission.copies import Who
 from share.format.entry import GREATEST_SITE, Form
 from share.format.operation import MOST_OF_A_SITE
+from share.program.trace import trace
 from share.store.note_file import Client, Disk, Unkept
-from share.sync.replicator import Courier
-from share.sync.standing import Who
-from share.sync.state import Holdings, Lost, who
+from share.sync.open_file import OpenFile
+from share.sync.replicator import Replicator
+from share.sync.state import Holdings, ToRebase, who
 from share.text.errors import Trouble
 
-# A number that has no more room than this is gone on with no more; nor is one under which an edit was refused so.
-ROOM, FULL = 2**20, (10, 23)
-# So often another number is looked for where one is full.
-AGAIN_SECONDS = 5
+# The room that a number needs so that it is gone on with, and how edits are refused under one that is full.
+LEAST_ROOM_LEFT, FULL = 2**20, (10, 23)
+# The pause before another number is looked for again where one is full.
+ANOTHER_SECONDS = 5
 # A number that nobody can claim: where there is none left, a note is read under it.
 READING = 65_535
-Result = TypeVar("Result")
-
-
-class Holder(Protocol):
-    """Who has the note's file open, and mends it where it is gone or damaged."""
-
-    @property
-    def disk(self) -> Disk:
-        """The file as it is open now."""
-
-    def mended(self, call: Callable[[], Result]) -> Result:
-        """What a call on the file gives."""
-
-    def read(self) -> list[Row]:
-        """The rows that the file has more."""
 
 
 class Numbers:
-    """The numbers of this person, of which one is this editor's."""
+    """The numbers of this person, of which one is this editor's. The editor's thread alone calls it."""
 
-    own: Client
-
-    def __init__(self, holdings: Holdings, form: Form, has_log: bool, file: Holder):
+    def __init__(self, holdings: Holdings, form: Form, has_log: bool, file: OpenFile):
         self._holdings, self._form, self._has_log, self._file = holdings, form, has_log, file
         # Whether another editor of this person got this one's number, since the locks were removed.
         self.is_taken = False
+        # Whether all is known of numbers that can't be gone on with. What the disk damaged the log may bring back, so that
+        # nothing is known before that was read.
+        self.is_settled = False
         # Whether this editor's number can make no more edits; and why it has none, where it has none.
         self.is_full, self.why_none = False, ""
         self._another_after = 0.0
         # The numbers that were given up, or copied with the note, and that no other editor has.
         self._held: set[Who] = set()
+        self.own = self.locked() or self.claimed()
+
+    def lock_again(self, disk: Disk) -> None:
+        """Locks this editor's number in a file that has taken the other one's place."""
+        self.is_taken = not disk.lock(self.own.site)
 
     def claimed(self) -> Client:
         """A new number; where all are claimed one under which nothing can be typed."""
@@ -96,12 +87,13 @@ class Numbers:
         self._file.mended(lambda: self._file.disk.keep([claim], True, client=client))
         self._holdings.clients[who(client)] = client
         self._holdings.add([claim])
+        trace("number claimed", site=site)
         return client
 
-    def claims_in_log(self, courier: Courier) -> set[Who]:
+    def claims_in_log(self, replicator: Replicator) -> set[Who]:
         """The numbers that can't be typed under yet and whose claims were read in the log."""
         return {who(one) for one in self._holdings.clients.values() if not (one.stood or one.retired)
-                and courier.stands(self._form.claim(one.site, one.author))}
+                and replicator.stands(self._form.claim(one.site, one.author))}
 
     def look_at_claims(self, in_log: set[Who]) -> None:
         """Notes which of these claims have no other for their numbers before them."""
@@ -140,7 +132,7 @@ class Numbers:
             self._file.read()
             self._holdings.reread_anew(self._file.disk)
 
-    def lost(self, own: bool) -> list[Lost]:
+    def lost(self, own: bool) -> list[ToRebase]:
         """What was lost of what was made here, or of what others made with a key that is here, under numbers that no other
         editor of this person has."""
         lost = self._holdings.lost() if own else self._holdings.left_out()
@@ -153,6 +145,7 @@ class Numbers:
             self._file.mended(lambda: self._file.disk.keep([], True, retired=retired))
             self._holdings.gave_up(retired)
         if self.is_taken or who(self.own) in map(who, clients):
+            trace("number given up", site=self.own.site)
             self.own, self.is_taken, self.is_full = self.claimed(), False, False
         return retired
 
@@ -167,16 +160,17 @@ class Numbers:
         return bool(gone)
 
     def take_another_when_full(self, length: int) -> bool:
-        """Takes another number where this editor's has little room left beside so many characters, or can make no more
+        """Takes another number where this editor's has little room left beside this many characters, or can make no more
         edits; whether it did. While the log is away it may be that there is none yet."""
-        now, needed = time.monotonic(), min(ROOM + length, MOST_OF_A_SITE)
+        now, needed = time.monotonic(), min(LEAST_ROOM_LEFT + length, MOST_OF_A_SITE)
         if not (self.is_full or not self._has_room(self.own, needed)) or now < self._another_after:
             return False
-        self._another_after = now + AGAIN_SECONDS
+        self._another_after = now + ANOTHER_SECONDS
         with suppress(Unkept, Trouble):
             if other := self._another(needed):
                 self._file.mended(lambda: self._file.disk.keep([], True, retired=[self.own]))
                 self._holdings.gave_up([self.own])
+                trace("number taken", site=other.site)
                 self.own, self.is_full, self._another_after = other, False, 0.0
                 return True
         return False

@@ -1,4 +1,4 @@
-"""Makes edits anew that don't count any more: their number was another's too, or what they build on was left out.
+"""Rebases edits that don't count any more: their number was another's too, or what they build on was left out.
 
 What the user saw is looked at in a process of its own, and what remained of these edits in that text is done
 again under the new number: what was typed goes after the same characters, what was deleted is deleted, and looks are
@@ -18,16 +18,16 @@ from share.program.effects import Stretch
 from share.program.site import Edited, Site
 from share.program.undo import looks_of
 from share.store.note_file import Anew
-from share.sync.standing import said
-from share.sync.state import Holdings, Lost, who
+from share.sync.standing import said_of_copies
+from share.sync.state import Holdings, ToRebase, who
 from share.text.errors import Trouble
 from share.text.looks import DEFAULT, Dressed, dressed
 from share.text.names import Name, Names, united, without
 
-# So many stretches in looks are looked at.
-MOST_DRESSED = 20_000
-# So many characters are made anew at once, or those of one entry more; a site has room for four times as many.
-MOST_AT_ONCE = 2**22
+# The most stretches in looks that are looked at.
+MOST_DRESSED_AGAIN = 20_000
+# The most characters that are rebased in one go, or those of one entry more; a site has room for four times as many.
+REBASED_AT_ONCE = 2**22
 
 
 class Done(NamedTuple):
@@ -40,7 +40,7 @@ class Done(NamedTuple):
 class Remade:
     """What was lost, and what was made anew of it by a client; `last` is an entry of that one."""
 
-    def __init__(self, holdings: Holdings, lost: Sequence[Lost], done: Sequence[Done], last: Entry):
+    def __init__(self, holdings: Holdings, lost: Sequence[ToRebase], done: Sequence[Done], last: Entry):
         self._holdings, self._lost, self._last = holdings, lost, last
         # What was typed in one go may have come apart, and be several messages now.
         self._made: dict[Message, list[int]] = {}
@@ -73,15 +73,15 @@ class Remade:
             for of, old in holdings.standing.originals(entry, message.seq):
                 if seqs or holdings.judge.entry_of(holdings.rows[of].entry.site, old) != of:
                     pairs.setdefault(of, []).extend((old, seq) for seq in seqs or [0])
-        return said(form, holdings.clients, holdings.rows, last, pairs, holdings.withdrawn())
+        return said_of_copies(form, holdings.clients, holdings.rows, last, pairs, holdings.withdrawn())
 
 
-def at_once(lost: Sequence[Lost]) -> tuple[Sequence[Lost], bool]:
+def at_once(lost: Sequence[ToRebase]) -> tuple[Sequence[ToRebase], bool]:
     """The first of what was lost, as much as is made anew at once; and whether that is all."""
     length = 0
     for number, one in enumerate(lost, 1):
         length += length_of(one.messages)
-        if length > MOST_AT_ONCE and number < len(lost):
+        if length > REBASED_AT_ONCE and number < len(lost):
             return lost[:number], False
     return lost, True
 
@@ -91,7 +91,7 @@ def length_of(messages: Iterable[Message]) -> int:
     return sum(names.length for names in map(inserted, messages) if names)
 
 
-def with_claims(rows: Sequence[Row], lost: Sequence[Lost]) -> set[bytes]:
+def with_claims(rows: Sequence[Row], lost: Sequence[ToRebase]) -> set[bytes]:
     """The hashes of lost entries, and of the claims of those who made them."""
     whos = {who(one.entry) for one in lost}
     return {one.entry.hash for one in lost} | {row.entry.hash for row in rows
@@ -127,7 +127,7 @@ def make_anew(rows: Sequence[Row], lost: Sequence[Message], judge: Judge, site: 
     differing = _differing(seen, judge)
     with closing(Site(lost[0].site, seen)) as old:
         done = [*_deleted_and_restored(here, differing, old, site)]
-        done += _typed(here, differing, old, site)
+        done += _typed_again(here, differing, old, site)
         done += _looked(here, differing, old, site)
         done += _at_the_end(gone, site)
     made = {one.old for one in done}
@@ -163,18 +163,18 @@ def _deleted_and_restored(lost: Sequence[Message], differing: _Differing, old: S
     return done
 
 
-def _typed(lost: Sequence[Message], differing: _Differing, old: Site, site: Site) -> list[Done]:
+def _typed_again(lost: Sequence[Message], differing: _Differing, old: Site, site: Site) -> list[Done]:
     """Types again what is shown of lost messages in the old text."""
-    was, now = _shown(old, differing.named), _shown(site, differing.named)
-    gone = sorted([*_shown(old, differing.seen).values(), *(at for name, at in was.items() if name not in now)])
-    come = sorted([*_shown(site, differing.counted).values(), *(at for name, at in now.items() if name not in was)])
+    was, now = _positions(old, differing.named), _positions(site, differing.named)
+    gone = sorted([*_positions(old, differing.seen).values(), *(at for name, at in was.items() if name not in now)])
+    come = sorted([*_positions(site, differing.counted).values(), *(at for name, at in now.items() if name not in was)])
     typing = [(message, one) for message in lost if (one := inserted(message))]
     found = old.where([one for _, one in typing]) if typing else []
     stretches = sorted((stretch.position, stretch.data, message)
                        for (message, _), shown in zip(typing, found) for stretch in shown)
-    done, more, looks = [], 0, dressed(old.runs(), MOST_DRESSED) if stretches else []
+    done, more, looks = [], 0, dressed(old.runs(), MOST_DRESSED_AGAIN) if stretches else []
     for position, data, message in stretches:
-        place = _place(position - bisect_left(gone, position), come) + more
+        place = _place_in_new(position - bisect_left(gone, position), come) + more
         made = _all_of(message, site.insert(place, data))
         done += made + _in_looks(made, position, looks, site)
         more += len(data)
@@ -211,8 +211,8 @@ def _looked(lost: Sequence[Message], differing: _Differing, old: Site, site: Sit
     return done
 
 
-def _place(common: int, come: Sequence[int]) -> int:
-    """Where in the new text the first so many characters end that are in both; `come` has the positions of
+def _place_in_new(common: int, come: Sequence[int]) -> int:
+    """Where in the new text the first characters end that are in both; `come` has the positions of
     those that are in the new one alone."""
     place = common
     for position in come:
@@ -238,7 +238,7 @@ def _all_of(old: Message, edited: Edited) -> list[Done]:
     return [Done(old, message) for message in edited.messages]
 
 
-def _shown(site: Site, names: list[Names]) -> dict[Name, int]:
+def _positions(site: Site, names: list[Names]) -> dict[Name, int]:
     """The positions of those characters of these names that are shown."""
     found: dict[Name, int] = {}
     stretches: list[list[Stretch]] = site.where(names) if names else []

@@ -7,17 +7,17 @@ that have its bytes the one of the least site and seq.
 from collections.abc import Callable, Iterator
 from typing import NamedTuple
 
+from share.admission.copies import Who
 from share.admission.judge import Judge
 from share.format.entry import Copy, Entry, Kind
 from share.format.operation import typed
 
-Who = tuple[int, bytes]
-# Somebody with the link could speak of copies without end: of an author's messages so much is looked at; and of what is to be
-# seen of what others typed so much of all.
-MOST_SAID = MOST_OF_OTHERS = 1_000
+# Somebody with the link could speak of copies without end: the most that is looked at of an author's messages, and of all that
+# others typed.
+MOST_OF_AN_AUTHOR = MOST_TYPED_BY_OTHERS = 1_000
 
 
-class _Said(NamedTuple):
+class _TypedAgain(NamedTuple):
     """Messages of an author from a seq on, how many they are, and the first of those that were typed for them."""
 
     seq: int
@@ -35,7 +35,7 @@ class Recovered:
 
     def __init__(self) -> None:
         # By whose messages they stand for; and those of which a copy was made here.
-        self._said: dict[Who, list[_Said]] = {}
+        self._said: dict[Who, list[_TypedAgain]] = {}
         self._own: set[Who] = set()
         # What others typed of it, message by message; and what may be made to hide copies of others, by whoever says so.
         self._others: list[tuple[Who, int, Copy]] = []
@@ -49,14 +49,14 @@ class Recovered:
         whose = copied.site, copied.author
         if (entry.site, entry.author) == (copied.by_site, copied.by) != whose:
             said = self._said.setdefault(whose, [])
-            if own or len(said) < MOST_SAID:
-                said.extend(_Said(seq, size, Copy(copied.by, copied.by_site, by), own) for seq, by, size in copied.stretches if by)
+            if own or len(said) < MOST_OF_AN_AUTHOR:
+                said.extend(_TypedAgain(seq, size, Copy(copied.by, copied.by_site, by), own) for seq, by, size in copied.stretches if by)
             if own:
                 self._own.add(whose)
             for seq, by, size in copied.stretches if not own else ():
-                size = min(size if by else 0, MOST_OF_OTHERS - len(self._others))
+                size = min(size if by else 0, MOST_TYPED_BY_OTHERS - len(self._others))
                 self._others += [(whose, seq + at, Copy(copied.by, copied.by_site, by + at)) for at in range(size)]
-            if len(self.hidings) < MOST_OF_OTHERS and len(copied.stretches) == 1 == copied.stretches[0][2]:
+            if len(self.hidings) < MOST_TYPED_BY_OTHERS and len(copied.stretches) == 1 == copied.stretches[0][2]:
                 self.hidings.add(Copy(copied.by, copied.by_site, copied.stretches[0][1]))
 
     def fronts(self, counts_up_to: Callable[[bytes, int], int]) -> list[int]:

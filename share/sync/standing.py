@@ -9,24 +9,23 @@ import math
 from collections.abc import Callable, Container, Iterator, Mapping, Sequence
 from typing import NamedTuple
 
+from share.admission.copies import Who
 from share.admission.ledger import Row
 from share.format.entry import NO_HASH, Copied, Copy, Entry, Form, Kind
 from share.store.note_file import Client
 
-# A site and an author, who together are one client.
-Who = tuple[int, bytes]
 # Which entry has the message of a site and a seq that counts.
 EntryOf = Callable[[int, int], bytes | None]
 # How many messages of an author and site count that an entry has, or one to which it is chained.
 FrontUpTo = Callable[[bytes, int, bytes], int]
-Rows = Mapping[bytes, Row]
-# An entry of copies has so many stretches at most.
-MOST_STRETCHES = 1_000
-# Of what others say of copies so much is looked at, by entries and messages.
-MOST_OF_OTHERS = 4_096
+RowsByHash = Mapping[bytes, Row]
+# The most stretches of an entry of copies.
+MOST_COPIED_STRETCHES = 1_000
+# The most entries and messages that are looked at of what others say of copies.
+MOST_SAID_BY_OTHERS = 4_096
 
 
-class Stretch(NamedTuple):
+class Replaced(NamedTuple):
     """Old messages that follow one another from a seq on, and as many that stand for them; none where `new` is 0."""
 
     old: int
@@ -39,7 +38,7 @@ class Piece(NamedTuple):
 
     author: bytes
     site: int
-    stretch: Stretch
+    stretch: Replaced
     own: bool
     # The hash of the last entry that has what stands for them.
     last: bytes
@@ -55,7 +54,7 @@ class Piece(NamedTuple):
 
 
 class Standing:
-    """What entries of copies say of messages whose keys are here; or, of so many entries and messages, of any."""
+    """What entries of copies say of messages whose keys are here; or, up to a number of entries and messages, of any."""
 
     def __init__(self, most: float = math.inf) -> None:
         self._room = most
@@ -66,13 +65,13 @@ class Standing:
         self._known: set[bytes] = set()
         # The old entries of which a copy was made here; those copies, by whose they are.
         self._own: dict[bytes, Entry] = {}
-        self._own_copies: dict[Who, list[tuple[bytes, Stretch]]] = {}
+        self._own_copies: dict[Who, list[tuple[bytes, Replaced]]] = {}
         # Copies of which nothing remained when they were lost in their turn.
         self._void: set[Copy] = set()
         # Up to which seq it matters whether a client's messages count.
         self._watched: dict[Who, int] = {}
 
-    def add(self, row: Row, rows: Rows) -> None:
+    def add(self, row: Row, rows: RowsByHash) -> None:
         """Adds what an entry says, and what was said of it; `rows` has all that came."""
         entry = row.entry
         if entry.kind is Kind.COPIES and entry.hash not in self._known:
@@ -84,7 +83,7 @@ class Standing:
         for said, own in self._open.pop(entry.hash, ()):
             self._say(said, own, entry.hash, rows)
 
-    def _say(self, said: Copied, own: bool, of: bytes, rows: Rows) -> None:
+    def _say(self, said: Copied, own: bool, of: bytes, rows: RowsByHash) -> None:
         """Takes over what is said of an entry and of those before it."""
         least = min(old for old, _, _ in said.stretches)
         while of in rows:
@@ -92,7 +91,7 @@ class Standing:
             self._room -= 1
             if (entry.author, entry.site) != said[:2] or not entry.size or self._room < 0:
                 return
-            for stretch in _within(said.stretches, entry):
+            for stretch in _parts_of(said.stretches, entry):
                 self._room -= entry.size
                 self._note(entry, Piece(said.by, said.by_site, stretch, own, said.last))
             if entry.first <= least:
@@ -120,7 +119,7 @@ class Standing:
         """Whether nothing remained of what was made anew here of a message of an entry."""
         return any(piece.own and piece.copy(seq) in self._void for piece in self._pieces.get(entry.hash, ()))
 
-    def is_stood_for(self, entry: Entry, seq: int, entry_of: EntryOf, rows: Rows) -> bool:
+    def is_stood_for(self, entry: Entry, seq: int, entry_of: EntryOf, rows: RowsByHash) -> bool:
         """Whether something that counts stands for a message of an entry, or nothing had to."""
         return any(piece.speaks_of(seq) and (not piece.stretch.new or _counts(piece, seq, entry_of, rows))
                    for piece in self._pieces.get(entry.hash, ()))
@@ -135,7 +134,7 @@ class Standing:
         """What is to be looked at again where it changes: how far those count of which copies were made here."""
         return [min(counts_up_to(author, site), most) for (site, author), most in self._watched.items()] if self._own else []
 
-    def made_here(self, entry_of: EntryOf, rows: Rows) -> Iterator[tuple[Copy, bool]]:
+    def made_here(self, entry_of: EntryOf, rows: RowsByHash) -> Iterator[tuple[Copy, bool]]:
         """The copies that were made here and count, and whether each is to be hidden."""
         return self._to_be_seen(entry_of, lambda piece, seq: _counts(piece, seq, entry_of, rows))
 
@@ -161,7 +160,7 @@ class Standing:
                     stays = stays or all(counts_now for _, _, counts_now in copies[of])
 
 
-def _counts(piece: Piece, seq: int, entry_of: EntryOf, rows: Rows) -> bool:
+def _counts(piece: Piece, seq: int, entry_of: EntryOf, rows: RowsByHash) -> bool:
     """Whether what stands for a message counts: what its author made, and nothing else under the same number."""
     copy, of = piece.copy(seq), piece.last
     if copy is None:
@@ -171,27 +170,27 @@ def _counts(piece: Piece, seq: int, entry_of: EntryOf, rows: Rows) -> bool:
     return of in rows and rows[of].entry.author == copy.author and entry_of(copy.site, copy.seq) == of
 
 
-def _within(stretches: Sequence[tuple[int, int, int]], entry: Entry) -> Iterator[Stretch]:
+def _parts_of(stretches: Sequence[tuple[int, int, int]], entry: Entry) -> Iterator[Replaced]:
     """The parts of stretches that are of an entry's messages."""
     for old, new, size in stretches:
         begin, end = max(old, entry.first), min(old + size, entry.last + 1)
         if begin < end:
-            yield Stretch(begin, new + begin - old if new else 0, end - begin)
+            yield Replaced(begin, new + begin - old if new else 0, end - begin)
 
 
-def in_stretches(pairs: Sequence[tuple[int, int]]) -> list[Stretch]:
+def in_stretches(pairs: Sequence[tuple[int, int]]) -> list[Replaced]:
     """Pairs of an old and a new seq as stretches; the new one is 0 where there is none."""
-    out: list[Stretch] = []
+    out: list[Replaced] = []
     for old, new in sorted(set(pairs)):
         last = out[-1] if out else None
         if last and old == last.old + last.size and (new == last.new + last.size if new and last.new else new == last.new):
             out[-1] = last._replace(size=last.size + 1)
         else:
-            out.append(Stretch(old, new, 1))
+            out.append(Replaced(old, new, 1))
     return out
 
 
-def said(form: Form, keys: Mapping[Who, Client], rows: Rows, new: Entry,
+def said_of_copies(form: Form, keys: Mapping[Who, Client], rows: RowsByHash, new: Entry,
          pairs: Mapping[bytes, Sequence[tuple[int, int]]], withdrawn: Container[bytes] = ()) -> list[Entry]:
     """The entries that say which messages, of those up to a new entry, stand for those of old entries: pairs of seqs, by the
     old entries' hashes. Nobody else may have what was withdrawn, so that what is before it is spoken of apart."""
@@ -208,8 +207,8 @@ def said(form: Form, keys: Mapping[Who, Client], rows: Rows, new: Entry,
             left.discard(of)
             of = rows[of].entry.before
         stretches = in_stretches(chained)
-        for begin in range(0, len(stretches), MOST_STRETCHES):
-            part = tuple(stretches[begin:begin + MOST_STRETCHES])
+        for begin in range(0, len(stretches), MOST_COPIED_STRETCHES):
+            part = tuple(stretches[begin:begin + MOST_COPIED_STRETCHES])
             copied = Copied(last.author, last.site, new.author, new.site, part, new.hash)
             found.append(form.copies(copied, keys[client].author, last.site, last.hash))
     return found

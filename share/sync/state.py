@@ -4,6 +4,7 @@ from collections.abc import Collection, Iterable, Iterator, Mapping, Sequence
 from itertools import chain, takewhile
 from typing import NamedTuple
 
+from share.admission.copies import Who
 from share.admission.judge import Counted, Judge
 from share.admission.ledger import Row
 from share.admission.left_out import LeftOut
@@ -12,15 +13,15 @@ from share.format.operation import Message
 from share.store.note_file import Anew, Client, Disk
 from share.sync.backlog import Backlog
 from share.sync.recovered import Recovered
-from share.sync.standing import MOST_OF_OTHERS, Standing, Who
+from share.sync.standing import MOST_SAID_BY_OTHERS, Standing
 
-# What doesn't count has this many bytes in memory; what is too much is in the file alone until there is room.
-ROOM = 2**27
-# This many entries for which there was no room are read again at once.
-AGAIN = 1_000
+# The most bytes of what doesn't count that are in memory; what is too much is in the file alone until there is room.
+MOST_UNCOUNTED_BYTES = 2**27
+# The most entries for which there was no room that are read again in one go.
+READ_AGAIN_AT_ONCE = 1_000
 
 
-class Lost(NamedTuple):
+class ToRebase(NamedTuple):
     """Messages of an entry that don't count, and that nothing stands for."""
 
     entry: Entry
@@ -32,7 +33,7 @@ def who(one: Client | Entry) -> Who:
     return (one.site, one.author.name) if isinstance(one, Client) else (one.site, one.author)
 
 
-class Rows(Mapping[bytes, Row]):
+class RowsInMemory(Mapping[bytes, Row]):
     """The entries that are in memory, by their hashes: those that are judged, and those that were withdrawn."""
 
     def __init__(self, judge: Judge, withdrawn: Mapping[bytes, Row]):
@@ -63,14 +64,14 @@ class Holdings:
         self.anew: set[tuple[bytes, int, int]] = set()
         self.standing = Standing()
         # What stands for which by the word of all.
-        self.standing_for_all = Standing(MOST_OF_OTHERS)
+        self.standing_for_all = Standing(MOST_SAID_BY_OTHERS)
         # What was typed again of others' text that was left out.
         self.recovered = Recovered()
         # The author, site and seq of each message that hides copies here, or shows them again.
         self.hidings: set[Copy] = set()
         self._withdrawn: dict[bytes, Row] = {}
-        self.judge = Judge(form=form, room=ROOM)
-        self.rows = Rows(self.judge, self._withdrawn)
+        self.judge = Judge(form=form, room=MOST_UNCOUNTED_BYTES)
+        self.rows = RowsInMemory(self.judge, self._withdrawn)
         # Those of this person under whose number somebody else writes, too.
         self._shared: set[Who] = set()
         # Those of this person under which a newer version wrote what this one doesn't know.
@@ -93,7 +94,7 @@ class Holdings:
         has_more = sum(len(row.entry.raw) for row in rows) >= most
         if rows:
             self._place = rows[-1].place
-        again, self._again = self._again[:AGAIN], self._again[AGAIN:]
+        again, self._again = self._again[:READ_AGAIN_AT_ONCE], self._again[READ_AGAIN_AT_ONCE:]
         rows += disk.rows_at(dict.fromkeys(again))
         # What was withdrawn comes once more where a log had it after all.
         new = [row for row in rows if row.entry.hash not in self.judge]
@@ -129,11 +130,11 @@ class Holdings:
             self._backlog.add(before.dropped())
             self._again += self._backlog.take_all()
             self.has_more = self.has_more or bool(self._again)
-            self.judge = Judge(form=self._form, room=ROOM)
+            self.judge = Judge(form=self._form, room=MOST_UNCOUNTED_BYTES)
             for row in before.rows():
                 if row.entry.hash not in gone:
                     self.judge.add_new(row)
-            self.rows, self._rejudged = Rows(self.judge, self._withdrawn), True
+            self.rows, self._rejudged = RowsInMemory(self.judge, self._withdrawn), True
 
     def count(self) -> Counted:
         """What counts since this was last asked."""
@@ -173,12 +174,12 @@ class Holdings:
         """Whether somebody else writes under a number, or has it."""
         return who(client) in self._shared or self.judge.holder(client.site) not in (None, client.author.name)
 
-    def lost(self) -> list[Lost]:
+    def lost(self) -> list[ToRebase]:
         """What was made here, doesn't count, and wasn't made anew."""
         found = (self._lost_of(row) for of in self.clients for row in self._not_counting(of) if row.made)
         return [one for one in found if one.messages]
 
-    def left_out(self) -> list[Lost]:
+    def left_out(self) -> list[ToRebase]:
         """What others made with a key that is here, and was left out since a smaller hash holds in its place, or since it
         builds on what was, and that nothing stands for."""
         stretches: dict[Who, list[LeftOut]] = {}
@@ -190,9 +191,9 @@ class Holdings:
                  and any(one.first <= row.entry.last and row.entry.first <= one.last for one in ones))
         return [one for one in found if one.messages]
 
-    def _lost_of(self, row: Row) -> Lost:
+    def _lost_of(self, row: Row) -> ToRebase:
         """The messages of an entry that don't count, and that nothing stands for."""
-        return Lost(row.entry, [message for message in row.entry.messages if not self.judge.is_let_through(message)
+        return ToRebase(row.entry, [message for message in row.entry.messages if not self.judge.is_let_through(message)
                                 and not self._is_made_anew(row, message)])
 
     def _is_made_anew(self, row: Row, message: Message) -> bool:

@@ -96,15 +96,15 @@ class Lost(Case):
     def test_what_is_lost_while_it_is_given(self) -> None:
         note, append, done = self.opened(self.anna, url=str(self.path)), SqliteLog.append, list[int]()
         written(note, "one ")
-        courier = note.session._courier
+        replicator = note.session._replicator
 
         def appended(log: SqliteLog, raws) -> None:
             append(log, raws)
             if not done:
                 # Who reads the log sees that, and begins anew, before it is known here what was given.
-                done.append(courier.reading())
+                done.append(replicator.reading())
                 change(self.path, "DELETE FROM entry")
-                wait_for(lambda: courier.reading() > done[0], "the loss to be seen", SOON)
+                wait_for(lambda: replicator.reading() > done[0], "the loss to be seen", SOON)
 
         with mock.patch.object(SqliteLog, "append", appended):
             type_at_the_end(note, "two ")
@@ -201,7 +201,7 @@ class Gaps(Case):
         anna.session.close()
         # One damaged entry, and its author is off.
         self.assertTrue(damage(path, b"007 ", b"00x "))
-        with mock.patch("share.sync.state.ROOM", 40_000), mock.patch("share.log.sqlite.PAGE", 8):
+        with mock.patch("share.sync.state.MOST_UNCOUNTED_BYTES", 40_000), mock.patch("share.log.sqlite.PAGE", 8):
             berta = self.opened(self.person("berta"), link=link)
             wait_for(lambda: (berta.take_in(), berta.session._holdings.waiting_for_room())[1], "entries to be dropped")
             self.assertEqual(berta.text.decode(), "".join(words[:7]))

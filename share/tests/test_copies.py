@@ -217,7 +217,7 @@ class Damaged(Copied):
                 raise Unkept("there is no room")
             return keep(disk, *given, hidings=hidings, **more)
 
-        with mock.patch.object(Disk, "keep", kept), mock.patch("share.sync.session.AGAIN_SECONDS", 0):
+        with mock.patch.object(Disk, "keep", kept), mock.patch("share.sync.rebasing.REBASE_AGAIN_SECONDS", 0):
             first = self.opened(self.anna)
             self.assert_shown("one behind two", first, second)
         self.assertEqual(len(tried), 3)
@@ -241,7 +241,7 @@ class Damaged(Copied):
             wait_for(lambda: (firsts[0].take_in(), are_alike(firsts))[1], "all of the other one to be sent")
             return make_anew(*given)  # type: ignore[arg-type]
 
-        with mock.patch("share.sync.session.make_anew", made_anew):
+        with mock.patch("share.sync.rebasing.make_anew", made_anew):
             second = self.opened(self.berta)
             wait_for(lambda: (second.take_in(), firsts)[1], "it to be made anew")
         self.assert_shown("one behind two", firsts[0], second)
@@ -423,7 +423,7 @@ class ClaimedAgainAndAgain(Copied):
 
     def test_it_is_made_anew_ever_later(self) -> None:
         anna, clock = self.person("anna"), Clock()
-        waits = mock.patch.multiple("share.sync.backoff", time=clock, FIRST_SECONDS=1_000, MOST_SECONDS=10**6, CALM_SECONDS=10**6)
+        waits = mock.patch.multiple("share.sync.backoff", time=clock, FIRST_SECONDS=1_000, MOST_REBASE_SECONDS=10**6, CALM_SECONDS=10**6)
         waits.start()
         self.addCleanup(waits.stop)
         note = self.opened(anna, url=self.file_log())

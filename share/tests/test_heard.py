@@ -13,8 +13,9 @@ from share.format.sealed import NONCE_BYTES, TAG_BYTES
 from share.log.base import ON_SECONDS
 from share.log.redis import RedisLog
 from share.log.resp import Wire
+from share.sync.giving import Giver
 from share.sync.heard import Heard, Others, Shows, Voices
-from share.sync.replicator import Courier
+from share.sync.presence import Presence
 from share.tests.support import Case, damage, type_at_the_end, wait_for, written
 
 SOON = 20
@@ -23,7 +24,7 @@ LACK = Lack(Way.IT, bytes(range(32)))
 
 
 def said(number: int, asks: int, *lacks: Lack, token: bytes = OTHER) -> bytes:
-    """What a courier says."""
+    """What a replicator says."""
     return heartbeat.written(Said(token, number, asks, lacks))
 
 
@@ -109,7 +110,7 @@ class OnAServer(Case):
         self.server = self.redis()
         self.wire = Wire(self.server.url)
         self.addCleanup(self.wire.close)
-        quick = mock.patch("share.sync.replicator.ON_SECONDS", 1)
+        quick = mock.patch("share.sync.giving.ON_SECONDS", 1)
         quick.start()
         self.addCleanup(quick.stop)
         self.ann = self.opened(self.person("ann"), url=self.server.url)
@@ -127,46 +128,47 @@ class OnAServer(Case):
         self.wire.ask("ZREM", self.times, token)
         self.wire.ask("HDEL", self.said, token)
 
-    def hears(self, how: str, times: int = 3) -> None:
-        """Waits until Ann's courier has heard who is on some times more."""
-        called, hears = list[int](), getattr(Courier, how)
+    def hears(self, part: type[Giver] | type[Presence] = Giver, times: int = 3) -> None:
+        """Waits until Ann's replicator has heard who is on some times more."""
+        how = "_meet" if part is Giver else "_hear"
+        called, hears, replicator = list[int](), getattr(part, how), self.ann.session._replicator
 
-        def counts(courier: Courier, *what: object) -> object:
+        def counts(one: Giver | Presence, *what: object) -> object:
             try:
-                return hears(courier, *what)
+                return hears(one, *what)
             finally:
-                if courier is self.ann.session._courier:
+                if one in (replicator._giver, replicator._presence):
                     called.append(1)
 
-        with mock.patch.object(Courier, how, counts):
+        with mock.patch.object(part, how, counts):
             wait_for(lambda: len(called) > times, "Ann to hear", SOON)
 
     def test_what_was_said_before_has_nobody_read_the_log(self) -> None:
-        courier, token = self.ann.session._courier, secrets.token_bytes(16)
-        before = courier.reading()
+        replicator, token = self.ann.session._replicator, secrets.token_bytes(16)
+        before = replicator.reading()
         raw = self.form.presence(OF_BEFORE.pack(token, 3))
         for under in b"x", b"y":
             self.puts(under, raw)
-            wait_for(lambda: courier.on == 2, "it to be heard")
-            self.hears("_meet")
+            wait_for(lambda: replicator.on == 2, "it to be heard")
+            self.hears()
             self.takes(under)
-            wait_for(lambda: courier.on == 1, "it to be heard")
-        self.assertEqual(courier.reading(), before)
+            wait_for(lambda: replicator.on == 1, "it to be heard")
+        self.assertEqual(replicator.reading(), before)
 
     def test_versions_of_before_have_the_log_read_once(self) -> None:
-        courier, token = self.ann.session._courier, secrets.token_bytes(16)
-        before = courier.reading()
+        replicator, token = self.ann.session._replicator, secrets.token_bytes(16)
+        before = replicator.reading()
         for asks in range(4):
             self.puts(b"x", self.form.presence(OF_BEFORE.pack(token, asks)))
-            self.hears("_meet", 2)
-        wait_for(lambda: courier.reading() > before, "the log to be read", SOON)
-        self.hears("_meet")
-        self.assertEqual(courier.reading(), before + 1)
+            self.hears(times=2)
+        wait_for(lambda: replicator.reading() > before, "the log to be read", SOON)
+        self.hears()
+        self.assertEqual(replicator.reading(), before + 1)
 
     def test_what_is_asked_for_is_given_alone(self) -> None:
-        courier, append, given = self.ann.session._courier, RedisLog.append, list[list[bytes]]()
+        replicator, append, given = self.ann.session._replicator, RedisLog.append, list[list[bytes]]()
         written(self.ann, "two ")
-        last, before = self.ann.session.last(), courier.reading()
+        last, before = self.ann.session.last(), replicator.reading()
 
         def appended(log: RedisLog, raws) -> None:
             given.append([*raws])
@@ -175,10 +177,10 @@ class OnAServer(Case):
         with mock.patch.object(RedisLog, "append", appended):
             for number, lack in enumerate((Lack(Way.IT, last.hash), Lack(Way.AFTER, last.before), LACK)):
                 self.puts(b"x", self.form.presence(said(number + 1, number, lack)))
-                self.hears("_meet", 2)
+                self.hears(times=2)
             wait_for(lambda: given, "it to be given", SOON)
-            self.hears("_meet")
-        self.assertEqual((given, courier.reading()), ([[last.raw]], before))
+            self.hears()
+        self.assertEqual((given, replicator.reading()), ([[last.raw]], before))
 
     def test_an_old_cursor_is_not_shown_again(self) -> None:
         bob = self.opened(self.person("bob"), link=self.person("ann").link())
@@ -189,21 +191,21 @@ class OnAServer(Case):
             self.ann.session.show({b"ann": presence.written(Present(self.ann.session.token(), bytes(16), 7, "#000000", None,
                                                                     None, "Ann"))})
             bob.session.show({token: data})
-            wait_for(lambda at=at: [presence.read(one).cursor for one in self.ann.session._courier.shown()
+            wait_for(lambda at=at: [presence.read(one).cursor for one in self.ann.session._replicator.shown()
                                     ] == [(1, at)], "the cursor to be shown", SOON)
             with contextlib.closing(self.person("ann").log()) as log:
                 raws += [raw for raw in log.meet(b"me", b"") if (found := self.form.present(raw))
                          and (one := presence.read(found)) and one.editor == token]
         for under, raw in zip((b"a", b"z"), raws):
             self.puts(under, raw)
-        self.hears("_hear")
-        self.assertEqual([presence.read(one).cursor for one in self.ann.session._courier.shown()], [(1, 2)])
+        self.hears(Presence)
+        self.assertEqual([presence.read(one).cursor for one in self.ann.session._replicator.shown()], [(1, 2)])
         bob.session.show({})
-        wait_for(lambda: not self.ann.session._courier.shown(), "the cursor to be gone", SOON)
+        wait_for(lambda: not self.ann.session._replicator.shown(), "the cursor to be gone", SOON)
         for under, raw in zip((b"a", b"z"), raws):
             self.puts(under, raw)
-        self.hears("_hear")
-        self.assertEqual(self.ann.session._courier.shown(), [])
+        self.hears(Presence)
+        self.assertEqual(self.ann.session._replicator.shown(), [])
 
 
 class Damaged(Case):
@@ -215,7 +217,7 @@ class Damaged(Case):
         for words in "one ", "two ":
             written(ann, words)
         wait_for(lambda: damage(path, b"two ", b"twx "), "it to be there")
-        before = ann.session._courier.reading()
+        before = ann.session._replicator.reading()
         bob, told = self.opened(self.person("bob"), link=self.person("ann").link()), list[str]()
         told.append(bob.notice)
         notices = bob.session.notices
@@ -224,7 +226,7 @@ class Damaged(Case):
         wait_for(lambda: (bob.take_in(), "damaged and was left out" in " ".join(told))[1], "it to be told", SOON)
         type_at_the_end(bob, "three ")
         self.assertEqual(self.assert_meet(ann, bob), b"one two three ")
-        self.assertEqual(ann.session._courier.reading(), before)
+        self.assertEqual(ann.session._replicator.reading(), before)
 
 
 if __name__ == "__main__":

@@ -15,9 +15,12 @@ from share.format.operation import DELETE, Message
 from share.log.base import Log
 from share.log.sqlite import SqliteLog
 from share.program.process import Program
-from share.program.site import Edited, Site
+from share.program.site import Edited, Site, Told
 from share.store.note_file import Client, Disk
-from share.sync.replicator import Courier
+from share.sync.numbers import Numbers as OwnNumbers
+from share.sync.open_file import OpenFile
+from share.sync.rebasing import Rebaser
+from share.sync.replicator import Replicator
 from share.sync.session import Session
 from share.tests.naive import about
 from share.tests.note import Note
@@ -238,15 +241,15 @@ class Numbers(Case):
 
     def test_a_number_that_another_editor_just_wrote_under(self) -> None:
         self.begun()
-        first, choose = self.opened(self.anna), Session._free_client
+        first, choose = self.opened(self.anna), OwnNumbers.locked
 
-        def chosen(session: Session) -> Client | None:
+        def chosen(numbers: OwnNumbers) -> Client | None:
             # The file was read, and nothing is locked yet.
             written(first, "four ")
             first.session.close()
-            return choose(session)
+            return choose(numbers)
 
-        with mock.patch.object(Session, "_free_client", chosen):
+        with mock.patch.object(OwnNumbers, "locked", chosen):
             second = self.opened(self.anna)
         self.assertEqual(second.session.number, first.session.number)
         self.assertEqual(second.text, b"one two three four ")
@@ -256,12 +259,12 @@ class Numbers(Case):
 
     def test_a_number_that_another_editor_has_seen_in_the_log(self) -> None:
         self.begun()
-        first, stands = self.opened(self.anna), Courier.stands
+        first, stands = self.opened(self.anna), Replicator.stands
 
-        def stands_there(courier: Courier, entry: Entry) -> bool:
-            return courier is first.session._courier and stands(courier, entry)
+        def stands_there(replicator: Replicator, entry: Entry) -> bool:
+            return replicator is first.session._replicator and stands(replicator, entry)
 
-        with mock.patch.object(Courier, "stands", stands_there), mock.patch("share.sync.session.OPEN_SECONDS", 0):
+        with mock.patch.object(Replicator, "stands", stands_there), mock.patch("share.sync.session.OPEN_SECONDS", 0):
             second = self.opened(self.anna)
             wait_for(lambda: (first.take_in(), second.session.number in stood(self.anna))[1], "it to be noted in the file")
             self.assertFalse(second.session.status().can_type)
@@ -273,8 +276,9 @@ class Numbers(Case):
 
     def test_a_number_that_another_claimed_just_before(self) -> None:
         link = self.begun()
-        form, append, read = self.form(), SqliteLog.append, Session._read
+        form, append, read, arrived = self.form(), SqliteLog.append, OpenFile.read, Session._arrived
         rivals: list[Entry] = []
+        sessions: list[Session] = []
 
         def appended(log: SqliteLog, raws: Sequence[bytes]) -> None:
             claims = [entry for entry in map(form.open, raws) if entry.kind is Kind.CLAIM and not rivals]
@@ -282,15 +286,20 @@ class Numbers(Case):
                 rivals[:] = [form.claim(claims[0].site, form.new_author())]
             append(log, [*(one.raw for one in rivals), *raws])
 
-        def read_late(session: Session) -> list[Row]:
+        def arrived_there(session: Session) -> Told:
+            sessions.append(session)
+            return arrived(session)
+
+        def read_late(file: OpenFile) -> list[Row]:
             # Both claims come when the file has just been read.
-            rows = read(session)
-            if hasattr(session, "_courier") and not session._client.stood:
+            rows = read(file)
+            if sessions and not (session := sessions[0])._client.stood:
                 claim = form.claim(session.number, session._client.author)
-                wait_for(lambda: session._courier.stands(claim), "a claim to stand in the log")
+                wait_for(lambda: session._replicator.stands(claim), "a claim to stand in the log")
             return rows
 
-        with mock.patch.object(SqliteLog, "append", appended), mock.patch.object(Session, "_read", read_late):
+        with mock.patch.object(SqliteLog, "append", appended), mock.patch.object(OpenFile, "read", read_late), \
+                mock.patch.object(Session, "_arrived", arrived_there):
             note = self.opened(self.person("other"), link=link)
             written(note, "four ")
         self.assertEqual(len(rivals), 1)
@@ -349,7 +358,7 @@ class Numbers(Case):
         for url in None, self.url:
             person = self.person(f"person{bool(url)}")
             note = self.opened(person, url=url)
-            with mock.patch.multiple("share.sync.numbers", MOST_OF_A_SITE=1_000, ROOM=100, AGAIN_SECONDS=0):
+            with mock.patch.multiple("share.sync.numbers", MOST_OF_A_SITE=1_000, LEAST_ROOM_LEFT=100, ANOTHER_SECONDS=0):
                 for _ in range(3):
                     before = note.session.number
                     type_at_the_end(note, "x" * 950)
@@ -458,7 +467,7 @@ class OnAServer(Case):
 
     def test_what_was_made_anew_is_waited_for_until_that_is_said(self) -> None:
         other, berta = self.typed_after_what_isnt_sent()
-        with mock.patch.object(Session, "_say_what_was_made_anew"):
+        with mock.patch.object(Rebaser, "say_what_was_rebased"):
             # As if she were killed before she says so.
             wait_for(lambda: (other.take_in(), berta.take_in(), b"after" in berta.text)[2], "it to come")
             self.assertEqual((other.text, berta.session.status().waiting), (berta.text, 1))
@@ -477,20 +486,20 @@ class OnAServer(Case):
             self.assertEqual((run.returncode, run.stderr, run.stdout), (0, "", text.decode()))
 
     def test_what_is_typed_under_a_number_that_another_editor_gives_up(self) -> None:
-        server, give_up = self.redis(), Session._given_up
+        server, give_up = self.redis(), Rebaser._given_up
         again, other, berta = self.put_back(server)
 
-        def given_up(session: Session) -> list[Client]:
+        def given_up(rebaser: Rebaser) -> list[Client]:
             # The file was read, and the number is locked no more.
-            if session is other.session and again.text == b"first ":
+            if rebaser is other.session._rebaser and again.text == b"first ":
                 again.moved_to(len(again.text))
                 again.type("late ")
                 again.session.close()
-            return give_up(session)
+            return give_up(rebaser)
 
         server.start()
-        wait_for(lambda: other.session._courier.has_read(), "the log to be read")
-        with mock.patch.object(Session, "_given_up", given_up):
+        wait_for(lambda: other.session._replicator.has_read(), "the log to be read")
+        with mock.patch.object(Rebaser, "_given_up", given_up):
             text = self.assert_meet(other, berta)
         self.assertEqual(sorted(text.split()), sorted(b"first sent late".split()))
 

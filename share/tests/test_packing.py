@@ -248,7 +248,7 @@ class Packing(Case):
         type_at_the_end(note, "x" * 3_000)
         pid = note.session.site._program.process.pid
         resource.prlimit(pid, resource.RLIMIT_FSIZE, (100, 100))
-        note.session._pack(1)
+        note.session._replica.pack(1)
         self.assertNotEqual(note.session.site._program.process.pid, pid)
         type_at_the_end(note, "y")
         note.session.close()
@@ -266,7 +266,7 @@ class Packing(Case):
         note = self.opened(self.ann)
         type_at_the_end(note, "more ")
         with mock.patch.object(Program, "ask", ends):
-            note.session._pack(1)
+            note.session._replica.pack(1)
         type_at_the_end(note, "and more")
         self.assertEqual(note.session.text(), b"begin more and more")
         note.session.close()
@@ -288,7 +288,7 @@ class Packing(Case):
         shutil.rmtree(self.file().parent)
         note.session.site._program.process.kill()
         type_at_the_end(note, "more ")
-        note.session._pack(1)
+        note.session._replica.pack(1)
         self.assertFalse((pathlib.Path.cwd() / KEPT).exists())
         note.session.close()
         self.shows("begin more ", False)
@@ -307,7 +307,7 @@ class Packing(Case):
                 written(one, word)
             two = self.opened(self.person("two"), link=self.person("one").link())
             self.assert_meet(one, two)
-            wait_for(lambda: (two.take_in(), two.session._packed)[1], "it to be packed")
+            wait_for(lambda: (two.take_in(), two.session._replica.packed)[1], "it to be packed")
 
     def test_a_session_whose_file_can_not_be_read(self) -> None:
         with mock.patch("share.store.note_file.Disk.packed", side_effect=Unkept("busy")):

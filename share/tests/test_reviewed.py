@@ -8,8 +8,9 @@ import time
 from unittest import mock
 
 from share.admission.judge import rank
-from share.program.site import MOST_BYTES, Edited, Site
+from share.program.site import MOST_BYTES, Edited, Site, Told
 from share.store.note_file import Anew, Disk, Overtaken, Unkept, make
+from share.sync.open_file import OpenFile
 from share.sync.session import Session
 from share.tests import test_numbers
 from share.tests.note import Note
@@ -167,7 +168,7 @@ class GivenUp(Case):
 
     def clients(self, note: Note) -> list:
         """The numbers of who has a note open."""
-        with contextlib.closing(Disk(note.session._disk.path)) as disk:
+        with contextlib.closing(Disk(note.session._file.disk.path)) as disk:
             return disk.clients()
 
     def test_what_another_editor_made_anew_isnt_kept_twice(self) -> None:
@@ -189,7 +190,7 @@ class GivenUp(Case):
                 for note, words in (first, "F "), (second, "S "):
                     wait_for(lambda one=note: one.session.status().offline, "the log to be away")
                     type_at_the_end(note, words)
-                with mock.patch("share.sync.session.AGAIN_SECONDS", 0.3):
+                with mock.patch("share.sync.rebasing.REBASE_AGAIN_SECONDS", 0.3):
                     with mock.patch.object(Disk, step, side_effect=Unkept("full")):
                         self.back()
                         end = time.monotonic() + 1.2
@@ -207,15 +208,19 @@ class GivenUp(Case):
         with contextlib.closing(self.anna.disk()) as disk:
             place = disk.rows()[2].place
         change(self.anna.path(), "UPDATE entry SET raw = x'00' WHERE place = ?", place)
-        read = Session._read
+        read, arrived, sessions = OpenFile.read, Session._arrived, list[Session]()
 
-        def slowly(session: Session) -> list:
-            rows = read(session)
-            if hasattr(session, "_courier"):
-                wait_for(session._courier.has_read, "the log to be read")
+        def arrived_there(session: Session) -> Told:
+            sessions.append(session)
+            return arrived(session)
+
+        def slowly(file: OpenFile) -> list:
+            rows = read(file)
+            if sessions:
+                wait_for(sessions[0]._replicator.has_read, "the log to be read")
             return rows
 
-        with mock.patch.object(Session, "_read", slowly):
+        with mock.patch.object(OpenFile, "read", slowly), mock.patch.object(Session, "_arrived", arrived_there):
             note = self.opened(self.anna)
         wait_for(lambda: (note.take_in(), note.text == b"one two three ")[1], "the text to be whole")
         self.assertEqual(self.assert_meet(note), b"one two three ")

@@ -165,7 +165,7 @@ class Operators(Shared):
         seen = [bytes(tapped.sent), *(path.read_bytes() for path in (self.folder / "redis").rglob("*")
                                       if path.is_file())]
         self.assertIn(self.form.note.hex().encode(), seen[0])
-        token = note.session._courier._token
+        token = note.session._replicator.token
         self.assertIn(token, seen[0])
         key = self.about.secret
         with contextlib.closing(self.ann.disk()) as disk:

@@ -76,11 +76,11 @@ class SlowLine(Case):
             with contextlib.closing(open_log(self.server.url, self.form.note)) as log:
                 wait_for(lambda: claim in raws_of(log), "the claim to be in the log")
             # It is there before all was read that the log had.
-            self.assertFalse(note.session._courier.has_read())
+            self.assertFalse(note.session._replicator.has_read())
             lengths = set[int]()
             wait_for(lambda: (note.take_in(), lengths.add(len(note.text)), note.session.status().can_type)[2], "a number")
             with contextlib.closing(open_log(self.server.url, self.form.note)) as log:
-                self.assertGreater(log.size(), note.session._courier._size)
+                self.assertGreater(log.size(), note.session._replicator._fetcher.size)
         finally:
             ends.set()
             writer.join()

@@ -8,7 +8,7 @@ from share.format.entry import Author, Copied, Copy, Entry, Plain
 from share.format.operation import Message
 from share.store.note_file import Client, Row
 from share.sync.recovered import Recovered
-from share.sync.standing import Standing, in_stretches, said
+from share.sync.standing import Standing, in_stretches, said_of_copies
 from share.tests.naive import inserting
 
 FORM = Plain(bytes(16))
@@ -102,7 +102,7 @@ class Sets(unittest.TestCase):
         new = FORM.entry(FORM.claim(60, author), [typed(60, 1, b"b"), typed(60, 2, b"c")], author)
         here = self.rows | {withdrawn.hash: Row(0, withdrawn, True)}
         pairs = {self.old.hash: [(2, 1)], withdrawn.hash: [(3, 2)]}
-        words = said(FORM, {(50, OLD.name): Client(50, OLD)}, here, new, pairs, {withdrawn.hash})
+        words = said_of_copies(FORM, {(50, OLD.name): Client(50, OLD)}, here, new, pairs, {withdrawn.hash})
         self.counts = {(60, 1): new.hash, (60, 2): new.hash}
         # Another disk never gets what was withdrawn.
         for rows in here, self.rows:

@@ -1,0 +1,119 @@
+"""Edits that are made here: each is kept in the note's file before anyone sees it."""
+from collections.abc import Callable, Sequence
+
+from share.format.entry import Copy, Entry, Form, in_entries
+from share.format.operation import Message, length_after
+from share.program.site import Edited, Site
+from share.store.note_file import Anew, Client, Unkept
+from share.sync.numbers import FULL, Numbers
+from share.sync.open_file import OpenFile
+from share.sync.replica import Replica
+from share.sync.replicator import Replicator
+from share.sync.state import Holdings
+from share.sync.status import Notices
+from share.text.errors import Trouble
+
+# What is said of messages, given the last entry that has some of them.
+Says = Callable[[Entry], Sequence[Entry]]
+
+
+class OwnEdits:
+    """Makes edits at the replica's site, and puts them into the file. The editor's thread alone calls it."""
+
+    def __init__(self, file: OpenFile, holdings: Holdings, form: Form, numbers: Numbers, replica: Replica,
+                 replicator: Replicator, notices: Notices):
+        self._file, self._holdings, self._form, self._numbers = file, holdings, form, numbers
+        self._replica, self._replicator, self._notices = replica, replicator, notices
+        # The last entry that was made here.
+        self.last: Entry
+        self.goes_on()
+
+    @property
+    def author(self) -> Client:
+        """Under which number edits are made."""
+        return self._numbers.own
+
+    def goes_on(self) -> None:
+        """Has the next edit follow the last entry of this editor's number, which may be none that anybody can claim."""
+        own, judge = self._numbers.own, self._holdings.judge
+        self.last = judge.last(own.site) if judge.holder(own.site) else self._form.claim(own.site, own.author)
+
+    def make(self, edit: Callable[[Site], Edited], says: Says = lambda last: ()) -> Edited:
+        """Makes an edit, and keeps its messages before anyone sees them, with what is said of them."""
+        self.make_room()
+        if not self._numbers.own.stood:
+            raise Trouble("Nothing can be typed here until the log has given this editor a number of its own.")
+        if self._replica.is_stale or self._holdings.is_anew():
+            # What is typed would be said to build on what counts, and others than the user sees may count.
+            raise Trouble("What counts of the note can't be shown yet. Type again as soon as it is.")
+        site = self._replica.site
+        before = len(site.history)
+        try:
+            edited = edit(site)
+        except BaseException:
+            # The site may have made some of it, which nobody would keep.
+            site.go_back(before)
+            raise
+        # It goes on under another number before the next edit.
+        self._numbers.is_full = self._numbers.is_full or edited.refused in FULL
+        if edited.messages:
+            self._keep_or_go_back(edited.messages, says, before)
+        return edited
+
+    def make_room(self, length: int = 0) -> None:
+        """Goes on under another number where this one has little room left beside this many characters, or can make no
+        more edits."""
+        if not self._replica.is_stale and self._numbers.take_another_when_full(length):
+            # What was read of the file meanwhile is looked at, and taken in, later.
+            self._numbers.is_settled = False
+            self.goes_on()
+            self._replica.go_on_under_another_number()
+
+    def keep(self, messages: Sequence[Message], anew: Sequence[Anew] = (),
+             says: Says = lambda last: (), hidings: Sequence[Copy] = ()) -> None:
+        """Puts messages that the site made into the file, after what is said of them up to their last entry, and has them
+        sent."""
+        made = self._in_entries(messages)
+        last = made[-1] if made else self.last
+        said = says(last)
+
+        def keep() -> int:
+            if self._numbers.is_taken:
+                raise Unkept("another editor of yours got this one's number")
+            self._file.look()
+            return self._file.disk.keep([*said, *made], True, anew=anew, hidings=hidings)
+
+        place = self._file.mended(keep)
+        self.last = last
+        self._holdings.add([*said, *made])
+        self._holdings.made_anew(anew, hidings)
+        found = self._holdings.count()
+        self._replica.made(messages, found)
+        if found.anew:
+            self._numbers.is_settled = False
+        self._replicator.made(range(place - len(made) + 1, place + 1))
+
+    def _in_entries(self, messages: Sequence[Message]) -> list[Entry]:
+        """Messages as entries that follow the last one."""
+        judge, own = self._holdings.judge, self._numbers.own
+        made, before, length = list[Entry](), self.last, judge.length(own.site)
+        for part in in_entries(messages, length):
+            before = self._form.entry(before, part, own.author, judge.built_on(part), length)
+            made.append(before)
+            length = length_after(part, length)
+        return made
+
+    def _keep_or_go_back(self, messages: Sequence[Message], says: Says, before: int) -> None:
+        """Keeps messages; where that fails the site has only those it had before."""
+        try:
+            self.keep(messages, says=says)
+        except Unkept as why:
+            self._replica.site.go_back(before)
+            self._notices.trouble = f"The last edit couldn't be kept ({why}); all before it is. Make room on the disk."
+            raise Trouble(self._notices.trouble) from why
+        except BaseException:
+            # It is perhaps kept, and perhaps not: what the file has of it is shown again.
+            self._replica.site.go_back(before)
+            self._replica.is_stale = True
+            raise
+        self._notices.trouble = None

@@ -1,0 +1,144 @@
+"""Fetches what a log has into a note's file, where it is right."""
+import time
+from collections.abc import Sequence
+from contextlib import closing
+
+from share.format.entry import Bad, Entry, Form, before_of, digest
+from share.log.base import START, InLog, Log
+from share.program.trace import trace
+from share.store.note_file import Disk
+from share.sync.backoff import Losses
+from share.sync.carried import Carried
+from share.sync.giving import Giver
+from share.sync.known import Known
+from share.sync.meeting import Meeting
+from share.sync.threads import Ends, Task, Threads
+from share.text.errors import entries
+
+# The longest that a log is watched before it is seen whether it still is the one that was read.
+WATCH_SECONDS = 0.5
+# After a reading from the front the next one begins only once this many times as long has passed, up to a most.
+RESTS, MOST_REST_SECONDS = 5, 30
+# The most of what a log has that is no entry that are remembered, so that each is told once.
+MOST_LEFT_OUT = 10_000
+
+
+class Fetcher:
+    """Reads the log to its end and watches it. `run` is a thread's part; any thread may call `progress`."""
+
+    def __init__(self, ends: Ends, form: Form, known: Known, meeting: Meeting, losses: Losses, giver: Giver, threads: Threads):
+        self._ends, self._form, self._known, self._meeting = ends, form, known, meeting
+        self._losses, self._giver, self._threads = losses, giver, threads
+        # How often the log was read whole, and how many entries were read since that was begun.
+        self.readings = self.size = 0
+        # Where it is in the log, how many entries it reads until the log was read whole, and for which file.
+        self._after = START
+        self._goal: int | None = None
+        self._read_for: Carried | None = None
+        # When reading from the front began, and when it may begin again.
+        self._began = self._reads_again = 0.0
+        self._left_out: set[bytes | str] = set()
+
+    def progress(self) -> tuple[int, int] | None:
+        """How much was read of what the log had when it was opened, until all of that was; None then, and before it
+        answers."""
+        goal = self._goal
+        return None if not goal or self.readings else (min(self.size, goal), goal)
+
+    def run(self) -> None:
+        """Reads and watches until all stop."""
+        with closing(self._ends.disk()) as disk, closing(self._ends.log()) as log:
+            carried = self._known.of(disk)
+            while not self._threads.stopped.is_set() and self._known.is_of_now(disk, carried):
+                if self._giver.reads_from_front or self._read_for is not carried:
+                    self._begin_reading(log, carried)
+                has_more = self._read_on(disk, log, carried)
+                if self._goal is not None and (self.size >= self._goal or not has_more):
+                    self._end_reading(disk, carried)
+                elif not has_more and log.size() != self.size:
+                    # Something was taken out of the log, or put back.
+                    self._giver.reads_from_front = True
+                elif not has_more and not self._giver.reads_from_front:
+                    log.watch(self._after, WATCH_SECONDS)
+
+    def _begin_reading(self, log: Log, carried: Carried) -> None:
+        """Has the log be read from its front. It goes on where it was when the log was away meanwhile."""
+        if self._read_for is carried:
+            # A log that loses something without end would be read without end.
+            self._threads.stopped.wait(max(0.0, self._reads_again - time.monotonic()))
+        self._began = time.monotonic()
+        carried.begin()
+        # What is given from now on may be after what the log has by then.
+        goal = log.size()
+        self._giver.reads_from_front, self._read_for, self._goal = False, carried, goal
+        self._after, self.size = START, 0
+        trace("read from the front", entries=goal)
+
+    def _end_reading(self, disk: Disk, carried: Carried) -> None:
+        """All that the log had as its reading began was read. The giver gives it all that it lacks."""
+        self._goal = None
+        if missing := disk.many_at(carried.end()):
+            self._tell_of_loss(missing)
+        if self.readings:
+            now = time.monotonic()
+            self._reads_again = now + min(RESTS * (now - self._began), MOST_REST_SECONDS)
+        self.readings += 1
+        self._giver.has_work()
+        self._threads.wake()
+
+    def _came_to_end(self, carried: Carried, given: frozenset[int]) -> None:
+        """The log was read to its end, after it was given this. What isn't there it is given again; a log that keeps
+        losing it, ever later."""
+        if lost := carried.came_to_end(given):
+            if self._losses.lost():
+                self._tell_of_loss(lost)
+            self._giver.has_work()
+            self._threads.wake()
+
+    def _tell_of_loss(self, many: int) -> None:
+        trace("lost", entries=many)
+        self._threads.tell(f"The log has lost {entries(many)} that it had. It is filled again from here.")
+
+    def _read_on(self, disk: Disk, log: Log, carried: Carried) -> bool:
+        """Reads a page more; whether there was one."""
+        given = carried.given()
+        page = log.read(self._after)
+        self._threads.works(Task.FETCH)
+        if page:
+            self._take(disk, carried, page)
+            self._after, self.size = page[-1].place, self.size + len(page)
+        else:
+            self._came_to_end(carried, given)
+        return bool(page)
+
+    def _take(self, disk: Disk, carried: Carried, page: Sequence[InLog]) -> None:
+        """Puts what came into the file, where it is right, and notes that the log has it."""
+        raws = {digest(one.raw): one.raw for one in page if one.raw is not None}
+        held = disk.in_log(raws)
+        opened, damaged = self._opened({of: raw for of, raw in raws.items() if of not in held and of not in self._left_out})
+        for one in page:
+            if one.raw is None:
+                self._leave_out(one.place, f"Entry {one.place} of the log can't be one and was left out.")
+        self._known.came(disk, carried, opened, held)
+        # What stands there may be asked for by what is before it, where that came.
+        self._meeting.damaged(disk.places_of(damaged))
+        trace("fetched", entries=len(page), new=len(opened))
+        if opened:
+            self._threads.wake()
+
+    def _opened(self, raws: dict[bytes, bytes]) -> tuple[list[Entry], list[bytes]]:
+        """The right ones of what came, and what is before those that are damaged."""
+        opened, damaged = list[Entry](), list[bytes]()
+        for of, found in zip(raws, self._form.open_many([*raws.values()])):
+            if isinstance(found, Bad):
+                self._leave_out(of, f"An entry of the log {found} and was left out.")
+                damaged.append(before_of(raws[of]))
+            else:
+                opened.append(found)
+        return opened, damaged
+
+    def _leave_out(self, what: bytes | str, words: str) -> None:
+        """Says once that something of the log was left out."""
+        if what not in self._left_out and len(self._left_out) < MOST_LEFT_OUT:
+            self._left_out.add(what)
+            self._threads.tell(words)

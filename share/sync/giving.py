@@ -1,0 +1,107 @@
+"""Gives a log what it lacks of a note's file, whoever wrote it."""
+import threading
+import time
+from contextlib import closing
+
+from share.format.entry import Form, digest
+from share.log.base import ON_SECONDS, Log
+from share.program.trace import trace
+from share.store.note_file import Disk
+from share.sync.backoff import Losses
+from share.sync.carried import Carried
+from share.sync.known import Known
+from share.sync.meeting import Meeting
+from share.sync.threads import Ends, Task, Threads
+
+# The most entries that are appended at once.
+GIVEN_AT_ONCE = 200
+# Nothing more is given while about this much was given and wasn't read in the log yet.
+MOST_GIVEN = 20_000
+# The longest wait for something to give, and the wait while the log is about to be read from its front.
+IDLE_SECONDS, ABOUT_TO_READ_SECONDS = 0.5, 0.03
+
+
+class Giver:
+    """Appends to the log what it isn't known to have. `run` is a thread's part; any thread may call the rest."""
+
+    def __init__(self, ends: Ends, form: Form, known: Known, meeting: Meeting, losses: Losses, threads: Threads):
+        self._ends, self._form, self._known = ends, form, known
+        self._meeting, self._losses, self._threads = meeting, losses, threads
+        self._work = threading.Event()
+        # Whether the log is to be read from its front.
+        self.reads_from_front = False
+
+    def has_work(self) -> None:
+        """Says that the file has more, or that the log may lack something."""
+        self._work.set()
+
+    def is_done(self) -> bool:
+        """Whether the log was read, and was given all that it is to have."""
+        return self._known.now.is_given() and not self._work.is_set()
+
+    def run(self) -> None:
+        """Gives until all stop."""
+        with closing(self._ends.disk()) as disk, closing(self._ends.log()) as log:
+            disk.quick()
+            carried, due = self._known.of(disk), 0.0
+            self._claim(disk, log, carried)
+            while not self._threads.stopped.is_set() and self._known.is_of_now(disk, carried):
+                if time.monotonic() >= due:
+                    self._meet(disk, log, carried)
+                    due = time.monotonic() + ON_SECONDS / 10
+                self._threads.works(Task.GIVE)
+                self._work.clear()
+                if not self._give_more(disk, log, carried):
+                    self._work.wait(ABOUT_TO_READ_SECONDS if self.reads_from_front else IDLE_SECONDS)
+            self._meeting.leave(log)
+
+    def _claim(self, disk: Disk, log: Log, carried: Carried) -> None:
+        """Gives the log the claims of this person before it was read, where the log can say which numbers are claimed: who
+        is new can type then as soon as all was read that the log had. Other claims come after it was read."""
+        new = {self._form.claim(one.site, one.author).hash: one.site for one in disk.clients()
+               if not (one.stood or one.retired)}
+        places = disk.places_of(new)
+        if carried.whole or not places or (taken := log.claimed()) is None:
+            return
+        if free := [place for of, place in places.items() if new[of] not in taken]:
+            log.append(disk.offer(free))
+            carried.gave(free)
+            trace("claims given", entries=len(free))
+
+    def _give_more(self, disk: Disk, log: Log, carried: Carried) -> bool:
+        """Looks what the file has more, and gives the log some of what it lacks; whether there may be more."""
+        # Only what was in the log before the file was looked at says whether a number is shared.
+        whole = carried.whole
+        self._known.look_at(disk, carried)
+        if self._losses.is_due():
+            carried.lets_go()
+        return bool(whole) and carried.many_given() < MOST_GIVEN and self._give(disk, log, carried)
+
+    def _give(self, disk: Disk, log: Log, carried: Carried) -> bool:
+        """Gives the log some of what it lacks; whether there may be more."""
+        if (place := carried.next_lacking()) is None:
+            return False
+        found = disk.places(place - 1, GIVEN_AT_ONCE)
+        had = {one.place for one in found if carried.has(one.place)}
+        lacks = {one.hash: one.place for one in found if one.place not in had and self._known.may_give(one)}
+        raws = disk.offer([*lacks.values()])
+        given = {lacks[of] for of in map(digest, raws) if of in lacks}
+        if raws:
+            log.append(raws)
+            carried.gave(given)
+            trace("given", entries=len(raws))
+            self._threads.wake()
+        # Of what was withdrawn, dropped or damaged there is nothing at its place.
+        last = found[-1].place if found else carried.looked
+        carried.holds_back({*range(place, last + 1)} - had - given)
+        return True
+
+    def _meet(self, disk: Disk, log: Log, carried: Carried) -> None:
+        """Meets the others, and gives the log again what they lack, of what it seemed to have."""
+        self._meeting.meet(log)
+        places, reads = self._meeting.answers(disk)
+        # A version of before can't say what it lacks.
+        self.reads_from_front = self.reads_from_front or reads
+        if had := [place for place in places if carried.has(place)]:
+            log.append(disk.offer(had))
+            trace("given again", entries=len(had))

@@ -1,0 +1,97 @@
+"""Who is on, through a log, and what each of them lacks."""
+import random
+import time
+from collections.abc import Callable, Iterable, Iterator, Sequence
+
+from share.format import heartbeat
+from share.format.entry import Form
+from share.format.heartbeat import MOST_LACKS, OF_BEFORE, Lack, Said, Way
+from share.format.presence import RANDOM_BYTES
+from share.log.base import Log
+from share.store.note_file import Disk
+from share.sync.heard import Others
+
+# The pause before the others are asked again for what is missing, which doubles up to a most.
+ASK_SECONDS, MOST_ASK_SECONDS = 2, 600
+# How often what stands where an entry is damaged is asked for, and the most such places.
+ASKS_FOR_DAMAGED, MOST_DAMAGED = 3, 100
+# The pause between two readings of the log, or of the whole file, for those who ask, however many they are.
+WHOLE_ANSWER_SECONDS = 30
+# The most entries that others lack and that are remembered, and of those after one that are given in one go.
+MOST_WANTED, WANTED_AT_ONCE = 50, 200
+# What follows its token's first bytes where a replicator says what it lacks.
+ASKING = b"asking\0\0"
+
+
+class Meeting:
+    """Says that this replicator is on and what it lacks, and hears the same of others. The giver's thread calls `meet`,
+    `answers` and `leave`; the editor's thread `ask`, and the fetcher's `damaged`."""
+
+    def __init__(self, form: Form, token: bytes, counts: Iterator[int], wake: Callable[[], None]):
+        self.on = 1
+        self._form, self._token, self._counts, self._wake = form, token, counts, wake
+        self._others = Others(token)
+        # How often the others were asked, and from when on they are asked again; what they are asked for now, and next.
+        self._asks, self._asked = 0, 0.0
+        self._lacks: Sequence[Lack] = ()
+        self._lacked: Sequence[bytes] = ()
+        # The entries after which something damaged came, and how often that is to be asked for yet.
+        self._damaged: dict[bytes, int] = {}
+        # What others have asked for; whether one couldn't say what it lacks; and from when on this is looked at again.
+        self._wanted: dict[Lack, None] = {}
+        self._is_asked, self._answers_again = False, 0.0
+
+    def is_on(self, many: int) -> None:
+        """Takes over how many are on."""
+        if many != self.on:
+            self.on = max(1, many)
+            self._wake()
+
+    def ask(self, lacked: Callable[[], Sequence[bytes]]) -> None:
+        """Has all who are on be asked for entries of these hashes. Who asks often does so ever more rarely."""
+        if time.monotonic() >= self._asked:
+            self._lacked = lacked()
+
+    def damaged(self, before: Iterable[bytes]) -> None:
+        """Has the others be asked for what stands after these entries, where something damaged came."""
+        self._damaged |= dict.fromkeys([*before][:MOST_DAMAGED - len(self._damaged)], ASKS_FOR_DAMAGED)
+
+    def meet(self, log: Log) -> None:
+        """Says that this one is on, and what it lacks; hears who else is, and what they lack."""
+        self._ask_for_more()
+        mine = Said(self._token, next(self._counts), self._asks, self._lacks)
+        log.meet(self._token[:RANDOM_BYTES] + ASKING, self._form.presence(heartbeat.written(mine)))
+        said = log.meet(self._token, self._form.presence(OF_BEFORE.pack(self._token, self._asks)))
+        asked = self._others.heard(found for raw in said if (found := self._form.present(raw)))
+        for one in asked.lacks[:MOST_WANTED - len(self._wanted)]:
+            self._wanted[one] = None
+        self._is_asked |= asked.all
+        self.is_on(self._others.on)
+
+    def answers(self, disk: Disk) -> tuple[list[int], bool]:
+        """The places of what others lack, and whether the log is to be read for one that can't say what it lacks."""
+        places = {*disk.places_of([one.hash for one in self._wanted if one.way is Way.IT]).values()}
+        after, reads = [one.hash for one in self._wanted if one.way is Way.AFTER], False
+        if (after or self._is_asked) and time.monotonic() >= self._answers_again:
+            self._answers_again = time.monotonic() + WHOLE_ANSWER_SECONDS
+            places |= {*disk.places_after(after, WANTED_AT_ONCE)}
+            reads, self._is_asked, after = self._is_asked, False, []
+        self._wanted = dict.fromkeys(Lack(Way.AFTER, of) for of in after)
+        return sorted(places), reads
+
+    def leave(self, log: Log) -> None:
+        """Says that this one is on no more."""
+        for token in self._token, self._token[:RANDOM_BYTES] + ASKING:
+            log.leave(token)
+
+    def _ask_for_more(self) -> None:
+        """Has the others be asked for what is lacked now, where it is time for that."""
+        lacks = [Lack(Way.IT, of) for of in self._lacked] + [Lack(Way.AFTER, of) for of in [*self._damaged]]
+        if not lacks or time.monotonic() < self._asked:
+            return
+        self._lacks, self._lacked = random.sample(lacks, min(len(lacks), MOST_LACKS)), ()
+        for _, of in self._lacks:
+            if (times := self._damaged.pop(of, 0) - 1) > 0:
+                self._damaged[of] = times
+        self._asks += 1
+        self._asked = time.monotonic() + min(ASK_SECONDS * 2**self._asks, MOST_ASK_SECONDS)

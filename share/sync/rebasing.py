@@ -1,0 +1,140 @@
+"""When edits are rebased: what was made under numbers that can't be gone on with, or builds on what was left out, is made again
+under this editor's number."""
+import time
+from collections.abc import Sequence
+from contextlib import suppress
+
+from share.format.entry import Form
+from share.format.history import Messages
+from share.program.trace import trace
+from share.store.note_file import Client, Overtaken, Unkept
+from share.sync.backoff import Turns, told_of_edits, told_of_numbers
+from share.sync.edits import OwnEdits
+from share.sync.numbers import Numbers
+from share.sync.open_file import OpenFile
+from share.sync.rebase import Remade, at_once, length_of, make_anew, with_claims
+from share.sync.replica import Replica
+from share.sync.replicator import Replicator
+from share.sync.state import Holdings
+from share.sync.status import Notices
+from share.text.errors import counted
+
+# The pause before what couldn't be rebased is tried again.
+REBASE_AGAIN_SECONDS = 5
+
+
+class Rebaser:
+    """Gives up numbers that can't be gone on with, and rebases what doesn't count. The editor's thread alone calls it."""
+
+    def __init__(self, file: OpenFile, holdings: Holdings, form: Form, numbers: Numbers, replica: Replica,
+                 edits: OwnEdits, replicator: Replicator, notices: Notices):
+        self._file, self._holdings, self._form, self._numbers = file, holdings, form, numbers
+        self._replica, self._edits, self._replicator, self._notices = replica, edits, replicator, notices
+        self._turns, self._again = Turns(), 0.0
+
+    def may_write(self) -> bool:
+        """Whether what couldn't be written lately may be tried again."""
+        return time.monotonic() >= self._again
+
+    def wait(self) -> None:
+        """Has what can't be written now be tried again later."""
+        self._numbers.is_settled, self._again = False, time.monotonic() + REBASE_AGAIN_SECONDS
+
+    def later(self, why: Unkept) -> None:
+        """Has what couldn't be rebased be tried again later, which is told."""
+        self._notices.trouble = f"Edits couldn't be made anew yet ({why}). Make room on the disk."
+        self.wait()
+
+    def settle(self, anew: Messages | None, has_read: bool) -> bool:
+        """Gives up the numbers of this person that can't be gone on with, and rebases what doesn't count, when its turn
+        comes. `anew` has all messages that count where the site has some that don't. Whether the site began anew."""
+        holdings, may = self._holdings, has_read and self.may_write()
+        broken = self._given_up() if may else []
+        is_due = may and self._turns.is_due()
+        if is_due or self._replica.site.number != self._replica.number or holdings.is_anew():
+            found = holdings.count()
+            anew = found.messages if found.anew else holdings.judge.let_through_in_order()
+        if anew is not None:
+            self._replica.begin_anew(anew)
+        if is_due:
+            self._rebase(broken)
+        elif broken:
+            self._say_that_it_waits(broken)
+        return anew is not None
+
+    def say_what_was_rebased(self) -> None:
+        """Says so of what others would wait for. It is sent after what was made anew."""
+        if made := [self._form.made_anew(last, one.author) for one, last in self._holdings.waited_for()]:
+            with suppress(Unkept):
+                # Where there is no room now it is said later.
+                self._file.mended(lambda: self._file.disk.keep(made, True))
+                self._holdings.add(made)
+                self._replicator.made()
+
+    def _given_up(self) -> list[Client]:
+        """The numbers that were given up now, since they can't be gone on with and no other editor has them, this editor's
+        among them; what was made under them and not sent is withdrawn, and this editor has a number that can be gone on
+        with."""
+        numbers = self._numbers
+        if numbers.is_settled and not numbers.is_taken:
+            return []
+        numbers.is_settled, number = True, numbers.own.site
+        try:
+            while (broken := numbers.broken()) and numbers.withdraw(broken, self._replicator.has):
+                # What a copy of this folder sends of it counts, and has to be kept when it comes. What was typed after what
+                # was withdrawn, under another number, counts no more either.
+                self._replicator.read_from_front()
+            given_up = numbers.give_up(broken)
+            if numbers.own.site != number:
+                self._edits.goes_on()
+            self._turns.found(bool(numbers.lost(own=True)), bool(numbers.lost(own=False)))
+            return given_up
+        except Unkept as why:
+            self.later(why)
+            return []
+
+    def _rebase(self, broken: Sequence[Client]) -> None:
+        """Makes anew, under this number, what was made under others and doesn't count, and whose turn it is."""
+        holdings, own = self._holdings, self._turns.is_own_due()
+        lost, is_all = at_once(self._numbers.lost(own))
+        rows = [*holdings.rows.values()]
+        messages = [*dict.fromkeys(message for one in lost for message in one.messages)]
+        self._edits.make_room(length_of(messages))
+        done = make_anew(rows, messages, holdings.judge, self._replica.site,
+                         () if own else with_claims(rows, lost)) if lost else []
+        remade = Remade(holdings, lost, done, self._edits.last)
+        try:
+            self._edits.keep([one.new for one in done if one.new], remade.anew() if own else (),
+                             lambda last: remade.copies(self._form, last), remade.hidings())
+        except (Unkept, Overtaken) as why:
+            self._rebase_later(why)
+            return
+        trace("rebased", messages=len(messages), made=len(done), own=own)
+        if is_all:
+            self._turns.made(own)
+        many = len(messages)
+        self._say_of(broken, told_of_edits(many if own else 0, 0 if own else many))
+
+    def _rebase_later(self, why: Exception) -> None:
+        """As if nothing had been made; it is tried again later."""
+        if isinstance(why, Unkept):
+            self.later(why)
+        else:
+            self._numbers.is_settled = False
+            self._holdings.reread_anew(self._file.disk)
+        self._replica.begin_anew(self._holdings.judge.let_through_in_order())
+
+    def _say_that_it_waits(self, broken: Sequence[Client]) -> None:
+        """Says that numbers were given up, and when what was lost is rebased, where something was."""
+        if seconds := self._turns.seconds():
+            self._say_of(broken, f"What doesn't count any more is typed again in {counted(seconds, 'second')}.")
+        else:
+            self._say_of(broken, "" if self._holdings.judge.left_out() else "No edit was lost.")
+
+    def _say_of(self, broken: Sequence[Client], words: str) -> None:
+        """Tells of numbers that were given up, and of what became of what was made under them."""
+        shared = [one for one in broken if self._holdings.is_anothers(one)]
+        numbers = told_of_numbers(self._numbers.own.site, broken, shared)
+        more = " Give each machine its own data folder, and don't copy it." if shared else ""
+        if numbers or words:
+            self._notices.tell(f"{numbers}{words}{more}")

@@ -1,0 +1,154 @@
+"""The replica of a note that an editor shows: the site, which the program runs, and what counts and isn't taken in yet."""
+import math
+import pathlib
+from collections.abc import Callable, Sequence
+from contextlib import suppress
+
+from share.admission import ledger
+from share.admission.judge import Counted
+from share.format.history import Messages, Part
+from share.format.operation import Message
+from share.program.difference import Shown, differences, shown_by
+from share.program.intake import Coming
+from share.program.site import SLICE, Progress, Site, Told
+from share.program.trace import trace
+from share.store import snapshot
+from share.store.note_file import Damaged, Unkept
+from share.sync.numbers import READING, Numbers
+from share.sync.open_file import OpenFile
+from share.sync.state import Holdings
+from share.text.change import Change, change
+from share.text.errors import Trouble
+
+Bar = Callable[[int, int], None]
+
+
+class Replica:
+    """Owns the site of a session. The editor's thread alone calls it."""
+
+    def __init__(self, file: OpenFile, holdings: Holdings, numbers: Numbers, bar: Bar):
+        self._file, self._holdings, self._numbers, self._bar = file, holdings, numbers, bar
+        # Told as soon as the program stands still, and as it answers again.
+        self.stands: Callable[[bool], None] = lambda stands: None
+        # Whether the site may lack something that counts, or have something that doesn't.
+        self.is_stale = False
+        # What counts and isn't taken in yet; how many messages that was at its longest, and whether some are of this number.
+        self._coming, self._came, self._has_own = Coming(), 0, False
+        # What was shown when the site began anew, until it is told what differs.
+        self._was: Shown | None = None
+        # How many messages the snapshot has.
+        self.packed = 0
+        messages = holdings.count().messages
+        self.site = self._new_site(messages, lambda done: bar(done, len(messages)))
+
+    @property
+    def number(self) -> int:
+        """The number under which the program runs: any one where nothing can be typed, since all are claimed."""
+        return 1 if self._numbers.own.site == READING else self._numbers.own.site
+
+    def has_more(self) -> bool:
+        """Whether something counts that isn't taken in yet."""
+        return bool(self._coming)
+
+    def comes(self, messages: Messages) -> None:
+        """Adds messages that count to what is to be taken in."""
+        if not self._coming:
+            self._came, self._has_own = 0, False
+        self._came += len(messages)
+        self._has_own |= any(map(self._is_own, messages.parts()))
+        self._coming.add(messages)
+        if messages:
+            trace("counted", messages=len(messages))
+
+    def take_in(self, seconds: float) -> Told:
+        """Takes in what came, as far as there is time; all of it where some is of this number, since what is typed follows
+        that."""
+        told = self.site.take_some(self._coming, math.inf if self._has_own else seconds)
+        if self._came > SLICE:
+            self._bar(self._came - len(self._coming), self._came)
+        if not self._coming:
+            self.pack(max(snapshot.MANY, self.packed // snapshot.SHARE))
+        return told
+
+    def made(self, messages: Sequence[Message], found: Counted) -> None:
+        """Takes over what counts, after messages that the site made were kept."""
+        self.comes(Messages(parts=(one for one in found.messages.parts() if not self._is_own(one))))
+        history, own = self.site.history, Messages(parts=filter(self._is_own, found.messages.parts()))
+        if not found.anew and history[len(history) - len(messages):] == messages and own == messages:
+            # As entries have it, it takes less memory.
+            history.cut(len(history) - len(messages))
+            history += own
+        # Else something else counts now than what is shown, and own edits perhaps don't.
+        self.is_stale |= found.anew
+
+    def begin_anew(self, messages: Messages) -> None:
+        """Has the site be another one, under the number of now, with these messages, which are all that count."""
+        trace("site begun anew", messages=len(messages))
+        self._coming = Coming()
+        with suppress(Trouble):
+            # Where the program has ended it is told as a whole.
+            self._was = self._was or shown_by(self.site)
+        self.site.close()
+        self.site = self._new_site(messages)
+
+    def go_on_under_another_number(self) -> None:
+        """Has the site go on with all that it has under the number of now."""
+        history, self.packed = self.site.history, 0
+        if len(history) != len(self._holdings.judge.let_through_in_order()):
+            # Some of it may be of the new number.
+            self.is_stale = True
+            return
+        self.site.close()
+        self.site = Site(self.number, history, folder=self._folder(), stands=lambda stands: self.stands(stands))
+
+    def pack(self, least: int) -> None:
+        """Has the snapshot be written where it lacks at least this many messages."""
+        many = len(self.site.history)
+        if many < self.packed + least or self.is_stale or self._numbers.is_taken:
+            return
+        self.packed = many
+        with suppress(Unkept, Damaged, Trouble):
+            # Where there is no room, or the program ends as it writes, the next opening takes longer.
+            snapshot.keep(self._file.disk, self._holdings.judge, self.site)
+
+    def remember(self) -> None:
+        """Has what is shown now be what later text is compared with."""
+        self._was = shown_by(self.site)
+
+    def forget(self) -> None:
+        """Ends that."""
+        self._was = None
+
+    def differing(self, before: bytes, now: bytes) -> list[Change]:
+        """What differs between the text that was shown before and the one that is shown now: character by character, where
+        the site began anew meanwhile."""
+        was, self._was = self._was, None
+        with suppress(Trouble):
+            if was and was.text == before and (shows := shown_by(self.site)).text == now:
+                if (found := differences(was, shows)) is not None:
+                    return found
+        return [change(before, now)]
+
+    def close(self) -> None:
+        """Writes the snapshot, and ends the program."""
+        self.pack(snapshot.AT_END)
+        self.site.close()
+        snapshot.leave(self._file.disk, self._numbers.own.site)
+
+    def _new_site(self, messages: Messages, progress: Progress = lambda done: None) -> Site:
+        """A site under the number of now, with these messages, which are all that count. It goes on from its snapshot where
+        that can be."""
+        fronts, folder, own = dict[int, int](), self._folder(), self._numbers.own.site
+        with suppress(Unkept, Damaged):
+            # Where the note's file can't be read now it is mended later.
+            fronts = snapshot.fronts_of(self._file.disk, self._holdings.judge, own, folder)
+        packed, others = snapshot.parted(messages, fronts)
+        self.packed = len(packed)
+        return Site(self.number, others, progress, folder, packed, lambda stands: self.stands(stands))
+
+    def _folder(self) -> pathlib.Path | None:
+        return snapshot.folder_of(self._file.disk, self._numbers.own.site)
+
+    def _is_own(self, part: Part) -> bool:
+        """Whether messages are of this editor's number."""
+        return isinstance(part.holder, ledger.Line) and part.holder.site == self._numbers.own.site

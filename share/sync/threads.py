@@ -1,0 +1,95 @@
+"""The threads of a replicator: each does its part until all are stopped, and begins again after what ended it."""
+import threading
+from collections.abc import Callable
+from enum import StrEnum
+from typing import NamedTuple
+
+from share.log.base import Log, Lost, Unreachable
+from share.program.trace import trace
+from share.store.note_file import Damaged, Disk, Unkept
+from share.text.errors import Trouble
+
+# The pause before a part whose log or file couldn't be reached begins again, and before one that ended as it should.
+RECONNECT_SECONDS, RESTART_SECONDS = 1, 0.03
+# How long stopping waits for each thread.
+JOIN_SECONDS = 1.0
+# The most notices that wait for the user.
+MOST_NOTICES = 100
+
+
+class Ends(NamedTuple):
+    """What a thread opens for itself: the file, and the log."""
+
+    disk: Callable[[], Disk]
+    log: Callable[[], Log]
+
+
+class Task(StrEnum):
+    """What a thread does."""
+
+    LOOK = "look"
+    GIVE = "give"
+    FETCH = "fetch"
+    SHOW = "show"
+
+
+class Threads:
+    """Runs the parts of a replicator. The editor's thread starts and stops them and takes the notices; the parts call the
+    rest, each from its own thread."""
+
+    def __init__(self, wake: Callable[[], None], lost: Callable[[], None]):
+        # What the user is told.
+        self.notices: list[str] = []
+        self.stopped = threading.Event()
+        self.wake, self._lost = wake, lost
+        self._threads: dict[Task, threading.Thread] = {}
+        # Why a thread is without the log.
+        self._offline: dict[Task, str] = {}
+
+    def start(self, task: Task, part: Callable[[], None]) -> None:
+        """Starts a part, unless it runs."""
+        if task not in self._threads:
+            thread = self._threads[task] = threading.Thread(target=self._go_on, args=(task, part), daemon=True)
+            thread.start()
+
+    def join(self) -> None:
+        """Waits until all parts have ended, each of which was told to."""
+        for thread in self._threads.values():
+            thread.join(JOIN_SECONDS)
+
+    def offline(self) -> str | None:
+        """Why the log can't be reached, where it can't."""
+        return next(iter([*self._offline.values()]), None)
+
+    def works(self, task: Task) -> None:
+        """Says that a thread reaches what it needs."""
+        if self._offline.pop(task, None):
+            trace("reconnected", task=task)
+            self.wake()
+
+    def tell(self, words: str) -> None:
+        """Tells the user something. A hostile log may have it happen without end."""
+        if len(self.notices) < MOST_NOTICES:
+            self.notices.append(words)
+
+    def _go_on(self, task: Task, part: Callable[[], None]) -> None:
+        """Does a part until all stop; what ends it is told, and it begins again."""
+        while not self.stopped.is_set():
+            why = ""
+            try:
+                part()
+            except Lost as lost:
+                self.tell(str(lost))
+                self._lost()
+            except (Unreachable, Unkept, Damaged, Trouble) as known:
+                # What happens to the file the editor's own thread mends, or says.
+                why = str(known)
+            except Exception as fault:  # pylint: disable=broad-except
+                # A thread that ended without a word would leave the user believing that all is sent.
+                why = f"{type(fault).__name__}: {fault}"
+            if why:
+                if task not in self._offline:
+                    trace("offline", task=task)
+                self._offline[task] = why
+            self.wake()
+            self.stopped.wait(RECONNECT_SECONDS if why else RESTART_SECONDS)
