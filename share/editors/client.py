@@ -10,7 +10,7 @@ from typing import Protocol
 
 from share.engine import protocol, server
 from share.engine.engine import Engine
-from share.sync.session import CLOSE_SECONDS, Session
+from share.sync.session import SEND_SECONDS, Session
 from share.text.errors import Trouble
 from share.text.line import Line
 
@@ -136,7 +136,7 @@ class Client:
         self.ask("on")
         self._until(lambda line: self.state.get("log") != "sending", 0.1)
         if self.state.get("log") == "sending":
-            self._until(lambda line: line.get("notice") == "state" and line["log"] != "sending", CLOSE_SECONDS)
+            self._until(lambda line: line.get("notice") == "state" and line["log"] != "sending", SEND_SECONDS)
         return self.state.get("log") in ("sent", "none")
 
     def _wait_for_number(self) -> None:

@@ -12,7 +12,7 @@ from contextlib import suppress
 
 from share.editors.mirror import Mirror, Replacement
 from share.engine import protocol
-from share.sync.session import CLOSE_SECONDS, Bar, Status
+from share.sync.session import SEND_SECONDS, Bar, Status
 from share.text.change import Change, boundary, found
 from share.text.errors import Trouble
 from share.text.line import Line
@@ -161,7 +161,7 @@ class EngineNote:
 
     def close(self) -> None:
         """Closes the note, when all is sent or after some seconds."""
-        end = time.monotonic() + CLOSE_SECONDS
+        end = time.monotonic() + SEND_SECONDS
         with suppress(Trouble, OSError):
             while self.mirror.state["log"] == "sending" and time.monotonic() < end:
                 self._receive(0.05)

@@ -36,7 +36,7 @@ class Lack(NamedTuple):
 
 
 class Said(NamedTuple):
-    """What a courier of this version has said."""
+    """What a replicator of this version has said."""
 
     token: bytes
     number: int
@@ -50,19 +50,19 @@ def new_token() -> bytes:
 
 
 def is_of_now(token: bytes) -> bool:
-    """Whether a token is that of a courier of this version."""
+    """Whether a token is that of a replicator of this version."""
     return not any(token[RANDOM_BYTES:])
 
 
 def written(one: Said) -> bytes:
-    """What a courier says, as bytes."""
+    """What a replicator says, as bytes."""
     lacks = b"".join(LACK.pack(*lack) for lack in one.lacks[:MOST_LACKS])
     # Of one length, so that a server's operator can't tell who lacks something.
     return (HEAD.pack(one.token, one.number, one.asks) + lacks).ljust(BYTES, b"\0")
 
 
 def read(data: bytes) -> Said | None:
-    """What a courier has said; None where these bytes are something else."""
+    """What a replicator has said; None where these bytes are something else."""
     if len(data) != BYTES:
         return None
     ways, end = {int(way): way for way in Way}, HEAD.size + MOST_LACKS * LACK.size

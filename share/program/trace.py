@@ -1,13 +1,41 @@
 """A trace of what an engine and its replicator do, for a report of a fault.
 
 VIALSHOAL_TRACE names its file. Each event is a line: the monotonic time, the process, the event, and figures. A figure is a number or
-a word that stands in the sources, so that no text of a note, no key and no link can come into it. Any thread may write an event.
+the name of a constant, so that no text of a note, no key and no link comes into it. Any thread may write an event.
 """
 import os
 import time
-from enum import Enum
+from enum import Enum, StrEnum, auto
 
 VARIABLE = "VIALSHOAL_TRACE"
+
+
+class Traced(StrEnum):
+    """What is traced."""
+
+    NOTE_OPENED = auto()
+    NOTE_CLOSED = auto()
+    EDITOR_OPENED = auto()
+    EDITOR_CLOSED = auto()
+    TEXT_SENT = auto()
+    CHANGES_SENT = auto()
+    EDIT_KEPT = auto()
+    FILE_WRITTEN_ANEW = auto()
+    NUMBER_CLAIMED = auto()
+    NUMBER_TAKEN = auto()
+    NUMBER_GIVEN_UP = auto()
+    COUNTED = auto()
+    SITE_BEGUN_ANEW = auto()
+    REBASED = auto()
+    HIDDEN = auto()
+    CLAIMS_GIVEN = auto()
+    GIVEN = auto()
+    GIVEN_AGAIN = auto()
+    READ_FROM_FRONT = auto()
+    FETCHED = auto()
+    LOST = auto()
+    OFFLINE = auto()
+    RECONNECTED = auto()
 
 
 class Trace:
@@ -22,7 +50,7 @@ class Trace:
             except (OSError, ValueError):
                 pass
 
-    def __call__(self, event: str, **figures: int | Enum) -> None:
+    def write(self, event: Traced, **figures: int | Enum) -> None:
         """Writes an event, in one piece, so that several processes can share a file."""
         if self._file is None:
             return
@@ -36,6 +64,6 @@ class Trace:
 _trace = Trace(os.environ.get(VARIABLE))
 
 
-def trace(event: str, **figures: int | Enum) -> None:
+def trace(event: Traced, **figures: int | Enum) -> None:
     """Writes an event where a trace is asked for."""
-    _trace(event, **figures)
+    _trace.write(event, **figures)

@@ -4,6 +4,7 @@ from collections.abc import Callable, Sequence
 from share.format.entry import Copy, Entry, Form, in_entries
 from share.format.operation import Message, length_after
 from share.program.site import Edited, Site
+from share.program.trace import Traced, trace
 from share.store.note_file import Anew, Client, Unkept
 from share.sync.numbers import FULL, Numbers
 from share.sync.open_file import OpenFile
@@ -34,7 +35,7 @@ class OwnEdits:
         return self._numbers.own
 
     def goes_on(self) -> None:
-        """Has the next edit follow the last entry of this editor's number, which may be none that anybody can claim."""
+        """Begins after the last entry of this editor's number, which may be none that anybody can claim."""
         own, judge = self._numbers.own, self._holdings.judge
         self.last = judge.last(own.site) if judge.holder(own.site) else self._form.claim(own.site, own.author)
 
@@ -84,6 +85,7 @@ class OwnEdits:
             return self._file.disk.keep([*said, *made], True, anew=anew, hidings=hidings)
 
         place = self._file.mended(keep)
+        trace(Traced.EDIT_KEPT, messages=len(messages), entries=len(made))
         self.last = last
         self._holdings.add([*said, *made])
         self._holdings.made_anew(anew, hidings)

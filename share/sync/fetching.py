@@ -5,7 +5,7 @@ from contextlib import closing
 
 from share.format.entry import Bad, Entry, Form, before_of, digest
 from share.log.base import START, InLog, Log
-from share.program.trace import trace
+from share.program.trace import Traced, trace
 from share.store.note_file import Disk
 from share.sync.backoff import Losses
 from share.sync.carried import Carried
@@ -62,7 +62,7 @@ class Fetcher:
                     log.watch(self._after, WATCH_SECONDS)
 
     def _begin_reading(self, log: Log, carried: Carried) -> None:
-        """Has the log be read from its front. It goes on where it was when the log was away meanwhile."""
+        """Goes back to the front of the log. A reading that the log's absence has cut off goes on where it was."""
         if self._read_for is carried:
             # A log that loses something without end would be read without end.
             self._threads.stopped.wait(max(0.0, self._reads_again - time.monotonic()))
@@ -72,7 +72,7 @@ class Fetcher:
         goal = log.size()
         self._giver.reads_from_front, self._read_for, self._goal = False, carried, goal
         self._after, self.size = START, 0
-        trace("read from the front", entries=goal)
+        trace(Traced.READ_FROM_FRONT, entries=goal)
 
     def _end_reading(self, disk: Disk, carried: Carried) -> None:
         """All that the log had as its reading began was read. The giver gives it all that it lacks."""
@@ -96,7 +96,7 @@ class Fetcher:
             self._threads.wake()
 
     def _tell_of_loss(self, many: int) -> None:
-        trace("lost", entries=many)
+        trace(Traced.LOST, entries=many)
         self._threads.tell(f"The log has lost {entries(many)} that it had. It is filled again from here.")
 
     def _read_on(self, disk: Disk, log: Log, carried: Carried) -> bool:
@@ -122,7 +122,7 @@ class Fetcher:
         self._known.came(disk, carried, opened, held)
         # What stands there may be asked for by what is before it, where that came.
         self._meeting.damaged(disk.places_of(damaged))
-        trace("fetched", entries=len(page), new=len(opened))
+        trace(Traced.FETCHED, entries=len(page), new=len(opened))
         if opened:
             self._threads.wake()
 

@@ -5,7 +5,7 @@ from contextlib import closing
 
 from share.format.entry import Form, digest
 from share.log.base import ON_SECONDS, Log
-from share.program.trace import trace
+from share.program.trace import Traced, trace
 from share.store.note_file import Disk
 from share.sync.backoff import Losses
 from share.sync.carried import Carried
@@ -66,7 +66,7 @@ class Giver:
         if free := [place for of, place in places.items() if new[of] not in taken]:
             log.append(disk.offer(free))
             carried.gave(free)
-            trace("claims given", entries=len(free))
+            trace(Traced.CLAIMS_GIVEN, entries=len(free))
 
     def _give_more(self, disk: Disk, log: Log, carried: Carried) -> bool:
         """Looks what the file has more, and gives the log some of what it lacks; whether there may be more."""
@@ -89,7 +89,7 @@ class Giver:
         if raws:
             log.append(raws)
             carried.gave(given)
-            trace("given", entries=len(raws))
+            trace(Traced.GIVEN, entries=len(raws))
             self._threads.wake()
         # Of what was withdrawn, dropped or damaged there is nothing at its place.
         last = found[-1].place if found else carried.looked
@@ -104,4 +104,4 @@ class Giver:
         self.reads_from_front = self.reads_from_front or reads
         if had := [place for place in places if carried.has(place)]:
             log.append(disk.offer(had))
-            trace("given again", entries=len(had))
+            trace(Traced.GIVEN_AGAIN, entries=len(had))

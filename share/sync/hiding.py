@@ -1,5 +1,5 @@
 """Which characters of copies are to be hidden, since what they stand for counts again or another copy stays; and which are
-to be shown again, since that is so no more.
+to be shown again, since neither holds any more.
 
 Shown again is only what was hidden for this: never what a user has deleted. What others made is hidden where they don't do so,
 since their disk may be gone.
@@ -12,7 +12,7 @@ from typing import NamedTuple
 from share.format.entry import Author, Copied, Copy, Entry, Form
 from share.format.operation import DELETE, RESTORE, Message, inserted, mentioned
 from share.program.site import Edited, Told
-from share.program.trace import trace
+from share.program.trace import Traced, trace
 from share.store.note_file import Unkept
 from share.sync.backoff import seconds_for_others
 from share.sync.edits import OwnEdits
@@ -35,7 +35,7 @@ class Hider:
         self._hides_others: float | None = None
 
     def look_again(self) -> None:
-        """Has all be looked at, since the site began anew."""
+        """Looks at all again the next time, since the site began anew."""
         self._fronts = None
 
     def hide(self) -> Told:
@@ -73,7 +73,7 @@ class Hider:
         if messages := hidden.messages + of_others.messages + shown.messages:
             self._edits.keep(messages, hidings=[Copy(author.name, one.site, one.seq) for one in messages],
                              says=lambda last: said_of_hidden(self._form, author, of_others.messages, names.of_others, last))
-            trace("hidden", messages=len(hidden.messages), of_others=len(of_others.messages), shown=len(shown.messages))
+            trace(Traced.HIDDEN, messages=len(hidden.messages), of_others=len(of_others.messages), shown=len(shown.messages))
         told = [one for part in (gone, went, come) if isinstance(part, list) for one in part]
         return told if all(isinstance(part, list) for part in (gone, went, come)) else site.text()
 

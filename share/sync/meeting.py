@@ -48,12 +48,13 @@ class Meeting:
             self._wake()
 
     def ask(self, lacked: Callable[[], Sequence[bytes]]) -> None:
-        """Has all who are on be asked for entries of these hashes. Who asks often does so ever more rarely."""
+        """Asks all who are on for entries of these hashes, the next time that it is heard. Who asks often does so ever more
+        rarely."""
         if time.monotonic() >= self._asked:
             self._lacked = lacked()
 
     def damaged(self, before: Iterable[bytes]) -> None:
-        """Has the others be asked for what stands after these entries, where something damaged came."""
+        """Asks the others for what stands after these entries, where something damaged came."""
         self._damaged |= dict.fromkeys([*before][:MOST_DAMAGED - len(self._damaged)], ASKS_FOR_DAMAGED)
 
     def meet(self, log: Log) -> None:
@@ -85,7 +86,7 @@ class Meeting:
             log.leave(token)
 
     def _ask_for_more(self) -> None:
-        """Has the others be asked for what is lacked now, where it is time for that."""
+        """Puts what is lacked now into what is said next, where it is time for that."""
         lacks = [Lack(Way.IT, of) for of in self._lacked] + [Lack(Way.AFTER, of) for of in [*self._damaged]]
         if not lacks or time.monotonic() < self._asked:
             return

@@ -8,7 +8,7 @@ from contextlib import suppress
 from share.admission.copies import Who
 from share.format.entry import GREATEST_SITE, Form
 from share.format.operation import MOST_OF_A_SITE
-from share.program.trace import trace
+from share.program.trace import Traced, trace
 from share.store.note_file import Client, Disk, Unkept
 from share.sync.open_file import OpenFile
 from share.sync.replicator import Replicator
@@ -87,7 +87,7 @@ class Numbers:
         self._file.mended(lambda: self._file.disk.keep([claim], True, client=client))
         self._holdings.clients[who(client)] = client
         self._holdings.add([claim])
-        trace("number claimed", site=site)
+        trace(Traced.NUMBER_CLAIMED, site=site)
         return client
 
     def claims_in_log(self, replicator: Replicator) -> set[Who]:
@@ -111,7 +111,7 @@ class Numbers:
             self.own = own
 
     def claim_in_advance(self, editors: int) -> None:
-        """Has one more number claimed than there are editors of this person, for one that is opened while the log is
+        """Claims one more number than there are editors of this person, for one that is opened while the log is
         away."""
         holdings = self._holdings
         if len([one for one in holdings.clients.values() if not one.retired and who(one) not in holdings.newer]) <= editors:
@@ -144,8 +144,9 @@ class Numbers:
         if retired:
             self._file.mended(lambda: self._file.disk.keep([], True, retired=retired))
             self._holdings.gave_up(retired)
+        for one in retired:
+            trace(Traced.NUMBER_GIVEN_UP, site=one.site)
         if self.is_taken or who(self.own) in map(who, clients):
-            trace("number given up", site=self.own.site)
             self.own, self.is_taken, self.is_full = self.claimed(), False, False
         return retired
 
@@ -170,7 +171,7 @@ class Numbers:
             if other := self._another(needed):
                 self._file.mended(lambda: self._file.disk.keep([], True, retired=[self.own]))
                 self._holdings.gave_up([self.own])
-                trace("number taken", site=other.site)
+                trace(Traced.NUMBER_TAKEN, site=other.site)
                 self.own, self.is_full, self._another_after = other, False, 0.0
                 return True
         return False

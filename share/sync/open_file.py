@@ -11,6 +11,7 @@ from share.admission.ledger import Row
 from share.format.entry import Kind
 from share.format.history import Messages
 from share.program.intake import Pace
+from share.program.trace import Traced, trace
 from share.store.note_file import Anew, Changed, Damaged, Disk, Unkept, make
 from share.store.read_only import found_in
 from share.store.unchanged import inode_of
@@ -22,7 +23,7 @@ from share.text.errors import NEWER, Trouble, entries
 TAKEN_OUT_SECONDS = 2
 # The bytes of entries that are read in one go: at the beginning, and the bounds; and as a note is opened.
 PAGES, OPENED_BYTES = (2**14, 2**10, 2**17), 2**20
-Answer = TypeVar("Answer")
+Found = TypeVar("Found")
 
 
 class OpenFile:
@@ -85,8 +86,8 @@ class OpenFile:
         """Raises Damaged where the file isn't what is in memory."""
         self.disk.look(self._holdings.rows)
 
-    def mended(self, call: Callable[[], Answer]) -> Answer:
-        """What a call on the file answers; the file is written anew from memory where it is gone or damaged."""
+    def mended(self, call: Callable[[], Found]) -> Found:
+        """What a call on the file gives; the file is written anew from memory where it is gone or damaged."""
         try:
             return call()
         except Damaged as why:
@@ -106,7 +107,7 @@ class OpenFile:
         return new
 
     def _mend(self, why: Damaged) -> None:
-        """Has the note's file in its place again, with all that is in memory."""
+        """Puts the note's file in its place again, with all that is in memory."""
         holdings, path = self._holdings, self.disk.path
         disk = self._in_place(why)
         if disk.about.secret != self.disk.about.secret:
@@ -139,6 +140,7 @@ class OpenFile:
                          [Anew(*one, 0, 0) for one in holdings.anew], holdings.withdrawn(), offered=True, damaged=inode)
             self._notices.tell(f"The note's file was gone or damaged ({why}) and was written anew."
                                + (f" What was there is {aside}." if aside else ""))
+            trace(Traced.FILE_WRITTEN_ANEW, entries=len(holdings.rows))
             return Disk(path)
 
     def _rows_and(self, damaged: pathlib.Path) -> list[Row]:

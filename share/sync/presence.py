@@ -28,7 +28,7 @@ class Presence:
         self._has_news = threading.Event()
 
     def show(self, shows: dict[bytes, bytes]) -> None:
-        """Has others hear what editors show of themselves, each under a token of its own."""
+        """Shows others what editors show of themselves, each under a token of its own."""
         if shows != self._shows:
             self._shows = shows
             self._has_news.set()

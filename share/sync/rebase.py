@@ -37,8 +37,8 @@ class Done(NamedTuple):
     new: Message | None
 
 
-class Remade:
-    """What was lost, and what was made anew of it by a client; `last` is an entry of that one."""
+class Rebased:
+    """What was lost, and what was rebased of it by a client; `last` is an entry of that one."""
 
     def __init__(self, holdings: Holdings, lost: Sequence[ToRebase], done: Sequence[Done], last: Entry):
         self._holdings, self._lost, self._last = holdings, lost, last
@@ -77,7 +77,7 @@ class Remade:
 
 
 def at_once(lost: Sequence[ToRebase]) -> tuple[Sequence[ToRebase], bool]:
-    """The first of what was lost, as much as is made anew at once; and whether that is all."""
+    """The first of what was lost, as much as is rebased in one go; and whether that is all."""
     length = 0
     for number, one in enumerate(lost, 1):
         length += length_of(one.messages)
@@ -112,8 +112,8 @@ class _Differing(NamedTuple):
         return without(without(united(names), self.seen), self.counted)
 
 
-def make_anew(rows: Sequence[Row], lost: Sequence[Message], judge: Judge, site: Site,
-              first: Collection[bytes] = ()) -> list[Done]:
+def rebase(rows: Sequence[Row], lost: Sequence[Message], judge: Judge, site: Site,
+           first: Collection[bytes] = ()) -> list[Done]:
     """Does at a site, which has all that counts, what remains of lost messages."""
     # These entries first, then what was made here, then what came first: so what was seen as these edits were made is found
     # again.

@@ -6,13 +6,13 @@ from contextlib import suppress
 
 from share.format.entry import Form
 from share.format.history import Messages
-from share.program.trace import trace
+from share.program.trace import Traced, trace
 from share.store.note_file import Client, Overtaken, Unkept
 from share.sync.backoff import Turns, told_of_edits, told_of_numbers
 from share.sync.edits import OwnEdits
 from share.sync.numbers import Numbers
 from share.sync.open_file import OpenFile
-from share.sync.rebase import Remade, at_once, length_of, make_anew, with_claims
+from share.sync.rebase import Rebased, at_once, length_of, rebase, with_claims
 from share.sync.replica import Replica
 from share.sync.replicator import Replicator
 from share.sync.state import Holdings
@@ -37,11 +37,11 @@ class Rebaser:
         return time.monotonic() >= self._again
 
     def wait(self) -> None:
-        """Has what can't be written now be tried again later."""
+        """Tries again later what can't be written now."""
         self._numbers.is_settled, self._again = False, time.monotonic() + REBASE_AGAIN_SECONDS
 
     def later(self, why: Unkept) -> None:
-        """Has what couldn't be rebased be tried again later, which is told."""
+        """Tries again later what couldn't be rebased, which is told."""
         self._notices.trouble = f"Edits couldn't be made anew yet ({why}). Make room on the disk."
         self.wait()
 
@@ -63,7 +63,7 @@ class Rebaser:
         return anew is not None
 
     def say_what_was_rebased(self) -> None:
-        """Says so of what others would wait for. It is sent after what was made anew."""
+        """Says so of what others would wait for. It is sent after what was rebased."""
         if made := [self._form.made_anew(last, one.author) for one, last in self._holdings.waited_for()]:
             with suppress(Unkept):
                 # Where there is no room now it is said later.
@@ -94,22 +94,22 @@ class Rebaser:
             return []
 
     def _rebase(self, broken: Sequence[Client]) -> None:
-        """Makes anew, under this number, what was made under others and doesn't count, and whose turn it is."""
+        """Rebases, under this number, what was made under others and doesn't count, and whose turn it is."""
         holdings, own = self._holdings, self._turns.is_own_due()
         lost, is_all = at_once(self._numbers.lost(own))
         rows = [*holdings.rows.values()]
         messages = [*dict.fromkeys(message for one in lost for message in one.messages)]
         self._edits.make_room(length_of(messages))
-        done = make_anew(rows, messages, holdings.judge, self._replica.site,
-                         () if own else with_claims(rows, lost)) if lost else []
-        remade = Remade(holdings, lost, done, self._edits.last)
+        done = rebase(rows, messages, holdings.judge, self._replica.site,
+                      () if own else with_claims(rows, lost)) if lost else []
+        rebased = Rebased(holdings, lost, done, self._edits.last)
         try:
-            self._edits.keep([one.new for one in done if one.new], remade.anew() if own else (),
-                             lambda last: remade.copies(self._form, last), remade.hidings())
+            self._edits.keep([one.new for one in done if one.new], rebased.anew() if own else (),
+                             lambda last: rebased.copies(self._form, last), rebased.hidings())
         except (Unkept, Overtaken) as why:
             self._rebase_later(why)
             return
-        trace("rebased", messages=len(messages), made=len(done), own=own)
+        trace(Traced.REBASED, messages=len(messages), made=len(done), own=own)
         if is_all:
             self._turns.made(own)
         many = len(messages)

@@ -11,7 +11,7 @@ from share.format.operation import Message
 from share.program.difference import Shown, differences, shown_by
 from share.program.intake import Coming
 from share.program.site import SLICE, Progress, Site, Told
-from share.program.trace import trace
+from share.program.trace import Traced, trace
 from share.store import snapshot
 from share.store.note_file import Damaged, Unkept
 from share.sync.numbers import READING, Numbers
@@ -58,7 +58,7 @@ class Replica:
         self._has_own |= any(map(self._is_own, messages.parts()))
         self._coming.add(messages)
         if messages:
-            trace("counted", messages=len(messages))
+            trace(Traced.COUNTED, messages=len(messages))
 
     def take_in(self, seconds: float) -> Told:
         """Takes in what came, as far as there is time; all of it where some is of this number, since what is typed follows
@@ -82,8 +82,8 @@ class Replica:
         self.is_stale |= found.anew
 
     def begin_anew(self, messages: Messages) -> None:
-        """Has the site be another one, under the number of now, with these messages, which are all that count."""
-        trace("site begun anew", messages=len(messages))
+        """Begins another site, under the number of now, with these messages, which are all that count."""
+        trace(Traced.SITE_BEGUN_ANEW, messages=len(messages))
         self._coming = Coming()
         with suppress(Trouble):
             # Where the program has ended it is told as a whole.
@@ -92,7 +92,7 @@ class Replica:
         self.site = self._new_site(messages)
 
     def go_on_under_another_number(self) -> None:
-        """Has the site go on with all that it has under the number of now."""
+        """Goes on under the number of now with all that the site has."""
         history, self.packed = self.site.history, 0
         if len(history) != len(self._holdings.judge.let_through_in_order()):
             # Some of it may be of the new number.
@@ -102,7 +102,7 @@ class Replica:
         self.site = Site(self.number, history, folder=self._folder(), stands=lambda stands: self.stands(stands))
 
     def pack(self, least: int) -> None:
-        """Has the snapshot be written where it lacks at least this many messages."""
+        """Writes the snapshot where it lacks at least this many messages."""
         many = len(self.site.history)
         if many < self.packed + least or self.is_stale or self._numbers.is_taken:
             return
@@ -112,7 +112,7 @@ class Replica:
             snapshot.keep(self._file.disk, self._holdings.judge, self.site)
 
     def remember(self) -> None:
-        """Has what is shown now be what later text is compared with."""
+        """Notes what is shown now, with which later text is compared."""
         self._was = shown_by(self.site)
 
     def forget(self) -> None:

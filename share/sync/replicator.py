@@ -88,7 +88,7 @@ class Replicator:
         return self._threads.notices
 
     def show(self, shows: dict[bytes, bytes]) -> None:
-        """Has others hear what the editors here show of themselves, each under a token of its own, and hears theirs."""
+        """Shows others what the editors here show of themselves, each under a token of its own, and hears theirs."""
         if self._has_log:
             self._threads.start(Task.SHOW, self._presence.run)
         self._presence.show(shows)

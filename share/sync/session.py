@@ -15,6 +15,7 @@ from share.log.base import open_log
 from share.program import retyping
 from share.program.retyping import Lost
 from share.program.site import Edited, Site, Told
+from share.program.trace import Traced, trace
 from share.store.note_file import Client, Disk, Unkept
 from share.store.read_only import uncollected
 from share.store.renewal import renewed_by
@@ -30,9 +31,9 @@ from share.sync.status import Notices, Status
 from share.text.change import Change
 from share.text.errors import Trouble
 
-__all__ = ["CLOSE_SECONDS", "Bar", "Session", "Status"]
-# How long opening waits for a log that answers, and closing for what isn't sent.
-OPEN_SECONDS = CLOSE_SECONDS = 3
+__all__ = ["SEND_SECONDS", "Bar", "Session", "Status"]
+# The longest that opening waits for a log that answers, and closing for what isn't sent.
+OPEN_SECONDS = SEND_SECONDS = 3
 # After this opening waits no longer where it is seen that all won't be read in time.
 TOO_SLOW_SECONDS = 0.5
 # The longest that `arrived` takes while a note is opened, between two reports of the progress.
@@ -67,6 +68,7 @@ class Session:
         self._rebaser = Rebaser(*known, self._edits, self._replicator, self._notices)
         self._hider = Hider(*known[1:], self._edits, self._rebaser)
         self._begin()
+        trace(Traced.NOTE_OPENED, site=self.number, messages=len(self.site.history), log=bool(url))
 
     @property
     def site(self) -> Site:
@@ -141,7 +143,7 @@ class Session:
         return found
 
     def show(self, shows: dict[bytes, bytes]) -> list[bytes]:
-        """Has others hear what editors here show of themselves, by their tokens; what others show."""
+        """Shows others what editors here show of themselves, by their tokens; what others show."""
         self._replicator.show(shows)
         return self._replicator.shown()
 
@@ -174,7 +176,7 @@ class Session:
         return self._replica.has_more() or self._holdings.has_more
 
     def tell(self, words: str) -> None:
-        """Has the user be told something."""
+        """Tells the user something."""
         self._notices.tell(words)
 
     def notices(self) -> list[str]:
@@ -205,12 +207,13 @@ class Session:
 
     def close(self) -> None:
         """Closes the note; what isn't sent stays in its file."""
-        self._replicator.close(CLOSE_SECONDS)
+        self._replicator.close(SEND_SECONDS)
         self._replica.close()
         with suppress(Unkept, Trouble):
             # From here on all that is kept of the note is its file.
             self._file.mended(self._file.look)
         self._file.disk.close()
+        trace(Traced.NOTE_CLOSED)
 
     def _begin(self) -> None:
         """Takes in what a log has that answers soon, and waits until it has the claim of this number."""

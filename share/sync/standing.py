@@ -111,12 +111,12 @@ class Standing:
             self._void |= {Copy(entry.author, entry.site, seq) for seq in range(old, old + size)}
 
     def is_made_here(self, entry: Entry, seq: int) -> bool:
-        """Whether what remained of a message of an entry was made anew here, and something of that is left."""
+        """Whether what remained of a message of an entry was rebased here, and something of that is left."""
         return any(piece.own and piece.speaks_of(seq) and piece.copy(seq) not in self._void
                    for piece in self._pieces.get(entry.hash, ()))
 
     def is_void(self, entry: Entry, seq: int) -> bool:
-        """Whether nothing remained of what was made anew here of a message of an entry."""
+        """Whether nothing remained of what was rebased here of a message of an entry."""
         return any(piece.own and piece.copy(seq) in self._void for piece in self._pieces.get(entry.hash, ()))
 
     def is_stood_for(self, entry: Entry, seq: int, entry_of: EntryOf, rows: RowsByHash) -> bool:

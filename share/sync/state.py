@@ -111,7 +111,7 @@ class Holdings:
         return new
 
     def read_again(self) -> None:
-        """Has the next reading begin at the front of the file, which was written anew."""
+        """Begins the next reading at the front of the file, which was written anew."""
         self._place = self._number = 0
         self._backlog, self._again = Backlog(), []
 
@@ -122,7 +122,7 @@ class Holdings:
                 self._add(Row(0, entry, True))
 
     def withdraw(self, hashes: Collection[bytes]) -> None:
-        """Has entries not count."""
+        """Takes entries out of what counts."""
         if gone := {of: row for of in hashes if of in self.judge and (row := self.judge.row(of))}:
             self._withdrawn |= gone
             before = self.judge
@@ -175,7 +175,7 @@ class Holdings:
         return who(client) in self._shared or self.judge.holder(client.site) not in (None, client.author.name)
 
     def lost(self) -> list[ToRebase]:
-        """What was made here, doesn't count, and wasn't made anew."""
+        """What was made here, doesn't count, and wasn't rebased."""
         found = (self._lost_of(row) for of in self.clients for row in self._not_counting(of) if row.made)
         return [one for one in found if one.messages]
 
@@ -197,7 +197,7 @@ class Holdings:
                                 and not self._is_made_anew(row, message)])
 
     def _is_made_anew(self, row: Row, message: Message) -> bool:
-        """Whether a message was made anew here, or by another disk with its key, or typed again by somebody."""
+        """Whether a message was rebased here, or by another disk with its key, or typed again by somebody."""
         entry = row.entry
         is_noted = row.made and (entry.author, message.site, message.seq) in self.anew
         return (is_noted and not self.standing.is_void(entry, message.seq)
@@ -206,7 +206,7 @@ class Holdings:
                 or self.judge.is_copied(entry, message.seq))
 
     def waited_for(self) -> list[tuple[Client, Entry]]:
-        """The numbers that were given up and of which others wait for what never comes, since it was made anew; and the
+        """The numbers that were given up and of which others wait for what never comes, since it was rebased; and the
         last entries of it."""
         found = []
         for one in self.clients.values():
@@ -216,12 +216,12 @@ class Holdings:
         return found
 
     def _was_made_anew(self, entry: Entry) -> bool:
-        """Whether an entry was made here, and what doesn't count of it was made anew."""
+        """Whether an entry was made here, and what doesn't count of it was rebased."""
         row = self.rows[entry.hash]
         return row.made and not self._lost_of(row).messages
 
     def reread_anew(self, disk: Disk) -> None:
-        """Looks which numbers were given up, and which edits made anew, by other editors of this person."""
+        """Looks which numbers were given up, and which edits were rebased, by other editors of this person."""
         self.clients = {who(one): one for one in disk.clients()}
         self.anew, self.hidings = disk.anew(), disk.hidings()
 
@@ -249,7 +249,7 @@ class Holdings:
             self.clients[who(one)] = one._replace(retired=True)
 
     def made_anew(self, anew: Sequence[Anew], hidings: Sequence[Copy]) -> None:
-        """Says what was made anew, and which messages hide copies."""
+        """Takes over what was rebased, and which messages hide copies."""
         self.anew |= {(one.author, one.site, one.seq) for one in anew}
         self.hidings |= set(hidings)
 

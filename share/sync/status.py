@@ -42,11 +42,11 @@ class Notices:
         self._without_room = 0
 
     def tell(self, words: str) -> None:
-        """Has the user be told something."""
+        """Tells the user something."""
         self._waiting.append(words)
 
     def tell_once(self, words: str) -> None:
-        """Has the user be told something that isn't told again."""
+        """Tells the user something that isn't told again."""
         if words not in self._once:
             self._once.add(words)
             self.tell(words)

@@ -5,7 +5,7 @@ from enum import StrEnum
 from typing import NamedTuple
 
 from share.log.base import Log, Lost, Unreachable
-from share.program.trace import trace
+from share.program.trace import Traced, trace
 from share.store.note_file import Damaged, Disk, Unkept
 from share.text.errors import Trouble
 
@@ -64,7 +64,7 @@ class Threads:
     def works(self, task: Task) -> None:
         """Says that a thread reaches what it needs."""
         if self._offline.pop(task, None):
-            trace("reconnected", task=task)
+            trace(Traced.RECONNECTED, task=task)
             self.wake()
 
     def tell(self, words: str) -> None:
@@ -89,7 +89,7 @@ class Threads:
                 why = f"{type(fault).__name__}: {fault}"
             if why:
                 if task not in self._offline:
-                    trace("offline", task=task)
+                    trace(Traced.OFFLINE, task=task)
                 self._offline[task] = why
             self.wake()
             self.stopped.wait(RECONNECT_SECONDS if why else RESTART_SECONDS)

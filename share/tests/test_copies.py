@@ -13,7 +13,7 @@ from share.format.entry import LENGTH, Copy, Entry, Kind
 from share.format.operation import Message
 from share.store import read_only
 from share.store.note_file import Disk, Unkept
-from share.sync.rebase import Done, make_anew
+from share.sync.rebase import Done, rebase
 from share.tests.editors import Editor
 from share.tests.note import Note
 from share.tests.support import Case, Person, are_alike, change, type_at_the_end, wait_for, written
@@ -239,9 +239,9 @@ class Damaged(Copied):
         def made_anew(*given: object) -> Sequence[Done]:
             firsts.append(self.opened(self.anna))
             wait_for(lambda: (firsts[0].take_in(), are_alike(firsts))[1], "all of the other one to be sent")
-            return make_anew(*given)  # type: ignore[arg-type]
+            return rebase(*given)  # type: ignore[arg-type]
 
-        with mock.patch("share.sync.rebasing.make_anew", made_anew):
+        with mock.patch("share.sync.rebasing.rebase", made_anew):
             second = self.opened(self.berta)
             wait_for(lambda: (second.take_in(), firsts)[1], "it to be made anew")
         self.assert_shown("one behind two", firsts[0], second)

@@ -71,7 +71,7 @@ class InAFile(Case):
             sent.append(len(raws))
             append(log, raws)
 
-        with mock.patch.object(SqliteLog, "append", appended), mock.patch("share.sync.session.CLOSE_SECONDS", 0):
+        with mock.patch.object(SqliteLog, "append", appended), mock.patch("share.sync.session.SEND_SECONDS", 0):
             note = person.open()
             wait_for(lambda: (note.take_in(), len(sent) == after and note.session.status().offline)[1], "it to be stopped")
             note.session.close()
