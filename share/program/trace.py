@@ -1,7 +1,8 @@
 """A trace of what an engine and its replicator do, for a report of a fault.
 
-VIALSHOAL_TRACE names its file. Each event is a line: the monotonic time, the process, the event, and figures. A figure is a number or
-the name of a constant, so that no text of a note, no key and no link comes into it. Any thread may write an event.
+VIALSHOAL_TRACE names its file. Each event is a line: the monotonic time, the process, the event, and figures. Threads and processes append
+beside each other, so that the times tell the order. A figure is a number or the name of a constant: no text of a note, no
+key and no link comes into it. Any thread may write an event.
 """
 import os
 import time
@@ -19,7 +20,8 @@ class Traced(StrEnum):
     EDITOR_CLOSED = auto()
     TEXT_SENT = auto()
     CHANGES_SENT = auto()
-    EDIT_KEPT = auto()
+    EDIT = auto()
+    EDIT_NOT_KEPT = auto()
     FILE_WRITTEN_ANEW = auto()
     NUMBER_CLAIMED = auto()
     NUMBER_TAKEN = auto()

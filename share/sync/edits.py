@@ -84,8 +84,8 @@ class OwnEdits:
             self._file.look()
             return self._file.disk.keep([*said, *made], True, anew=anew, hidings=hidings)
 
+        trace(Traced.EDIT, messages=len(messages), entries=len(made))
         place = self._file.mended(keep)
-        trace(Traced.EDIT_KEPT, messages=len(messages), entries=len(made))
         self.last = last
         self._holdings.add([*said, *made])
         self._holdings.made_anew(anew, hidings)
@@ -110,6 +110,7 @@ class OwnEdits:
         try:
             self.keep(messages, says=says)
         except Unkept as why:
+            trace(Traced.EDIT_NOT_KEPT, messages=len(messages))
             self._replica.site.go_back(before)
             self._notices.trouble = f"The last edit couldn't be kept ({why}); all before it is. Make room on the disk."
             raise Trouble(self._notices.trouble) from why

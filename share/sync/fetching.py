@@ -50,15 +50,15 @@ class Fetcher:
         with closing(self._ends.disk()) as disk, closing(self._ends.log()) as log:
             carried = self._known.of(disk)
             while not self._threads.stopped.is_set() and self._known.is_of_now(disk, carried):
-                if self._giver.reads_from_front or self._read_for is not carried:
+                if self._known.reads_from_front or self._read_for is not carried:
                     self._begin_reading(log, carried)
                 has_more = self._read_on(disk, log, carried)
                 if self._goal is not None and (self.size >= self._goal or not has_more):
                     self._end_reading(disk, carried)
                 elif not has_more and log.size() != self.size:
                     # Something was taken out of the log, or put back.
-                    self._giver.reads_from_front = True
-                elif not has_more and not self._giver.reads_from_front:
+                    self._known.reads_from_front = True
+                elif not has_more and not self._known.reads_from_front:
                     log.watch(self._after, WATCH_SECONDS)
 
     def _begin_reading(self, log: Log, carried: Carried) -> None:
@@ -70,7 +70,7 @@ class Fetcher:
         carried.begin()
         # What is given from now on may be after what the log has by then.
         goal = log.size()
-        self._giver.reads_from_front, self._read_for, self._goal = False, carried, goal
+        self._known.reads_from_front, self._read_for, self._goal = False, carried, goal
         self._after, self.size = START, 0
         trace(Traced.READ_FROM_FRONT, entries=goal)
 
@@ -119,10 +119,10 @@ class Fetcher:
         for one in page:
             if one.raw is None:
                 self._leave_out(one.place, f"Entry {one.place} of the log can't be one and was left out.")
+        trace(Traced.FETCHED, entries=len(page), new=len(opened))
         self._known.came(disk, carried, opened, held)
         # What stands there may be asked for by what is before it, where that came.
         self._meeting.damaged(disk.places_of(damaged))
-        trace(Traced.FETCHED, entries=len(page), new=len(opened))
         if opened:
             self._threads.wake()
 

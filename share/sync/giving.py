@@ -28,8 +28,6 @@ class Giver:
         self._ends, self._form, self._known = ends, form, known
         self._meeting, self._losses, self._threads = meeting, losses, threads
         self._work = threading.Event()
-        # Whether the log is to be read from its front.
-        self.reads_from_front = False
 
     def has_work(self) -> None:
         """Says that the file has more, or that the log may lack something."""
@@ -52,7 +50,7 @@ class Giver:
                 self._threads.works(Task.GIVE)
                 self._work.clear()
                 if not self._give_more(disk, log, carried):
-                    self._work.wait(ABOUT_TO_READ_SECONDS if self.reads_from_front else IDLE_SECONDS)
+                    self._work.wait(ABOUT_TO_READ_SECONDS if self._known.reads_from_front else IDLE_SECONDS)
             self._meeting.leave(log)
 
     def _claim(self, disk: Disk, log: Log, carried: Carried) -> None:
@@ -65,8 +63,8 @@ class Giver:
             return
         if free := [place for of, place in places.items() if new[of] not in taken]:
             log.append(disk.offer(free))
-            carried.gave(free)
             trace(Traced.CLAIMS_GIVEN, entries=len(free))
+            carried.gave(free)
 
     def _give_more(self, disk: Disk, log: Log, carried: Carried) -> bool:
         """Looks what the file has more, and gives the log some of what it lacks; whether there may be more."""
@@ -88,8 +86,8 @@ class Giver:
         given = {lacks[of] for of in map(digest, raws) if of in lacks}
         if raws:
             log.append(raws)
-            carried.gave(given)
             trace(Traced.GIVEN, entries=len(raws))
+            carried.gave(given)
             self._threads.wake()
         # Of what was withdrawn, dropped or damaged there is nothing at its place.
         last = found[-1].place if found else carried.looked
@@ -100,8 +98,8 @@ class Giver:
         """Meets the others, and gives the log again what they lack, of what it seemed to have."""
         self._meeting.meet(log)
         places, reads = self._meeting.answers(disk)
-        # A version of before can't say what it lacks.
-        self.reads_from_front = self.reads_from_front or reads
+        if reads:
+            self._known.reads_from_front = True
         if had := [place for place in places if carried.has(place)]:
             log.append(disk.offer(had))
             trace(Traced.GIVEN_AGAIN, entries=len(had))

@@ -20,6 +20,8 @@ class Known:
         # Of the file that is in its place now; of no file until a thread has looked at one.
         self.now = Carried(None)
         self._lock = threading.Lock()
+        # Whether the log is to be read from its front. Any thread may ask for that; the fetcher's does it.
+        self.reads_from_front = False
         # The authors of this person's numbers under which somebody else writes, too.
         self._shared: set[bytes] = set()
 

@@ -56,7 +56,7 @@ class Watch:
 
 class Replicator:
     """Carries entries of one note, in threads each of which has the file and the log open for itself. The editor's thread
-    alone calls it; what the threads share is in `Known`, which has a lock, and in values that one thread sets at a time."""
+    alone calls it. What the log has is owned by `Known` for all threads; each part has its own state beside that."""
 
     def __init__(self, open_disk: Callable[[], Disk], open_log: Callable[[], Log] | None, form: Form,
                  wake: Callable[[], None], own_disk: Callable[[], Disk]):
@@ -150,7 +150,7 @@ class Replicator:
 
     def read_from_front(self) -> None:
         """Reads the log from its front, and gives it what it lacks. Any thread may call it."""
-        self._giver.reads_from_front = True
+        self._known.reads_from_front = True
 
     def close(self, seconds: float) -> None:
         """Stops, when all is sent or this time has passed."""

@@ -6,10 +6,11 @@ import re
 import unittest
 from unittest import mock
 
-from share.log.redis import RedisLog
 from share.program.trace import VARIABLE, Trace, Traced, trace
+from share.store.note_file import Disk, Unkept
 from share.tests import test_copies
 from share.tests.support import Case, change, type_at_the_end, wait_for, written
+from share.text.errors import Trouble
 
 LINE = re.compile(r"(\d+\.\d{6}) (\d+) ([a-z_]+)((?: [a-z_]+=(?:\d+|[a-z]+))*)")
 SOON = 30
@@ -27,7 +28,7 @@ class Kept:
 
     def lines(self) -> list[re.Match[str]]:
         """Its lines, each of which has the form of one."""
-        return [found for line in self.path.read_text().splitlines() if (found := LINE.fullmatch(line)) or self.fail(line)]
+        return [found for line in self.path.read_text().rpartition("\n")[0].splitlines() if (found := LINE.fullmatch(line)) or self.fail(line)]
 
     def fail(self, line: str) -> bool:
         """Ends a test for a line of another form."""
@@ -35,7 +36,7 @@ class Kept:
 
     def events(self) -> list[Traced]:
         """What happened, in order."""
-        return [Traced(line[3]) for line in self.lines()]
+        return [Traced(line[3]) for line in sorted(self.lines(), key=lambda line: float(line[1]))]
 
     def has(self, *events: Traced) -> bool:
         """Whether these events are there in this order, others between them."""
@@ -58,12 +59,17 @@ class Sharing(Case):
             self.assert_comes_to(berta, b"secret words ")
             for note in anna, berta:
                 note.session.close()
-        self.assertTrue(self.kept.has(Traced.READ_FROM_FRONT, Traced.GIVEN, Traced.NOTE_OPENED, Traced.EDIT_KEPT, Traced.GIVEN,
-                                      Traced.NUMBER_CLAIMED, Traced.READ_FROM_FRONT, Traced.FETCHED, Traced.COUNTED, Traced.NOTE_OPENED,
-                                      Traced.NOTE_CLOSED, Traced.NOTE_CLOSED), self.kept.path.read_text())
-        times = [float(line[1]) for line in self.kept.lines()]
-        self.assertEqual(times, sorted(times))
+        self.assertTrue(self.kept.has(Traced.READ_FROM_FRONT, Traced.GIVEN), self.kept.path.read_text())
+        self.assertTrue(self.kept.has(Traced.NOTE_OPENED, Traced.EDIT, Traced.GIVEN, Traced.NUMBER_CLAIMED, Traced.READ_FROM_FRONT,
+                                      Traced.FETCHED, Traced.COUNTED, Traced.NOTE_CLOSED, Traced.NOTE_CLOSED), self.kept.path.read_text())
+        self.assertEqual(self.kept.events().count(Traced.NOTE_OPENED), 2)
         self.assertEqual({line[2] for line in self.kept.lines()}, {str(os.getpid())})
+
+    def test_an_edit_that_can_not_be_kept(self) -> None:
+        note = self.opened(self.person("anna"))
+        with self.kept.here(), mock.patch.object(Disk, "keep", side_effect=Unkept("full")), self.assertRaises(Trouble):
+            note.session.insert(0, b"secret")
+        self.assertEqual(self.kept.events(), [Traced.EDIT, Traced.EDIT_NOT_KEPT])
 
     def test_nothing_of_the_note_is_in_it(self) -> None:
         server = self.redis()
@@ -76,7 +82,7 @@ class Sharing(Case):
             wait_for(lambda: self.kept.has(Traced.OFFLINE), "the log to be away", SOON)
         link = self.person("anna").link()
         words = {word for line in self.kept.lines() for word in re.findall("[a-z]+", line[0])}
-        figures = {"entries", "messages", "new", "site", "log", "own", "made", "shown", "others", "of", "task", *"look give fetch show".split()}
+        figures = set("entries messages new site log own made shown of others task look give fetch show".split())
         self.assertLessEqual(words, figures | {word for event in Traced for word in event.split("_")})
         text = self.kept.path.read_text()
         for secret in ("recipe", link, link[20:30], server.url, "anna", str(self.folder)):
@@ -99,16 +105,7 @@ class Sharing(Case):
             wait_for(lambda: other.has(Traced.OFFLINE), "the log to be away", SOON)
             type_at_the_end(note, "two ")
             server.start()
-            wait_for(lambda: other.has(Traced.EDIT_KEPT, Traced.RECONNECTED, Traced.GIVEN), "it to be sent", SOON)
-
-    def test_a_claim_is_given_before_the_log_is_read(self) -> None:
-        server = self.redis()
-        anna = self.opened(self.person("anna"), url=server.url)
-        written(anna, "one ")
-        with self.kept.here(), mock.patch.object(RedisLog, "claimed", lambda _: set()):
-            berta = self.opened(self.person("berta"), link=self.person("anna").link())
-            self.assert_meet(anna, berta)
-            self.assertTrue(self.kept.has(Traced.CLAIMS_GIVEN, Traced.FETCHED, Traced.NOTE_OPENED))
+            wait_for(lambda: other.has(Traced.EDIT, Traced.RECONNECTED, Traced.GIVEN), "it to be sent", SOON)
 
 
 class Faults(Case):
@@ -144,7 +141,7 @@ class Faults(Case):
         self.person().open().session.close()
         run = self.note("append", "note", "secret", **{VARIABLE: str(kept.path)})
         self.assertEqual(run.returncode, 0, run.stderr)
-        self.assertTrue(kept.has(Traced.NOTE_OPENED, Traced.EDIT_KEPT, Traced.NOTE_CLOSED), kept.path.read_text())
+        self.assertTrue(kept.has(Traced.NOTE_OPENED, Traced.EDIT, Traced.NOTE_CLOSED), kept.path.read_text())
         self.assertNotIn("secret", kept.path.read_text())
 
 
@@ -158,8 +155,8 @@ class Rebased(unittest.TestCase):
         kept = Kept(case.folder)
         with kept.here():
             second = case.alone()
-            self.assertTrue(kept.has(Traced.NUMBER_CLAIMED, Traced.NUMBER_GIVEN_UP, Traced.SITE_BEGUN_ANEW, Traced.EDIT_KEPT, Traced.REBASED),
-                            kept.path.read_text())
+            self.assertTrue(kept.has(Traced.NUMBER_CLAIMED, Traced.NUMBER_GIVEN_UP, Traced.SITE_BEGUN_ANEW, Traced.EDIT,
+                                     Traced.REBASED), kept.path.read_text())
             case.assert_shown("one behind two", second, case.opened(case.anna))
             wait_for(lambda: kept.has(Traced.REBASED, Traced.COUNTED, Traced.HIDDEN), "the copy to be hidden", SOON)
 
