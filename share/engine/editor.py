@@ -9,6 +9,7 @@ from share.engine.protocol import Wrong
 from share.engine.transform import Carrying
 from share.format import presence
 from share.program.replay import in_units
+from share.program.trace import Traced, trace
 from share.program.undo import Undoing
 from share.text.change import Change
 from share.text.line import Line
@@ -98,6 +99,7 @@ class Peer:
                 carrying.send_text()
                 self.send({"notice": "text", "version": carrying.version, "edits": carrying.edits, "text": text.text()})
                 self._sends_cursors = self._sends_looks = True
+                trace(Traced.TEXT_SENT)
             elif carrying.has_news():
                 self._send_changes(carrying, text)
             self.jump = None
@@ -112,6 +114,7 @@ class Peer:
         if self.jump is not None:
             line["cursor"] = text.position(self.jump, units)
         self.send(line)
+        trace(Traced.CHANGES_SENT, changes=len(changes))
 
     def show_state(self, state: Line) -> None:
         """Sends a state that it hasn't been sent."""

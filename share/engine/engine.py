@@ -23,6 +23,7 @@ from share.log.base import Unreachable
 from share.program import replay, retyping
 from share.program.replay import Past, Replays, Wrote
 from share.program.site import SLICE, Edited, Site, Told
+from share.program.trace import Traced, trace
 from share.program.undo import Step, do, looks_of
 from share.store import atomic, nicknames
 from share.store.note_file import Damaged, Unkept
@@ -98,12 +99,14 @@ class Engine:
         """An editor more."""
         peer = Peer(write, waiting, self._new_who())
         self.peers.append(peer)
+        trace(Traced.EDITOR_JOINED, editors=len(self.peers))
         return peer
 
     def left(self, peer: Peer) -> None:
         """An editor less."""
         if peer in self.peers:
             self.peers.remove(peer)
+            trace(Traced.EDITOR_LEFT, editors=len(self.peers))
 
     def take(self, peer: Peer, waiting: list[bytes | None]) -> None:
         """Does what the first of the lines that wait says; None is one that was too long. Edits that follow one

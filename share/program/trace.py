@@ -16,8 +16,8 @@ class Traced(StrEnum):
 
     NOTE_OPENED = auto()
     NOTE_CLOSED = auto()
-    EDITOR_OPENED = auto()
-    EDITOR_CLOSED = auto()
+    EDITOR_JOINED = auto()
+    EDITOR_LEFT = auto()
     TEXT_SENT = auto()
     CHANGES_SENT = auto()
     EDIT = auto()
