@@ -6,6 +6,7 @@ key and no link comes into it. Any thread may write an event.
 """
 import os
 import time
+from contextlib import suppress
 from enum import Enum, StrEnum, auto
 
 VARIABLE = "VIALSHOAL_TRACE"
@@ -41,26 +42,25 @@ class Traced(StrEnum):
 
 
 class Trace:
-    """Appends events to a file. What can't be opened or written is left out, since a trace must not hinder editing."""
+    """Appends events to a file. What can't be written is left out, since a trace must not hinder editing."""
 
     def __init__(self, path: str | None):
-        self._file: int | None = None
-        if path:
-            try:
-                # A pipe that nobody reads isn't waited for.
-                self._file = os.open(path, os.O_WRONLY | os.O_CREAT | os.O_APPEND | os.O_NONBLOCK | os.O_CLOEXEC, 0o600)
-            except (OSError, ValueError):
-                pass
+        # A process that goes on in the background leaves its folder.
+        self._path = os.path.abspath(path) if path else None
 
     def write(self, event: Traced, **figures: int | Enum) -> None:
         """Writes an event, in one piece, so that several processes can share a file."""
-        if self._file is None:
+        if self._path is None:
             return
         said = "".join(f" {name}={one.name.lower() if isinstance(one, Enum) else int(one)}" for name, one in figures.items())
-        try:
-            os.write(self._file, f"{time.monotonic():.6f} {os.getpid()} {event}{said}\n".encode())
-        except OSError:
-            pass
+        # It isn't kept open: who goes on in the background closes all that is open, and its number may be another file's then.
+        with suppress(OSError, ValueError):
+            # A pipe that nobody reads isn't waited for.
+            file = os.open(self._path, os.O_WRONLY | os.O_CREAT | os.O_APPEND | os.O_NONBLOCK | os.O_CLOEXEC, 0o600)
+            try:
+                os.write(file, f"{time.monotonic():.6f} {os.getpid()} {event}{said}\n".encode())
+            finally:
+                os.close(file)
 
 
 _trace = Trace(os.environ.get(VARIABLE))

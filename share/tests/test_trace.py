@@ -9,6 +9,7 @@ from unittest import mock
 from share.program.trace import VARIABLE, Trace, Traced, trace
 from share.store.note_file import Disk, Unkept
 from share.tests import test_copies
+from share.tests.editors import Engines
 from share.tests.support import Case, change, type_at_the_end, wait_for, written
 from share.text.errors import Trouble
 
@@ -106,6 +107,26 @@ class Sharing(Case):
             type_at_the_end(note, "two ")
             server.start()
             wait_for(lambda: other.has(Traced.EDIT, Traced.RECONNECTED, Traced.GIVEN), "it to be sent", SOON)
+
+
+class OfAnEngine(Engines):
+    """Editors that speak to an engine."""
+
+    def test_an_editor_is_sent_what_another_one_types(self) -> None:
+        kept = Kept(self.folder)
+        with mock.patch.dict(os.environ, {VARIABLE: str(kept.path)}):
+            first, second = self.editor(), self.editor()
+            first.edit((0, 0, "secret words"))
+            self.assertEqual(self.alike(first, second), "secret words")
+            # Who has lost what it shows asks for all of it.
+            second.send({"do": "text", "edits": 0})
+            wait_for(lambda: (second.read(0.02), kept.has(Traced.TEXT_SENT))[1], "the text to be sent", SOON)
+            first.close()
+            second.close()
+        wait_for(lambda: kept.has(Traced.NOTE_OPENED, Traced.EDIT, Traced.CHANGES_SENT, Traced.EDITOR_LEFT, Traced.NOTE_CLOSED),
+                 "the engine to end", SOON)
+        self.assertTrue(kept.has(Traced.EDITOR_JOINED, Traced.EDITOR_JOINED, Traced.EDIT))
+        self.assertNotIn("secret", kept.path.read_text())
 
 
 class Faults(Case):
