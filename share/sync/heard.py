@@ -27,7 +27,7 @@ class Heard(IntEnum):
 
 
 class Voices:
-    """The greatest count that was heard under each token, and when it rose last."""
+    """The greatest count that was heard under each token, and when it rose last. Its owner's thread alone calls it."""
 
     def __init__(self) -> None:
         self._greatest: dict[bytes, tuple[int, float]] = {}
@@ -57,7 +57,7 @@ class Asked(NamedTuple):
 
 
 class Others:
-    """The replicators of others, by what they say."""
+    """The replicators of others, by what they say. The giver's thread alone calls it."""
 
     def __init__(self, token: bytes) -> None:
         self._token = token
@@ -90,7 +90,7 @@ class Others:
 
 
 class Shows:
-    """What others' editors show of themselves."""
+    """What others' editors show of themselves. The presence's thread alone calls it."""
 
     def __init__(self, engine: bytes) -> None:
         self._engine, self._voices = engine[:RANDOM_BYTES], Voices()

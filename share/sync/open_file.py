@@ -23,7 +23,7 @@ from share.text.errors import NEWER, Trouble, entries
 TAKEN_OUT_SECONDS = 2
 # The bytes of entries that are read in one go: at the beginning, and the bounds; and as a note is opened.
 PAGES, OPENED_BYTES = (2**14, 2**10, 2**17), 2**20
-Found = TypeVar("Found")
+OfCall = TypeVar("OfCall")
 
 
 class OpenFile:
@@ -86,7 +86,7 @@ class OpenFile:
         """Raises Damaged where the file isn't what is in memory."""
         self.disk.look(self._holdings.rows)
 
-    def mended(self, call: Callable[[], Found]) -> Found:
+    def mended(self, call: Callable[[], OfCall]) -> OfCall:
         """What a call on the file gives; the file is written anew from memory where it is gone or damaged."""
         try:
             return call()

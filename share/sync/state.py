@@ -55,7 +55,7 @@ class RowsInMemory(Mapping[bytes, Row]):
 
 
 class Holdings:
-    """What was read of a file, and what counts of it."""
+    """What was read of a file, and what counts of it. The editor's thread alone calls it."""
 
     def __init__(self, form: Form) -> None:
         self._form = form
