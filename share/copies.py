@@ -48,14 +48,16 @@ class Copies:
     def __init__(self) -> None:
         self._by_authors: dict[Who, list[_Said]] = {}
         self._by_others: dict[Who, list[_Said]] = {}
-        # The sites whose messages stand for others, and the seq of the last one that does.
+        # The sites whose messages stand for others, and the seq of the last one that does; and the last entries that have such.
         self.sites: dict[int, int] = {}
+        self.lasts: set[bytes] = set()
 
     def add(self, entry: Entry) -> None:
         """Takes over what an entry says."""
         copied = entry.copied
         last = max((by + size - 1 for _, by, size in copied.stretches if by), default=0)
         self.sites[copied.by_site] = max(self.sites.get(copied.by_site, 0), last)
+        self.lasts.add(copied.last)
         whose = copied.site, copied.author
         said = self._by_authors if (entry.site, entry.author) == whose else self._by_others
         said.setdefault(whose, []).extend(_Said(seq, size, Copy(copied.by, copied.by_site, by), entry.before, copied.last)
@@ -83,7 +85,7 @@ class Copies:
             first, last = max(entry.first, one.seq), min(entry.last, one.end(counting) - 1)
             if first <= last and (one.last == NO_HASH or counting.is_chained(entry.hash, one.last)):
                 yield first, last
-        # Each who copied has all of a message, in one copy or in several that follow one another.
+        # Who copied a message has all of it, in one copy or in all of them, one after the other.
         found: dict[tuple[int, int, bytes], dict[int, bytes]] = {}
         for one in self._by_others.get(who, ()):
             first, last = max(entry.first, one.seq), min(entry.last, one.end(counting) - 1)
@@ -92,5 +94,5 @@ class Copies:
                 found.setdefault((seq, one.by.site, one.by.author), {})[by] = typed(counting.message(one.by.site, by))
         for (seq, _, _), parts in found.items():
             data = typed(entry.messages[seq - entry.first])
-            if data and data in (b"".join(parts.values()), *parts.values()):
+            if data and data in (b"".join(parts[by] for by in sorted(parts)), *parts.values()):
                 yield seq, seq

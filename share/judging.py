@@ -469,6 +469,8 @@ class Judge:
             if of in self._outside:
                 self._outside.remove(of)
                 self._changed()
+            if of in self._copies.lasts:
+                self._changed()
             number = self._ledger.add(last, numbers[-1] if numbers else 0)
             chain.add(number)
             self._in_chains += 1
