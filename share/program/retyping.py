@@ -288,7 +288,8 @@ class _Typist:
     def __init__(self, site: Site, made: dict[Message, Message], parts: Mapping[Message, Sequence[Message]]):
         self.site, self._made, self._parts = site, made, parts
         self._done = _Insertions()
-        self._waiting: list[tuple[int, Message]] = []
+        # What is typed next, each at its place.
+        self._waiting: dict[Message, int] = {}
 
     def type_in_a_row(self, messages: Iterable[Message], place: int) -> Edited:
         """Types messages one after the other from a place on."""
@@ -320,7 +321,7 @@ class _Typist:
         if parts != [message]:
             edits.append(self._type())
             self._done.add(message)
-        return [] if any(part in self._made for part in parts) else parts
+        return [] if any(part in self._made or part in self._waiting for part in parts) else parts
 
     def copies(self, names: Iterable[Names]) -> list[Names]:
         """The names of the characters that stand for these, as far as they were typed again."""
@@ -337,14 +338,14 @@ class _Typist:
         return found
 
     def _put(self, place: int, message: Message) -> Edited:
-        self._waiting.append((place, message))
+        self._waiting[message] = place
         return self._type() if len(self._waiting) >= MOST_AT_ONCE else Edited([])
 
     def _type(self) -> Edited:
         """Types what waits."""
-        waiting, self._waiting = self._waiting, []
-        edits = self.site.replace([(place, place, typed(message)) for place, message in waiting]) if waiting else []
-        for (_, message), edited in zip(waiting, edits):
+        waiting, self._waiting = self._waiting, {}
+        edits = self.site.replace([(place, place, typed(message)) for message, place in waiting.items()]) if waiting else []
+        for message, edited in zip(waiting, edits):
             if edited.refused is not None:
                 raise Refused(edited.refused)
             (self._made[message],) = edited.messages

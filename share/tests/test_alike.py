@@ -5,12 +5,12 @@ import unittest
 from collections.abc import Sequence
 
 from share.admission.judge import Judge, rank
-from share.format.entry import Author, Copied, Copy, Entry, Plain
+from share.format.entry import Author, Copied, Entry, Form, Plain
 from share.format.operation import Message
 from share.program import retyping
 from share.program.site import Site
 from share.sync.recovered import Recovered
-from share.tests.naive import inserting
+from share.tests.naive import Name, inserting
 from share.tests.support import Person, take
 from share.tests.test_left_out import Three, shown
 
@@ -56,10 +56,10 @@ class Twice:
 
     SITES = (65_001, 65_002, 65_003)
 
-    def __init__(self, form: Plain):
+    def __init__(self, form: Form, after: Name | None = None):
         self.form, self.author = form, form.new_author()
         claims = [form.claim(site, self.author) for site in self.SITES]
-        self.word, self.copy, self.other = (form.entry(claim, [inserting(claim.site, 1, 1, None, 0, b"word ")], self.author)
+        self.word, self.copy, self.other = (form.entry(claim, [inserting(claim.site, 1, 1, after, 0, b"word ")], self.author)
                                             for claim in claims)
         said = [self.said(self.word, copy) for copy in (self.copy, self.other)]
         self.entries = [*claims, self.word, self.copy, self.other, *said, *map(self.taken, claims[:2])]
@@ -118,6 +118,11 @@ class Words(unittest.TestCase):
         entries = [*some.entries, another]
         messages, made = self.typed_again(entries)
         self.assertEqual(([one for one in messages if one.kind == 1][1:], self.is_hidden(entries, made)), ([], [False]))
+
+    def test_what_is_typed_at_the_end_is_typed_once_too(self) -> None:
+        some = Twice(FORM, (60_000, 0))
+        messages, _ = self.typed_again([*some.entries, some.taken(some.entries[2])])
+        self.assertEqual(len(messages), 1)
 
     def test_two_copies_that_were_left_out_are_typed_as_one(self) -> None:
         some = Twice(FORM)
