@@ -52,20 +52,23 @@ class Typed(Three):
 
 
 class Twice:
-    """A word was left out and made anew twice, by two disks with one key; then one of these copies was left out, too."""
+    """A word was left out and made anew twice, by two disks that have its key; then one of these copies was left out, too."""
 
     SITES = (65_001, 65_002, 65_003)
 
     def __init__(self, form: Form, after: Name | None = None):
-        self.form, self.author = form, form.new_author()
-        claims = [form.claim(site, self.author) for site in self.SITES]
-        self.word, self.copy, self.other = (form.entry(claim, [inserting(claim.site, 1, 1, after, 0, b"word ")], self.author)
-                                            for claim in claims)
+        self.form = form
+        # That of the least name has the greatest number.
+        self.author, *_ = authors = sorted((form.new_author() for _ in self.SITES), reverse=True)
+        claims = [form.claim(site, author) for site, author in zip(self.SITES, authors)]
+        self.word, self.copy, self.other = (form.entry(claim, [inserting(claim.site, 1, 1, after, 0, b"word ")], author)
+                                            for claim, author in zip(claims, authors))
         said = [self.said(self.word, copy) for copy in (self.copy, self.other)]
         self.entries = [*claims, self.word, self.copy, self.other, *said, *map(self.taken, claims[:2])]
+        self.authors = authors
 
     def said(self, of: Entry, by: Entry) -> Entry:
-        """The author's word that what he typed stands for other messages of his."""
+        """The word of who wrote something that another one's message stands for it."""
         copied = Copied(of.author, of.site, by.author, by.site, ((1, 1, 1),), by.hash)
         return self.form.copies(copied, self.author, of.site, of.hash)
 
@@ -112,16 +115,18 @@ class Words(unittest.TestCase):
 
     def test_not_to_another_text_under_the_number_of_that_copy(self) -> None:
         some = Twice(FORM)
-        another = FORM.entry(some.entries[2], [inserting(65_003, 1, 1, None, 0, b"else ")], some.author)
-        while another.hash > some.other.hash:
-            another = FORM.entry(some.entries[2], [inserting(65_003, 1, another.messages[0].stamp + 1, None, 0, b"else ")], some.author)
+        another = some.other
+        while another.hash >= some.other.hash:
+            message = inserting(65_003, 1, another.messages[0].stamp + 1, None, 0, b"else ")
+            another = FORM.entry(some.entries[2], [message], some.authors[2])
         entries = [*some.entries, another]
         messages, made = self.typed_again(entries)
         self.assertEqual(([one for one in messages if one.kind == 1][1:], self.is_hidden(entries, made)), ([], [False]))
 
     def test_what_is_typed_at_the_end_is_typed_once_too(self) -> None:
         some = Twice(FORM, (60_000, 0))
-        messages, _ = self.typed_again([*some.entries, some.taken(some.entries[2])])
+        entries = [one for one in [*some.entries, some.taken(some.entries[2])] if one != some.copy]
+        messages, _ = self.typed_again(entries)
         self.assertEqual(len(messages), 1)
 
     def test_two_copies_that_were_left_out_are_typed_as_one(self) -> None:
