@@ -6,7 +6,7 @@ from collections.abc import Sequence
 
 from share.admission.judge import Judge, rank
 from share.format.entry import Author, Copied, Entry, Form, Plain
-from share.format.operation import Message
+from share.format.operation import Message, typed
 from share.program import retyping
 from share.program.site import Site
 from share.sync.recovered import Recovered
@@ -128,6 +128,24 @@ class Words(unittest.TestCase):
         entries = [one for one in [*some.entries, some.taken(some.entries[2])] if one != some.copy]
         messages, _ = self.typed_again(entries)
         self.assertEqual(len(messages), 1)
+
+    def test_of_two_histories_of_a_number_all_is_typed(self) -> None:
+        author = FORM.new_author()
+        claim = FORM.claim(7, author)
+        forks = [FORM.entry(claim, [inserting(7, 1, stamp, None, 0, data)], author)
+                 for stamp, data in enumerate((b"one ", b"two ", b"two ", b"three "), 1)]
+        entries = [claim, *forks]
+        messages, made = self.typed_again(entries)
+        self.assertEqual(len(messages), 3)
+        self.is_hidden(entries, made)
+        # What was typed again stands for one of them each, also where that is left out, and what was copied isn't typed.
+        judge = Judge([*entries, *made])
+        with contextlib.closing(Site(5, judge.count().messages)) as site:
+            self.assertEqual(sorted(site.text().decode().split()), ["one", "three", "two", "two"])
+        some = Twice(FORM)
+        other = FORM.entry(some.entries[0], [inserting(65_001, 1, 2, None, 0, b"else ")], some.author)
+        messages, made = self.typed_again([*some.entries, other])
+        self.assertEqual(sorted(typed(one) for one in messages), [b"else ", b"word "])
 
     def test_two_copies_that_were_left_out_are_typed_as_one(self) -> None:
         some = Twice(FORM)
