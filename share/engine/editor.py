@@ -6,7 +6,7 @@ from collections.abc import Callable
 from share.engine import protocol
 from share.engine.formatting import Dress
 from share.engine.protocol import Wrong
-from share.engine.transform import Carrying
+from share.engine.transform import Transformer
 from share.format import presence
 from share.program.replay import in_units
 from share.program.undo import Undoing
@@ -31,7 +31,7 @@ class Peer:
         self.token = secrets.token_bytes(TOKEN_BYTES)
         self.name, self.colour = "", ""
         # What it has of the text, from its opening on.
-        self.carrying: Carrying | None = None
+        self.carrying: Transformer | None = None
         self.undoing = Undoing()
         # Where its last typing ended that may go on.
         self.typed_end: int | None = None
@@ -53,13 +53,13 @@ class Peer:
         self.has_cursors_to_show = False
 
     @property
-    def carry(self) -> Carrying:
+    def carry(self) -> Transformer:
         """What it has of the text; Wrong where it hasn't opened the note."""
         if self.carrying is None:
             raise Wrong("order", "The note isn't open: open comes first.")
         return self.carrying
 
-    def begin(self, request: Line) -> Carrying:
+    def begin(self, request: Line) -> Transformer:
         """Agrees on units and takes over what the editor says of itself; the text isn't open yet."""
         offered = request.get("units")
         if request.get("protocol") != 1:
@@ -74,7 +74,7 @@ class Peer:
             raise Wrong("field", "name has to be a string, and colour one as #3366cc.")
         self.name, self.colour = presence.clean_name(name) or self.name, colour or self.colour
         self.sees_looks = request.get("looks") is True
-        return Carrying(units)
+        return Transformer(units)
 
     def moved(self, change: Change) -> None:
         """Has its places follow a change."""
@@ -105,7 +105,7 @@ class Peer:
         for line in answers:
             self.send(line)
 
-    def _send_changes(self, carrying: Carrying, text: Measured) -> None:
+    def _send_changes(self, carrying: Transformer, text: Measured) -> None:
         units = carrying.units
         changes = [[begin, end, units.decode(data)] for begin, end, data in carrying.send()]
         line: Line = {"notice": "changes", "version": carrying.version, "edits": carrying.edits, "changes": changes}

@@ -600,7 +600,7 @@ class Engine:
     def _place(self, peer: Peer, position: int) -> int:
         """The place in bytes of a position in an editor's text."""
         try:
-            return self._text.place(peer.carry.carried(position), peer.carry.units)
+            return self._text.place(peer.carry.position(position), peer.carry.units)
         except Outside as why:
             raise Wrong("outside", f"Position {position} is outside the text.") from why
         except Split as why:

@@ -14,7 +14,7 @@ from share.cli.verbs import differences
 from share.editors.mirror import Line, Mirror
 from share.engine import server as serving
 from share.engine.engine import Engine
-from share.engine.transform import Carrying
+from share.engine.transform import Transformer
 from share.format import link as links
 from share.format.presence import Present, written
 from share.program.process import Ended
@@ -151,11 +151,11 @@ class Here(Case):
         self.meet()
         self.assertEqual(second.text, first.text)
         self.assertLess(time.process_time() - begin, 20)
-        carrying, begin = Carrying(UNITS["utf-8"]), time.process_time()
+        transformer, begin = Transformer(UNITS["utf-8"]), time.process_time()
         for number in range(2_000):
-            carrying.changed([1 + number * 2, b"x"])
-            carrying.send()
-        carrying.edit(0, [(0, 0, "y")], 20_000)
+            transformer.changed([1 + number * 2, b"x"])
+            transformer.send()
+        transformer.edit(0, [(0, 0, "y")], 20_000)
         self.assertLess(time.process_time() - begin, 5)
 
     def test_doing_again_much_brings_back_what_was_taken_alone(self) -> None:
