@@ -84,7 +84,7 @@ class Peer:
 
     def send(self, line: Line) -> None:
         """Sends a line."""
-        self._write(protocol.written(line))
+        self._write(protocol.serialize(line))
 
     def answer_later(self, line: Line) -> None:
         """Answers after the notices that are due."""

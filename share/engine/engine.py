@@ -15,7 +15,7 @@ from share.engine import protocol
 from share.engine.editor import Peer
 from share.engine.formatting import Dress
 from share.engine.others import SHOW_SECONDS, Company
-from share.engine.protocol import MOST_LINE, Wrong
+from share.engine.protocol import Wrong
 from share.format import presence
 from share.format.operation import MOST_RANGES, Message, inserted
 from share.format.presence import FRONT, Place, Present
@@ -31,7 +31,7 @@ from share.sync.session import Session, Status
 from share.text.change import Change, change
 from share.text.delta import Op, in_text, of_changes
 from share.text.errors import Refused, Trouble
-from share.text.line import Line
+from share.text.line import MOST_LINE, Line
 from share.text.looks import COLOURS, Looked, setting
 from share.text.names import Names, united
 from share.text.rope import Measured, Outside, Split, shown, swapped
@@ -111,7 +111,7 @@ class Engine:
         request: Line = {}
         self._asked = time.monotonic()
         try:
-            request = self._read(waiting.pop(0))
+            request = protocol.parse(waiting.pop(0))
             if request.get("do") == "edit" and peer.carrying:
                 self._edits(peer, request, waiting)
                 return
@@ -123,12 +123,6 @@ class Engine:
             answer = _failed(fault)
         if answer is not None:
             self._answer(peer, request, answer)
-
-    @staticmethod
-    def _read(data: bytes | None) -> Line:
-        if data is None:
-            raise Wrong("long", f"The line has more than {MOST_LINE:,} bytes.")
-        return protocol.read(data)
 
     def turn(self) -> None:
         """Takes in what came from others, and sends the editors what is new."""
@@ -738,7 +732,7 @@ def _edits_of(request: Line, default: int) -> int:
 def _edit_of(waiting: list[bytes | None]) -> Line | None:
     """The next line that waits, if it is an edit; it is taken out then."""
     try:
-        request = protocol.read(waiting[0] or b"") if waiting else {}
+        request = protocol.parse(waiting[0]) if waiting else {}
     except Wrong:
         return None
     if request.get("do") != "edit":

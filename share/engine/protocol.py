@@ -2,12 +2,10 @@
 import json
 import re
 
-from share.text.line import Line
+from share.text.line import MOST_LINE, Line
 from share.text.looks import MOST_COLOUR
 
-# A line has so many bytes at most.
-MOST_LINE = 1 << 25
-# An edit has so many changes at most, which take some seconds.
+# The most changes of an edit, which take some seconds, and the most stretches that are given looks at once.
 MOST_CHANGES = 50_000
 # Greater numbers aren't the same in all languages.
 MOST_NUMBER = 2**53 - 1
@@ -23,8 +21,10 @@ class Wrong(Exception):
         self.code, self.more = code, more
 
 
-def read(data: bytes) -> Line:
-    """The object that a line has."""
+def parse(data: bytes | None) -> Line:
+    """The object that a line has; None is a line that was too long."""
+    if data is None:
+        raise Wrong("long", f"The line has more than {MOST_LINE:,} bytes.")
     try:
         line = json.loads(data.decode())
     except (ValueError, RecursionError):
@@ -34,8 +34,8 @@ def read(data: bytes) -> Line:
     return line
 
 
-def written(line: Line) -> bytes:
-    """A line of an object."""
+def serialize(line: Line) -> bytes:
+    """The line of an object, with its end."""
     return json.dumps(line, ensure_ascii=False, separators=(",", ":")).encode("utf-8", "replace") + b"\n"
 
 

@@ -18,12 +18,12 @@ from collections.abc import Callable, Iterator
 
 from share.engine.editor import Peer
 from share.engine.engine import Engine
-from share.engine.protocol import MOST_LINE
 from share.format.link import Link
 from share.store import notes, read_only
 from share.store.note_file import make_folder
 from share.sync.session import Bar, Session
 from share.text.errors import Trouble
+from share.text.line import PIECE, Assembler
 
 # How long a relay waits for an engine to listen, and an engine for one that is ending.
 START_SECONDS = 60
@@ -32,7 +32,7 @@ AGAIN_SECONDS = 0.01
 ALONE_SECONDS = 10
 # The note is looked at so often where nothing comes, and at least so often where editors send without a pause.
 TURN_SECONDS, BUSY_SECONDS = 0.5, 0.05
-PIECE, MOST_FILES = 1 << 18, 1_024
+MOST_FILES = 1_024
 # A pipe that takes something takes so much without making the writer wait.
 OF_A_PIPE = 4_096
 # So many lines of an editor wait to be done at most, before no more is read.
@@ -157,8 +157,7 @@ class Connection:
 
     def __init__(self, end: socket.socket):
         self.end = end
-        self.out, self._in = bytearray(), bytearray()
-        self._skips = False
+        self.out, self._assembler = bytearray(), Assembler()
         # Whether nothing more comes, and whether nothing can be sent either.
         self.has_ended = self.is_broken = False
         # Lines that came and wait to be done; None is one that was too long.
@@ -192,25 +191,8 @@ class Connection:
             return
         except OSError:
             data = b""
-        if not data:
-            self.has_ended = True
-            return
-        begin = len(self._in)
-        self._in += data
-        if b"\n" in data:
-            self._part(self._in.find(b"\n", begin))
-        elif self._skips or len(self._in) > MOST_LINE:
-            self._skips = True
-            self._in.clear()
-
-    def _part(self, end: int) -> None:
-        """Takes out whole lines."""
-        begin = 0
-        while end >= 0:
-            self.lines.append(None if self._skips or end - begin > MOST_LINE else bytes(self._in[begin:end]))
-            self._skips, begin = False, end + 1
-            end = self._in.find(b"\n", begin)
-        del self._in[:begin]
+        self.has_ended = not data
+        self.lines += self._assembler.lines(data)
 
 
 class Server:
