@@ -25,20 +25,19 @@ from share.sync.session import Bar, Session
 from share.text.errors import Trouble
 from share.text.line import PIECE, Assembler
 
-# How long a relay waits for an engine to listen, and an engine for one that is ending.
-START_SECONDS = 60
-AGAIN_SECONDS = 0.01
-# An engine to which nobody has come for so long ends.
-ALONE_SECONDS = 10
-# The note is looked at so often where nothing comes, and at least so often where editors send without a pause.
-TURN_SECONDS, BUSY_SECONDS = 0.5, 0.05
+# How long a relay waits for an engine to listen, and an engine for one that is ending; and the time between two tries.
+START_SECONDS, TRY_SECONDS = 60, 0.01
+# How long an engine waits for its first editor before it ends.
+FIRST_EDITOR_SECONDS = 10
+# The longest time between two turns: where nothing comes, and where editors send without a pause or are to be told something soon.
+IDLE_SECONDS, PRESSED_SECONDS = 0.5, 0.05
 MOST_FILES = 1_024
-# A pipe that takes something takes so much without making the writer wait.
+# The most bytes that a pipe which takes something takes without making the writer wait.
 OF_A_PIPE = 4_096
-# So many lines of an editor wait to be done at most, before no more is read.
-MOST_LINES = 1_000
+# The most lines of an editor that wait to be done, before no more is read.
+MOST_UNDONE = 1_000
 CREDENTIALS = struct.Struct("iII")
-Opens = Callable[[Bar, Callable[[], None]], Session]
+OpensSession = Callable[[Bar, Callable[[], None]], Session]
 
 
 def run_folder() -> pathlib.Path:
@@ -68,8 +67,8 @@ def connected(name: str) -> socket.socket | None:
         return None
 
 
-def agree(name: str, url: str | None, link: Link | None) -> None:
-    """Sees that a link and a log are those of the note that an engine has open, where one does. An engine that has just
+def agree_with_engine(name: str, url: str | None, link: Link | None) -> None:
+    """Checks that a link and a log are those of the note that an engine has open, where one does. An engine that has just
     been started makes the note as its first editor opens that."""
     if line := connected(name):
         with line:
@@ -77,7 +76,7 @@ def agree(name: str, url: str | None, link: Link | None) -> None:
             while not path.exists():
                 if time.monotonic() > end:
                     raise _silent(name)
-                time.sleep(AGAIN_SECONDS)
+                time.sleep(TRY_SECONDS)
         about = read_only.about(path)
         notes.agree(about, name, url, link)
         if url and url != about.url:
@@ -88,7 +87,7 @@ def _silent(name: str) -> Trouble:
     return Trouble(f"The engine of {name} doesn't answer. Look for a process that hangs.")
 
 
-def connected_or_started(name: str, opens: Opens) -> socket.socket:
+def connected_or_started(name: str, opens: OpensSession) -> socket.socket:
     """A connection to the engine of a note, which is started where it isn't there."""
     notes.path_of(name)
     folder = run_folder()
@@ -100,11 +99,11 @@ def connected_or_started(name: str, opens: Opens) -> socket.socket:
             child = _started(name, opens)
         if time.monotonic() > end:
             raise _silent(name)
-        time.sleep(AGAIN_SECONDS)
+        time.sleep(TRY_SECONDS)
     return line
 
 
-def _started(name: str, opens: Opens) -> int:
+def _started(name: str, opens: OpensSession) -> int:
     """Leaves an engine running on its own; the process that waits for its begin."""
     if child := os.fork():
         return child
@@ -125,7 +124,7 @@ def _started(name: str, opens: Opens) -> int:
         os._exit(status)
 
 
-def serve(name: str, opens: Opens) -> None:
+def serve(name: str, opens: OpensSession) -> None:
     """Is the engine of a note until its last editor has left, unless another process is it."""
     with _lock(name) as has_lock:
         if has_lock:
@@ -134,7 +133,7 @@ def serve(name: str, opens: Opens) -> None:
 
 @contextlib.contextmanager
 def _lock(name: str) -> Iterator[bool]:
-    """Has one process at a time be a note's engine; an engine that is ending is waited for."""
+    """Lets one process at a time be a note's engine; waits for one that is ending."""
     file = os.open(run_folder() / f"{name}.lock", os.O_RDWR | os.O_CREAT | os.O_CLOEXEC, 0o600)
     try:
         end = time.monotonic() + START_SECONDS
@@ -146,14 +145,14 @@ def _lock(name: str) -> Iterator[bool]:
             if line := connected(name):
                 line.close()
                 break
-            time.sleep(AGAIN_SECONDS)
+            time.sleep(TRY_SECONDS)
         yield False
     finally:
         os.close(file)
 
 
 class Connection:
-    """A connection to an editor, as the engine's end of it."""
+    """A connection to an editor, as the engine's end of it. The engine's thread alone calls it."""
 
     def __init__(self, end: socket.socket):
         self.end = end
@@ -173,7 +172,7 @@ class Connection:
         return len(self.out)
 
     def send(self) -> None:
-        """Sends as much as goes."""
+        """Sends as much as the editor takes."""
         try:
             while self.out:
                 del self.out[:self.end.send(memoryview(self.out)[:PIECE].tobytes())]
@@ -191,14 +190,15 @@ class Connection:
             return
         except OSError:
             data = b""
-        self.has_ended = not data
+        self.has_ended = self.has_ended or not data
         self.lines += self._assembler.lines(data)
 
 
 class Server:
-    """An engine with its editors' connections."""
+    """An engine with its editors' connections. The thread that calls `run` is the engine's; `_wake` may be called by any, and by a
+    signal."""
 
-    def __init__(self, name: str, opens: Opens):
+    def __init__(self, name: str, opens: OpensSession):
         self._name = name
         self._woken, self._waking = os.pipe()
         os.set_blocking(self._woken, False)
@@ -215,7 +215,7 @@ class Server:
         for number in signal.SIGTERM, signal.SIGINT:
             signal.signal(number, lambda *_: self._stop())
         self._listen()
-        end = time.monotonic() + ALONE_SECONDS
+        end = time.monotonic() + FIRST_EDITOR_SECONDS
         try:
             while not self._stops and (self._editors or time.monotonic() < end or not self._is_left_alone()):
                 self._turn()
@@ -230,7 +230,7 @@ class Server:
         self._wake()
 
     def _is_left_alone(self) -> bool:
-        """Has nobody come any more, unless somebody has come in this moment. Who comes later starts another engine,
+        """Lets nobody come any more, and says whether nobody has come in this moment. Who comes later starts another engine,
         which waits for the end of this one."""
         with _socket_path(self._name) as path:
             os.unlink(path)
@@ -263,7 +263,7 @@ class Server:
         self._send_now()
 
     def _send_now(self) -> None:
-        """Sends what goes in the midst of something that takes long."""
+        """Sends what can be sent, in the midst of something that takes long."""
         for editor in [*self._editors]:
             editor.send()
 
@@ -275,7 +275,7 @@ class Server:
         for editor in self._editors:
             self._wait_for(editor)
         goes_on = self._engine.has_more() or any(editor.lines for editor in self._editors)
-        seconds = 0 if goes_on else BUSY_SECONDS if self._engine.is_restless() else TURN_SECONDS
+        seconds = 0 if goes_on else PRESSED_SECONDS if self._engine.is_restless() else IDLE_SECONDS
         for key, events in self._selector.select(seconds):
             if key.fileobj is self._listener:
                 self._accept()
@@ -289,9 +289,9 @@ class Server:
         self._send()
 
     def _wait_for(self, editor: Connection) -> None:
-        """Has the next turn begin as soon as an editor sends something, or takes something."""
+        """Watches whether an editor sends something, or takes something, so that the next turn begins then."""
         # Who sends more than is done is read later.
-        reads = not editor.has_ended and len(editor.lines) < MOST_LINES
+        reads = not editor.has_ended and len(editor.lines) < MOST_UNDONE
         wanted = (selectors.EVENT_READ if reads else 0) | (selectors.EVENT_WRITE if editor.out else 0)
         known = self._selector.get_map().get(editor.end.fileno())
         if known and known.events == wanted:
@@ -316,8 +316,8 @@ class Server:
         self._editors[editor] = self._engine.joined(editor.write, editor.waiting)
 
     def _do_lines(self) -> None:
-        """Does what has come, editor by editor, until what came from others has to be looked at."""
-        end = time.monotonic() + BUSY_SECONDS
+        """Does what has come, editor by editor, until it is time to take in what came from others."""
+        end = time.monotonic() + PRESSED_SECONDS
         while time.monotonic() < end:
             waiting = [editor for editor in self._editors if editor.lines]
             if not waiting:
@@ -397,7 +397,7 @@ class Relay:
             self._to_engine.clear()
 
 
-def relayed(name: str, opens: Opens) -> None:
+def relayed(name: str, opens: OpensSession) -> None:
     """Is an editor's way to the engine of a note."""
     with connected_or_started(name, opens) as line:
         Relay(line).run()

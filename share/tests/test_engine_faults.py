@@ -102,7 +102,7 @@ class Here(Case):
         got = self.meet()
         self.assertEqual([line.get("error") for line in got[0] if line.get("answer") == "edit"],
                          [None, "field", "field"])
-        first.made = peer.carry.edits
+        first.made = peer.transformer.edits
         asked.append(json.dumps({"do": "text", "edits": first.made}).encode())
         self.meet()
         second.edit([(4, 4, " and later")])
@@ -229,7 +229,7 @@ class Apart(Engines):
         first = self.editor("bo", link=link, opens=False)
         wait_for((self.folder / "bo" / "run" / "note.sock").exists, "an engine")
         with self.person("bo").here(), ThreadPoolExecutor(1) as threads:
-            agrees = threads.submit(serving.agree, "note", None, links.read(link))
+            agrees = threads.submit(serving.agree_with_engine, "note", None, links.read(link))
             with self.assertRaises(FutureTimeout):
                 # The other one isn't refused, though the note isn't here yet.
                 agrees.result(0.5)
