@@ -24,8 +24,8 @@ NOT_OPEN = "The note isn't open: open comes first."
 
 
 class Peer:
-    """An editor. What it is sent goes through a call, and another one says how much of that is still on its way. The engine's
-    thread alone calls it."""
+    """An editor. What it is sent goes through one call, and another says how many bytes of that are still on their way. The
+    engine's thread alone calls it."""
 
     def __init__(self, write: Callable[[bytes], None], waiting: Callable[[], int], who: int):
         self._write, self._waiting, self.who = write, waiting, who
@@ -47,7 +47,7 @@ class Peer:
         self._state: Line = {}
         self._cursors: list[Line] = []
         self._cursors_due, self._sends_cursors = 0.0, False
-        # Whether it shows looks; which of them it was sent, with which version, and whether it has dropped these.
+        # Whether it shows looks; which of them it was sent, with which version, and whether it may have dropped these.
         self.sees_looks = False
         self._looks, self._looks_version, self._sends_looks = 0, 0, False
         # Whether cursors are to be sent as soon as they may be.
@@ -93,7 +93,7 @@ class Peer:
             for place in (self.cursor, self.anchor, self.jump, self.typed_end))
 
     def send(self, line: Line) -> None:
-        """Sends a line."""
+        """Sends a line at once."""
         self._write(protocol.serialize(line))
 
     def answer_later(self, line: Line) -> None:
@@ -130,7 +130,7 @@ class Peer:
             self.send({"notice": "state", **state})
 
     def show_again(self, version: int) -> None:
-        """Sends cursors again soon, since it may have dropped them as it made an edit in a version, and looks if they are newer."""
+        """Sends cursors again soon, which an edit that was made in this version may have made it drop, and looks that are newer."""
         self._sends_cursors = True
         self._sends_looks = self._sends_looks or version < self._looks_version
 

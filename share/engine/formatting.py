@@ -1,4 +1,4 @@
-"""The looks that editors are shown of a note, and when the program is to be asked for them anew."""
+"""The looks that editors are shown of a note, and when the program is asked for them anew."""
 import time
 
 from share.format.operation import may_dress

@@ -1,7 +1,7 @@
 """Where an engine meets its editors: a Unix socket in the data folder, which nobody but this account reaches.
 
-An editor starts `bin/note engine NAME`, which hands lines on between its standard input and output and the socket.
-Where no engine listens there, it leaves one running on its own, which ends after its last editor. So no editor's end
+An editor starts `bin/note engine NAME`, which relays lines between its standard input and output and the socket.
+Where no engine listens there, it starts one as a process of its own, which ends after its last editor. So no editor's end
 takes the engine from the others.
 """
 import contextlib
@@ -47,7 +47,7 @@ def run_folder() -> pathlib.Path:
 
 @contextlib.contextmanager
 def _socket_path(name: str) -> Iterator[str]:
-    """The path of a note's socket, which is short, whatever the folder's is: a socket's may have 107 bytes."""
+    """The path of a note's socket, which is short even where the folder's isn't: a socket's may have 107 bytes."""
     folder = os.open(run_folder(), os.O_RDONLY | os.O_DIRECTORY | os.O_CLOEXEC)
     try:
         yield f"/proc/self/fd/{folder}/{name}.sock"
@@ -104,7 +104,7 @@ def connected_or_started(name: str, opens: OpensSession) -> socket.socket:
 
 
 def _started(name: str, opens: OpensSession) -> int:
-    """Leaves an engine running on its own; the process that waits for its begin."""
+    """Starts an engine as a process of its own; the number of that process."""
     if child := os.fork():
         return child
     status = 1
@@ -115,7 +115,7 @@ def _started(name: str, opens: OpensSession) -> int:
         nothing = os.open(os.devnull, os.O_RDWR)
         for standard in range(3):
             os.dup2(nothing, standard)
-        # Who waits for the end of something that the editor has open doesn't wait for the engine's.
+        # Nobody who waits for the end of a file that the editor has open is to wait for the engine's.
         os.closerange(3, MOST_FILES)
         serve(name, opens)
         status = 0
@@ -125,7 +125,7 @@ def _started(name: str, opens: OpensSession) -> int:
 
 
 def serve(name: str, opens: OpensSession) -> None:
-    """Is the engine of a note until its last editor has left, unless another process is it."""
+    """Runs the engine of a note until its last editor has left, unless another process does."""
     with _lock(name) as has_lock:
         if has_lock:
             Server(name, opens).run()
@@ -133,7 +133,7 @@ def serve(name: str, opens: OpensSession) -> None:
 
 @contextlib.contextmanager
 def _lock(name: str) -> Iterator[bool]:
-    """Lets one process at a time be a note's engine; waits for one that is ending."""
+    """Lets one process at a time run a note's engine, and says whether this one may; waits for one that is ending."""
     file = os.open(run_folder() / f"{name}.lock", os.O_RDWR | os.O_CREAT | os.O_CLOEXEC, 0o600)
     try:
         end = time.monotonic() + START_SECONDS
@@ -183,7 +183,7 @@ class Connection:
             self.has_ended = self.is_broken = True
 
     def receive(self) -> None:
-        """Takes in what has come."""
+        """Reads what has come."""
         try:
             data = self.end.recv(PIECE)
         except BlockingIOError:
@@ -230,7 +230,7 @@ class Server:
         self._wake()
 
     def _is_left_alone(self) -> bool:
-        """Lets nobody come any more, and says whether nobody has come in this moment. Who comes later starts another engine,
+        """Stops listening, unless somebody has come in this moment; whether nobody has. Whoever comes later starts another engine,
         which waits for the end of this one."""
         with _socket_path(self._name) as path:
             os.unlink(path)
@@ -243,7 +243,7 @@ class Server:
         return not self._editors
 
     def _listen(self) -> None:
-        """Puts the note's socket in its place once it listens, so that who finds it is heard."""
+        """Puts the note's socket in its place once it listens, so that whoever finds it is answered."""
         with _socket_path(self._name) as path, _socket_path(f".{os.getpid()}") as fresh:
             with contextlib.suppress(FileNotFoundError):
                 os.unlink(fresh)
@@ -258,7 +258,7 @@ class Server:
         self._selector.register(self._listener, selectors.EVENT_READ)
 
     def _progress(self, done: int, total: int) -> None:
-        """Says how far a long history is read: as the note is opened, and where much comes at once."""
+        """Tells editors how far a long history is read: as the note is opened, and where much comes at once."""
         self._engine.progress(done, total)
         self._send_now()
 
@@ -290,7 +290,7 @@ class Server:
 
     def _wait_for(self, editor: Connection) -> None:
         """Watches whether an editor sends something, or takes something, so that the next turn begins then."""
-        # Who sends more than is done is read later.
+        # What is sent faster than it is done is read later.
         reads = not editor.has_ended and len(editor.lines) < MOST_UNDONE
         wanted = (selectors.EVENT_READ if reads else 0) | (selectors.EVENT_WRITE if editor.out else 0)
         known = self._selector.get_map().get(editor.end.fileno())
@@ -338,7 +338,8 @@ class Server:
 
 
 class Relay:
-    """Hands bytes on between standard input and output and a socket, both ways at once."""
+    """Relays bytes between standard input and output and a socket, both ways at once. It is all that its
+    process does, in one thread."""
 
     def __init__(self, line: socket.socket):
         self._line = line
@@ -347,7 +348,7 @@ class Relay:
         line.setblocking(False)
 
     def run(self) -> None:
-        """Hands on until the engine ends the line."""
+        """Relays until the engine closes the connection."""
         poll = select.poll()
         while not (self._is_over and not self._to_editor):
             for end, wanted in self._wanted():
@@ -382,7 +383,7 @@ class Relay:
                 self._line.shutdown(socket.SHUT_WR)
 
     def _exchange(self, events: int) -> None:
-        """Reads and writes as much as goes."""
+        """Reads from the socket and writes to it, as much as it takes."""
         try:
             if events & select.POLLOUT:
                 del self._to_engine[:self._line.send(self._to_engine[:PIECE])]
@@ -398,6 +399,6 @@ class Relay:
 
 
 def relayed(name: str, opens: OpensSession) -> None:
-    """Is an editor's way to the engine of a note."""
+    """Relays between an editor and the engine of a note."""
     with connected_or_started(name, opens) as line:
         Relay(line).run()

@@ -27,6 +27,7 @@ from share.tests.support import NOTE, Case, type_at_the_end
 from share.tests.terminals import children
 from share.tests.waiting import PATIENCE, wait_for
 from share.text.change import Change
+from share.text.errors import Trouble
 from share.text.rope import Measured
 from share.text.units import UNITS
 
@@ -157,6 +158,18 @@ class Here(Case):
             transformer.send()
         transformer.edit(0, [(0, 0, "y")], 20_000)
         self.assertLess(time.process_time() - begin, 5)
+
+    def test_a_session_whose_text_fails_as_it_is_opened_is_closed_and_opened_anew(self) -> None:
+        engine = Engine("note", lambda: Session(notes.opened("note", None, None)), lambda: None)
+        self.addCleanup(engine.close)
+        sent: list[bytes] = []
+        peer, opening = engine.joined(sent.append, lambda: 0), b'{"do":"open","protocol":1,"units":["utf-8"]}'
+        with mock.patch.object(Session, "text", side_effect=Trouble("It ended.")), mock.patch.object(
+                Session, "close", autospec=True, side_effect=Session.close) as closes:
+            engine.take(peer, [opening])
+        self.assertEqual((json.loads(sent.pop())["words"], engine.session, closes.call_count), ("It ended.", None, 1))
+        engine.take(peer, [opening])
+        self.assertEqual((json.loads(sent.pop())["text"], peer.is_open), ("", True))
 
     def test_doing_again_much_brings_back_what_was_taken_alone(self) -> None:
         (peer, first, _, asked), (_, second, _, _) = self.editors
