@@ -16,7 +16,7 @@ from share.text.line import Line
 SAY_SECONDS, SAY_FACTOR = 0.1, 10
 
 
-class Presence:
+class EditorPresence:
     """What the editors here and those of others say of themselves to each other. The engine's thread alone calls it; what goes out
     and what came is the courier's, whose threads the session keeps apart."""
 

@@ -10,7 +10,7 @@ from share.engine.edits import EditRequests
 from share.engine.formatting import Formatting
 from share.engine.history import History
 from share.engine.others import OtherEditors
-from share.engine.presence import Presence
+from share.engine.presence import EditorPresence
 from share.engine.protocol import Wrong
 from share.engine.shared_text import SharedText
 from share.store import atomic
@@ -29,7 +29,7 @@ class SharedNote:
         self.text = SharedText(session, peers, [others.moved, lambda change, _: self.formatting.moved(change)])
         self.authors = Authors(name, session)
         self.arrivals = Arrivals(name, session, peers, self.text, self.authors)
-        self.presence = Presence(session, peers, self.text, others, self.authors)
+        self.presence = EditorPresence(session, peers, self.text, others, self.authors)
         self.edits = EditRequests(session, self.text, self.arrivals)
         self.by_name = ByName(session, self.text, self.arrivals, self.authors)
         self.history = History(session, self.text, self.authors, wake, answer)
