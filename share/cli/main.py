@@ -179,7 +179,7 @@ def on_screen(given: argparse.Namespace, name: str) -> None:
     if not (sys.stdin.isatty() and sys.stdout.isatty()):
         raise Trouble("The editor needs a terminal. To print a note: bin/note NAME --print.")
     link = link_of(given, name)
-    server.agree(name, links.url_of(given.log) if given.log else None, link)
+    server.agree_with_engine(name, links.url_of(given.log) if given.log else None, link)
     line = server.connected_or_started(name, opener(given, name, link))
     os.environ.setdefault("ESCDELAY", "25")
     try:
@@ -195,7 +195,7 @@ def on_screen(given: argparse.Namespace, name: str) -> None:
 def for_editors(given: argparse.Namespace, name: str) -> None:
     """Hands lines on between an editor and the note's engine, which is started where it isn't there."""
     spelled = secret(given.link_file, "VIALSHOAL_LINK")
-    server.agree(name, links.url_of(given.log) if given.log else None, links.read(spelled) if spelled else None)
+    server.agree_with_engine(name, links.url_of(given.log) if given.log else None, links.read(spelled) if spelled else None)
     server.relayed(name, opener_by_link(given, name))
 
 
@@ -207,7 +207,7 @@ def on_page(given: argparse.Namespace, name: str) -> None:
         raise Trouble(f"The page needs Debian's python3-aiohttp ({why}).") from why
     notes.path_of(name)
     link = link_of(given, name)
-    server.agree(name, links.url_of(given.log) if given.log else None, link)
+    server.agree_with_engine(name, links.url_of(given.log) if given.log else None, link)
     if link:
         os.environ["VIALSHOAL_LINK"] = link.spelled()
     words = [("--log", given.log), ("--password-file", given.password_file)]

@@ -170,7 +170,7 @@ class Scripts:
                 what: str = "changed") -> int:
         """Makes changes of the text, each in the text that those before it leave."""
         spelled = self._secret(given.link_file, "VIALSHOAL_LINK")
-        server.agree(given.name, links.url_of(given.log) if given.log else None, links.read(spelled) if spelled else None)
+        server.agree_with_engine(given.name, links.url_of(given.log) if given.log else None, links.read(spelled) if spelled else None)
         with clients.opened(given.name, self._open(given)) as note:
             changes = changes_of(note.text)
             if changes:
