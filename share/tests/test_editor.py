@@ -19,8 +19,8 @@ from typing import Any
 from share.store import atomic
 from share.editors.terminal.keys import (ESCAPE_SECONDS, LONGEST_PASTE, PASTE_LOST_SECONDS, PASTE_QUIET_SECONDS,
                                          SEQUENCE_SECONDS, Event, Key, Keyboard, Pasted, shown)
-from share.editors.terminal.app import Bar, edit
-from share.sync.session import Status
+from share.editors.terminal.app import edit
+from share.sync.session import Bar, Status
 from share.tests.support import TOP, Case, python, wait_for
 from share.tests.terminals import Terminal
 from share.text.errors import Refused, Trouble
