@@ -11,14 +11,14 @@ from contextlib import suppress
 from share.editors.note import EngineNote
 from share.editors.terminal.edits import Edits
 from share.editors.terminal.keys import Event, Key, Pasted
-from share.editors.terminal.layout import Row, cluster_after, cluster_before, word_after, word_before
+from share.editors.terminal.layout import ScreenRow, cluster_after, cluster_before, word_after, word_before
 from share.editors.terminal.moves import Moves
 from share.editors.terminal.prompts import Prompts
 from share.editors.terminal.saving import Saving
 from share.editors.terminal.screen import Screen
 from share.editors.terminal.status_line import HELP, StatusLine, bar, sentence, state
 from share.editors.terminal.view import View
-from share.editors.terminal.waiting import LOOK_AGAIN_SECONDS, WORK_SECONDS, Left, Waiting
+from share.editors.terminal.waiting import LOOK_AGAIN_SECONDS, WORK_SECONDS, UserLeft, Waiting
 from share.editors.terminal.work import Work
 from share.editors.terminal.worker import Worker
 from share.sync.session import Bar, Status
@@ -67,7 +67,7 @@ class Editor:
     def run(self) -> None:
         """Answers keys and shows what comes, until the user quits, and closes the note."""
         try:
-            with suppress(Left):
+            with suppress(UserLeft):
                 while not (self.quits or self._screen.gone):
                     self._turn()
         finally:
@@ -85,7 +85,7 @@ class Editor:
         for step in steps:
             try:
                 step()
-            except Left:
+            except UserLeft:
                 raise
             except Exception as why:
                 # Whatever it is, the text is here and can be saved.
@@ -176,7 +176,7 @@ class Editor:
         others = [place for place, _ in self._view.others]
         self._screen.draw(rows, self._view.cursor, said, asks, others, self._view.selected())
 
-    def _rows(self) -> list[Row]:
+    def _rows(self) -> list[ScreenRow]:
         try:
             return self._view.visible(note_is_idle=not self._waiting.silent)
         except Exception as why:

@@ -8,8 +8,8 @@ from collections import deque
 from collections.abc import Iterator, Sequence
 from contextlib import contextmanager, suppress
 
-from share.editors.terminal.keys import PASTES_OFF, PASTES_ON, Event, Keyboard, shown
-from share.editors.terminal.layout import Row, rows_of
+from share.editors.terminal.keys import PASTES_OFF, PASTES_ON, Event, Keyboard, safe_for_terminal
+from share.editors.terminal.layout import ScreenRow, rows_of
 
 # What is read of a paste at a time, and in one read.
 MOST_TYPED_AT_ONCE, READ_BYTES = 1 << 18, 1 << 16
@@ -103,7 +103,7 @@ class Screen:
             self.window.clrtoeol()
             self.window.addstr(line, 0, words, look)
 
-    def _mark(self, line: int, row: Row, begin: int, end: int) -> None:
+    def _mark(self, line: int, row: ScreenRow, begin: int, end: int) -> None:
         """Shows a stretch reversed, as far as it is in a row; of its end at least a cell."""
         if begin <= row.end and end > row.begin:
             first, last = row.column(max(begin, row.begin)), row.column(min(end, row.end))
@@ -113,7 +113,7 @@ class Screen:
     def say(self, left: str, right: str = "") -> tuple[int, int]:
         """Draws the status line, with more to the right where there is room, and gives the place after what is
         said. Long words take lines of the text, too."""
-        rows = [cells for _, _, cells in rows_of(shown(left).encode(), self.width - 1)][-self.height:]
+        rows = [cells for _, _, cells in rows_of(safe_for_terminal(left).encode(), self.width - 1)][-self.height:]
         size = 0
         for line, cells in enumerate(rows, self.height + 1 - len(rows)):
             words, size = "".join(seen for _, seen, _ in cells), sum(width for _, _, width in cells)
@@ -122,7 +122,7 @@ class Screen:
             self.put(line, f" {words}{end.rjust(room)}", curses.A_REVERSE)
         return self.height, 1 + size
 
-    def draw(self, rows: list[Row], cursor: int, words: tuple[str, str], asks: bool = False,
+    def draw(self, rows: list[ScreenRow], cursor: int, words: tuple[str, str], asks: bool = False,
              others: Sequence[int] = (), selected: tuple[int, int] | None = None) -> None:
         """Draws rows of a text with others' cursors and what is selected, the status line, and the cursor at its place;
         after a question, where one is asked."""

@@ -1,6 +1,6 @@
 """What is seen of a note."""
 from share.editors.note import EngineNote
-from share.editors.terminal.layout import Layout, Row
+from share.editors.terminal.layout import Layout, ScreenRow
 from share.editors.terminal.screen import Screen
 
 
@@ -45,11 +45,11 @@ class View:
         self._note.anchor = None
         self.look()
 
-    def row(self) -> Row:
+    def row(self) -> ScreenRow:
         """The row of the cursor."""
         return self.layout.row_at(self.cursor)
 
-    def visible(self, note_is_idle: bool) -> list[Row]:
+    def visible(self, note_is_idle: bool) -> list[ScreenRow]:
         """The rows on the screen, which follow the cursor; an idle note is told where they begin."""
         if self.layout.width != self._screen.width:
             self.layout = Layout(self.text, self._screen.width)

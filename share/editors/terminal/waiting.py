@@ -14,7 +14,7 @@ LOOK_AGAIN_SECONDS = 0.5
 WORK_SECONDS, HANGING_SECONDS = 0.05, 1.0
 
 
-class Left(Exception):
+class UserLeft(Exception):
     """The user quits while something hangs."""
 
 
@@ -61,7 +61,7 @@ class Waiting:
                     self._press_meanwhile()
                 if self._desk.quits or self._screen.gone:
                     self.silent_since = begun
-                    raise Left
+                    raise UserLeft
         finally:
             self.silent = 0.0
             self.give_back()

@@ -5,7 +5,7 @@ from concurrent.futures import Future
 from queue import SimpleQueue
 from typing import TypeVar
 
-Done = TypeVar("Done")
+Outcome = TypeVar("Outcome")
 
 
 class Worker:
@@ -15,9 +15,9 @@ class Worker:
         self._jobs: SimpleQueue[Callable[[], None]] = SimpleQueue()
         threading.Thread(target=self._run, daemon=True).start()
 
-    def do(self, work: Callable[[], Done]) -> "Future[Done]":
+    def do(self, work: Callable[[], Outcome]) -> "Future[Outcome]":
         """Queues a piece of work; what it gives or raises comes in the future."""
-        future: Future[Done] = Future()
+        future: Future[Outcome] = Future()
 
         def job() -> None:
             try:
