@@ -152,14 +152,14 @@ def _put_cursor(peer: Peer, changes: list[Change]) -> None:
 def _made(site: Site, changes: list[Change], made: list[list[Message]]) -> int | None:
     """Makes changes at a site, from the last one to the first, and adds the messages of each; the number of a
     refusal."""
-    for edited in _edited(site, changes):
+    for edited in _change_by_change(site, changes):
         made.append(edited.messages)
         if edited.refused is not None:
             return edited.refused
     return None
 
 
-def _edited(site: Site, changes: list[Change]) -> Iterator[Edited]:
+def _change_by_change(site: Site, changes: list[Change]) -> Iterator[Edited]:
     """What becomes of each change as it is made."""
     if len(changes) > 1 and all(one.end - one.begin <= MOST_RANGES for one in changes):
         # None of these stretches can be too scattered for a message.

@@ -37,7 +37,7 @@ OF_A_PIPE = 4_096
 # The most lines of an editor that wait to be done, before no more is read.
 MOST_UNDONE = 1_000
 CREDENTIALS = struct.Struct("iII")
-OpensWithBar = Callable[[Bar, Callable[[], None]], Session]
+ServerOpens = Callable[[Bar, Callable[[], None]], Session]
 
 
 def run_folder() -> pathlib.Path:
@@ -87,7 +87,7 @@ def _silent(name: str) -> Trouble:
     return Trouble(f"The engine of {name} doesn't answer. Look for a process that hangs.")
 
 
-def connected_or_started(name: str, opens: OpensWithBar) -> socket.socket:
+def connected_or_started(name: str, opens: ServerOpens) -> socket.socket:
     """A connection to the engine of a note, which is started where it isn't there."""
     notes.path_of(name)
     folder = run_folder()
@@ -103,7 +103,7 @@ def connected_or_started(name: str, opens: OpensWithBar) -> socket.socket:
     return line
 
 
-def _started(name: str, opens: OpensWithBar) -> int:
+def _started(name: str, opens: ServerOpens) -> int:
     """Starts an engine as a process of its own; the number of that process."""
     if child := os.fork():
         return child
@@ -124,7 +124,7 @@ def _started(name: str, opens: OpensWithBar) -> int:
         os._exit(status)
 
 
-def serve(name: str, opens: OpensWithBar) -> None:
+def serve(name: str, opens: ServerOpens) -> None:
     """Runs the engine of a note until its last editor has left, unless another process does."""
     with _lock(name) as has_lock:
         if has_lock:
@@ -198,7 +198,7 @@ class Server:
     """An engine with its editors' connections. The thread that calls `run` is the engine's; `_wake` may be called by any, and by a
     signal."""
 
-    def __init__(self, name: str, opens: OpensWithBar):
+    def __init__(self, name: str, opens: ServerOpens):
         self._name = name
         self._woken, self._waking = os.pipe()
         os.set_blocking(self._woken, False)
@@ -398,7 +398,7 @@ class Relay:
             self._to_engine.clear()
 
 
-def relayed(name: str, opens: OpensWithBar) -> None:
+def relayed(name: str, opens: ServerOpens) -> None:
     """Relays between an editor and the engine of a note."""
     with connected_or_started(name, opens) as line:
         Relay(line).run()
