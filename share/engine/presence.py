@@ -17,8 +17,8 @@ SAY_SECONDS, SAY_FACTOR = 0.1, 10
 
 
 class EditorPresence:
-    """What the editors here and those of others say of themselves to each other. The engine's thread alone calls it; what goes out
-    and what came is the courier's, whose threads the session keeps apart."""
+    """What the editors here and those of others say of themselves to each other. The engine's thread alone calls it;
+    the session hands what is said to the threads that carry it, and what these heard to this one."""
 
     def __init__(self, session: Session, peers: Sequence[Peer], text: SharedText, others: OtherEditors, authors: Authors):
         self._session, self._peers, self._text, self._others, self._authors = session, peers, text, others, authors
