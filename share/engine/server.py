@@ -30,7 +30,7 @@ START_SECONDS, TRY_SECONDS = 60, 0.01
 # How long an engine waits for its first editor before it ends.
 FIRST_EDITOR_SECONDS = 10
 # The longest time between two turns: where nothing comes, and where editors send without a pause or are to be told something soon.
-IDLE_SECONDS, PRESSED_SECONDS = 0.5, 0.05
+RESTING_SECONDS, PRESSED_SECONDS = 0.5, 0.05
 MOST_FILES = 1_024
 # The most bytes that a pipe which takes something takes without making the writer wait.
 OF_A_PIPE = 4_096
@@ -275,7 +275,7 @@ class Server:
         for editor in self._editors:
             self._wait_for(editor)
         goes_on = self._engine.has_more() or any(editor.lines for editor in self._editors)
-        seconds = 0 if goes_on else PRESSED_SECONDS if self._engine.is_restless() else IDLE_SECONDS
+        seconds = 0 if goes_on else PRESSED_SECONDS if self._engine.is_restless() else RESTING_SECONDS
         for key, events in self._selector.select(seconds):
             if key.fileobj is self._listener:
                 self._accept()
