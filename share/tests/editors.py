@@ -6,9 +6,10 @@ import select
 import subprocess
 import time
 
-from share.editors.mirror import Line, Mirror
+from share.editors.mirror import Mirror
 from share.tests.support import NOTE, Case, engine_of
 from share.tests.waiting import PATIENCE, wait_for
+from share.text.line import Line
 
 
 class Editor:

@@ -10,8 +10,8 @@ from concurrent.futures import ThreadPoolExecutor
 from concurrent.futures import TimeoutError as FutureTimeout
 from unittest import mock
 
-from share.cli.verbs import differences
-from share.editors.mirror import Line, Mirror
+from share.cli.line_changes import line_changes
+from share.editors.mirror import Mirror
 from share.engine import server as serving
 from share.engine.engine import Engine
 from share.engine.transform import Transformer
@@ -28,6 +28,7 @@ from share.tests.terminals import children
 from share.tests.waiting import PATIENCE, wait_for
 from share.text.change import Change
 from share.text.errors import Trouble
+from share.text.line import Line
 from share.text.rope import Measured
 from share.text.units import UNITS
 
@@ -217,7 +218,7 @@ class Here(Case):
         chance, begin = random.Random(1), time.process_time()
         old = "".join(f"{chance.random()}\n\n" for _ in range(2_500))
         new = old.replace("\n\n", " \n\n")
-        found = differences(old, new)
+        found = line_changes(old, new)
         text = old
         for first, last, part in found:
             text = text[:first] + part + text[last:]

@@ -14,7 +14,7 @@ from unittest import mock
 import aiohttp
 
 from share.editors.web import guard
-from share.editors.web.bridge import MOST_MESSAGE, NO_FIELDS, refusal
+from share.editors.web.bridge import MOST_MESSAGE, NO_FIELDS, page_refusal
 from share.editors.web.opening import redirect
 from share.editors.web.server import files
 from share.tests.pages import Server, talking
@@ -77,14 +77,14 @@ class Bridging(unittest.TestCase):
         self.assertEqual(assembler.lines(b"\n"), [4 * piece])
 
     def test_no_request_names_a_file_or_a_link(self) -> None:
-        self.assertIsNone(refusal(b'{"do":"edit","version":0,"edits":1,"changes":[]}'))
+        self.assertIsNone(page_refusal(b'{"do":"edit","version":0,"edits":1,"changes":[]}'))
         for line in (b'{"do":"save","path":"/tmp/x"}', b'{"do":"edit","do":"save"}', b'{"do":"link"}', b'{"do":["save"]}', b"{}"):
-            self.assertEqual(refusal(line)["error"], "unknown", line)
+            self.assertEqual(page_refusal(line)["error"], "unknown", line)
         for name in NO_FIELDS:
-            self.assertEqual(refusal(b'{"do":"on","id":3,"%s":1}' % name.encode())["id"], 3)
+            self.assertEqual(page_refusal(b'{"do":"on","id":3,"%s":1}' % name.encode())["id"], 3)
         for line in (b"", b"[]", b"tea", b'{"do":"\xff"}', b"[" * 100_000):
-            self.assertEqual(refusal(line)["error"], "json", line[:9])
-        self.assertEqual(refusal(None)["error"], "long")
+            self.assertEqual(page_refusal(line)["error"], "json", line[:9])
+        self.assertEqual(page_refusal(None)["error"], "long")
 
 
 class Missing(unittest.TestCase):

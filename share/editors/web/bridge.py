@@ -18,12 +18,12 @@ NO_FIELDS = {"path", "replace", "link", "log", "url"}
 # A page's messages have so many bytes at most, so that who hasn't said the secret can't fill the memory.
 MOST_MESSAGE = 1 << 18
 # What the engine's command says at its end, and how much of that a WebSocket's last words may be.
-MOST_SAID, MOST_REASON = 4_096, 120
+MOST_STDERR, MOST_REASON = 4_096, 120
 # An engine's command that doesn't end by itself is ended after so long.
 END_SECONDS = 5
 
 
-def refusal(data: bytes | None) -> Line | None:
+def page_refusal(data: bytes | None) -> Line | None:
     """What a page is answered whose line isn't handed on; None where it is. None is a line that was too long."""
     try:
         request = parse(data)
@@ -99,7 +99,7 @@ class Bridge:
         assembler = Assembler()
         async for data in messages(self._socket):
             for line in assembler.lines(data):
-                answer = refusal(line)
+                answer = page_refusal(line)
                 if answer is not None:
                     await self._socket.send_str(serialize(answer).decode())
                 elif line is not None:
@@ -115,8 +115,8 @@ class Bridge:
     async def _listen(self) -> None:
         """Keeps what the engine's command says last."""
         assert self._engine.stderr
-        while data := await self._engine.stderr.read(MOST_SAID):
-            self._said = (self._said + data)[-MOST_SAID:]
+        while data := await self._engine.stderr.read(MOST_STDERR):
+            self._said = (self._said + data)[-MOST_STDERR:]
 
 
 async def bridged(socket: web.WebSocketResponse, command: Sequence[str]) -> None:
