@@ -314,8 +314,8 @@ def tells_copies(entry: Entry, known: Mapping[bytes, Entry]) -> bool:
 
 def is_said_anew(entry: Entry, known: Mapping[bytes, Entry]) -> bool:
     """Whether its author says that it was made anew, and doesn't say what stands for what."""
-    return not tells_copies(entry, known) and any(one.kind is Kind.ANEW and (one.site, one.author) == (entry.site, entry.author)
-               and entry.hash in chained_to(one.before, known) for one in known.values())
+    own = [one for one in known.values() if one.kind is Kind.ANEW and (one.site, one.author) == (entry.site, entry.author)]
+    return not tells_copies(entry, known) and any(entry.hash in chained_to(one.before, known) for one in own)
 
 
 def chained_to(of: bytes, known: Mapping[bytes, Entry]) -> set[bytes]:

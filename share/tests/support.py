@@ -24,7 +24,7 @@ from share.store.read_only import found_in, shown
 from share.sync.session import Session, Status
 from share.tests.note import Note
 from share.tests.servers import RedisServer
-from share.tests.waiting import wait_for
+from share.tests.waiting import wait_for as wait_for
 
 TOP = pathlib.Path(__file__).resolve().parents[2]
 NOTE = str(TOP / "bin" / "note")

@@ -153,5 +153,3 @@ class AtVersionsOfBefore(Case):
         wait_for(lambda: are_alike([two]), "all to be sent")
         self.assertIn(bad, raws_of(log))
         log.close()
-
-

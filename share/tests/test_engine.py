@@ -10,6 +10,7 @@ from share.format import presence
 from share.store import nicknames
 from share.tests.editors import Editor, Engines
 from share.tests.support import TOP, wait_for
+from share.text.line import Line
 
 PAGE = TOP / "docs" / "ENGINE.md"
 
@@ -43,7 +44,8 @@ class Sessions(Engines):
             editor.wait_for(lambda: editor.notices("state"), "a state")
             self.assertEqual({*editor.notices("state")[0]} - {"unproved"}, {*wanted})
             return
-        def got() -> dict | None:
+
+        def got() -> Line | None:
             known = [line for line in editor.lines if line.get("notice") not in ("state", "cursors")]
             return known[self.place] if len(known) > self.place else None
         line = editor.wait_for(got, f"{wanted}")
