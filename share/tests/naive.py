@@ -17,7 +17,7 @@ INSERT, DELETE, CHANGE_LOOKS, RESTORE = 1, 2, 3, 4
 
 # A character: the site that inserted it, and its offset in that site's file.
 Name = tuple[int, int]
-Rank = Callable[[Entry], tuple]
+Rank = Callable[[Entry], tuple[bytes, ...]]
 
 
 class Reading(NamedTuple):
@@ -82,7 +82,7 @@ class _Fields:
         assert self.at <= len(self.data)
 
 
-def rank(entry: Entry) -> tuple:
+def rank(entry: Entry) -> tuple[bytes, ...]:
     """The smaller one of two claims, or of two entries of one place, holds. Two claims of one author are told
     apart by their own hashes."""
     if entry.kind is Kind.CLAIM:
