@@ -122,5 +122,3 @@ def _is_replacement(one: object) -> bool:
     begin, end, text = one
     return (type(begin) is int and type(end) is int and isinstance(text, str)
             and max(abs(begin), abs(end)) <= MOST_NUMBER)
-
-

@@ -8,8 +8,8 @@ from collections.abc import Iterator
 from types import ModuleType
 
 from share.editors.terminal import layout
-from share.editors.terminal.layout import (CLUSTER_BYTES, PART_BYTES, Layout, Text, cluster_after, cluster_before, decoded, drawn, word_after,
-                                           word_before)
+from share.editors.terminal.layout import (CLUSTER_BYTES, PART_BYTES, Layout, ScreenRow, Text, cluster_after, cluster_before, decoded,
+                                           drawn, word_after, word_before)
 from share.program.site import MOST_BYTES, split
 from share.tests.support import Case
 from share.text.change import Change, boundary, make
@@ -39,7 +39,8 @@ class Rows(Case):
     def test_rows_have_the_whole_text(self) -> None:
         for text in map(bytearray, self.texts()):
             layout = Layout(text, WIDTH)
-            row, at = layout.row_at(0), 0
+            row: ScreenRow | None = layout.row_at(0)
+            at = 0
             while row:
                 self.assertEqual(row.begin, at)
                 self.assertLessEqual(sum(width for _, _, width in row.cells), WIDTH)
@@ -64,7 +65,6 @@ class Rows(Case):
         layout = Layout(bytearray(b"x" * (10 * PART_BYTES + 1)), WIDTH)
         ends = {layout.row_at(position).end for position in range(1, PART_BYTES + 1)}
         self.assertEqual(max(ends), PART_BYTES + WIDTH)
-
 
     def test_parts_of_a_long_line_begin_at_characters(self) -> None:
         for character in "🇩🇪", "👩\u200d👩\u200d👧", "e\u0301":
