@@ -7,12 +7,12 @@ key and no link comes into it. Any thread may write an event.
 import os
 import time
 from contextlib import suppress
-from enum import Enum, StrEnum, auto
+from enum import Enum, auto
 
 VARIABLE = "VIALSHOAL_TRACE"
 
 
-class Traced(StrEnum):
+class Traced(Enum):
     """What is traced."""
 
     NOTE_OPENED = auto()
@@ -58,7 +58,7 @@ class Trace:
             # A pipe that nobody reads isn't waited for.
             file = os.open(self._path, os.O_WRONLY | os.O_CREAT | os.O_APPEND | os.O_NONBLOCK | os.O_CLOEXEC, 0o600)
             try:
-                os.write(file, f"{time.monotonic():.6f} {os.getpid()} {event}{said}\n".encode())
+                os.write(file, f"{time.monotonic():.6f} {os.getpid()} {event.name.lower()}{said}\n".encode())
             finally:
                 os.close(file)
 

@@ -7,12 +7,13 @@ from contextlib import suppress
 from share.admission.copies import Who
 from share.admission.judge import Counted
 from share.admission.ledger import Row
-from share.format.entry import Copy, Entry, Kind
+from share.format.entry import Entry, Kind
 from share.format.history import Messages
 from share.format.link import is_network
 from share.format.operation import Message
 from share.log.base import open_log
 from share.program import retyping
+from share.program.alike import One
 from share.program.retyping import Lost
 from share.program.site import Edited, Site, Told
 from share.program.trace import Traced, trace
@@ -127,7 +128,7 @@ class Session:
 
     def recover(self) -> list[Lost]:
         """Types again what was left out, and says so of it; what that was."""
-        found, holdings, copies = self.lost(), self._holdings, list[tuple[Copy, Message]]()
+        found, holdings, copies = self.lost(), self._holdings, list[tuple[One, Message]]()
         self._replica.remember()
 
         def work(site: Site) -> Edited:
@@ -140,6 +141,8 @@ class Session:
         if found:
             # Who has a copy has the word of it, too.
             self._edits.make(work, lambda last: retyping.words_of(copies, self._form, self._client.author, last))
+            # Something may stand for what was left out that nobody has said of it yet.
+            self._hider.hide()
         return found
 
     def show(self, shows: dict[bytes, bytes]) -> list[bytes]:

@@ -1,7 +1,7 @@
 """The threads of a replicator: each does its part until all are stopped, and begins again after what ended it."""
 import threading
 from collections.abc import Callable
-from enum import StrEnum
+from enum import Enum, auto
 from typing import NamedTuple
 
 from share.log.base import Log, Lost, Unreachable
@@ -24,13 +24,13 @@ class Ends(NamedTuple):
     log: Callable[[], Log]
 
 
-class Task(StrEnum):
+class Task(Enum):
     """What a thread does."""
 
-    LOOK = "look"
-    GIVE = "give"
-    FETCH = "fetch"
-    SHOW = "show"
+    LOOK = auto()
+    GIVE = auto()
+    FETCH = auto()
+    SHOW = auto()
 
 
 class Threads:

@@ -37,7 +37,7 @@ class Kept:
 
     def events(self) -> list[Traced]:
         """What happened, in order."""
-        return [Traced(line[3]) for line in sorted(self.lines(), key=lambda line: float(line[1]))]
+        return [Traced[line[3].upper()] for line in sorted(self.lines(), key=lambda line: float(line[1]))]
 
     def has(self, *events: Traced) -> bool:
         """Whether these events are there in this order, others between them."""
@@ -84,7 +84,7 @@ class Sharing(Case):
         link = self.person("anna").link()
         words = {word for line in self.kept.lines() for word in re.findall("[a-z]+", line[0])}
         figures = set("entries messages new site log own made shown of others task look give fetch show".split())
-        self.assertLessEqual(words, figures | {word for event in Traced for word in event.split("_")})
+        self.assertLessEqual(words, figures | {word for event in Traced for word in event.name.lower().split("_")})
         text = self.kept.path.read_text()
         for secret in ("recipe", link, link[20:30], server.url, "anna", str(self.folder)):
             self.assertNotIn(secret, text)
