@@ -21,7 +21,7 @@ The hash of an entry is that of all its bytes. So the entries of a site make a c
 says that messages were made anew is in no chain: it names the last entry of those that it speaks of.
 What speaks of copies is in no chain either. It is said by the author of messages or by that of their copies, and has who
 wrote the messages and their site (2 bytes), who wrote the copies and their site, the hash of the last entry that has such
-copies (zeros where that isn't said), and then numbers (as in chunks) three by three: the seq of the first message of a
+copies (zeros where that isn't said), and then varints three by three: the seq of the first message of a
 stretch, that of its copy, and how many they are. What was typed in one go may have come apart and have several copies; 0 in
 place of the copy's seq says that nothing remained of them that had to be made anew. It names the last entry that has such
 messages as the one before it: two histories of one number have the same seqs. With zeros there it speaks of each. Where what
@@ -45,8 +45,8 @@ from functools import lru_cache
 from typing import NamedTuple
 
 from share.format import chunk
-from share.format.chunk import GREATEST_SEQ, UNFOLDED, NoChunk, Run, Writer, number_of, of_message, packed
-from share.format.operation import Message, is_spelled, length_after
+from share.format.chunk import GREATEST_SEQ, UNFOLDED, NoChunk, Packed, varint
+from share.format.operation import NoMessage, Operation
 from share.format.presence import MOST_PRESENCE
 
 HEAD = struct.Struct(">BB16sHIH32s")
@@ -145,9 +145,19 @@ class Entry(NamedTuple):
         return self.spelled if self.kind in CHUNKS else b""
 
     @property
-    def messages(self) -> tuple[Message, ...]:
-        """The messages."""
-        return messages_of(self.kind, self.spelled)
+    def operations(self) -> tuple[Operation, ...]:
+        """The operations, letters typed one after the other in one."""
+        return operations_of(self.kind, self.spelled)
+
+    @property
+    def messages(self) -> tuple[Operation, ...]:
+        """The operations one by one."""
+        return one_by_one(self.kind, self.spelled)
+
+    @property
+    def runs(self) -> tuple[Operation, ...]:
+        """OLD NAME."""
+        return self.operations
 
     @property
     def copied(self) -> Copied:
@@ -157,18 +167,13 @@ class Entry(NamedTuple):
         end = begin + len(NO_HASH)
         if len(self.spelled) < end:
             raise ValueError("cut short")
-        numbers = chunk.numbers_in(self.spelled[end:])
+        numbers = chunk.varints_in(self.spelled[end:])
         stretches = tuple(zip(numbers[::3], numbers[1::3], numbers[2::3]))
         if not numbers or len(numbers) % 3 or not all(map(_is_stretch, stretches)):
             raise ValueError("no stretches")
         site, by = SITE.unpack_from(self.spelled, size)[0], self.spelled[size + SITE.size:begin - SITE.size]
         by_site = SITE.unpack_from(self.spelled, begin - SITE.size)[0]
         return Copied(self.spelled[:size], site, by, by_site, stretches, self.spelled[begin:end])
-
-    @property
-    def runs(self) -> tuple[Run, ...]:
-        """The messages, those in one that are letters typed one after the other."""
-        return runs_of(self.kind, self.spelled)
 
 
 class Author(NamedTuple):
@@ -234,13 +239,10 @@ class Form(ABC):
         """The entry with which an author claims a site's number."""
         return self._made(Kind.CLAIM, site, 0, 0, NO_HASH, author, b"", b"")
 
-    def entry(self, before: Entry, messages: Sequence[Message], author: Author, on: bytes = b"", length: int = 0) -> Entry:
-        """The entry of messages that follow those of an author's entry before it, where the site had so many characters,
-        and of what they build on. They fit one. Those that no chunk has are spelled as versions of before did."""
-        chunk = packed(messages, length)
-        kind = (Kind.CHUNK_BUILDING if on else Kind.CHUNK) if chunk else Kind.BUILDING if on else Kind.MESSAGES
-        return self._made(kind, before.site, messages[0].seq, len(messages), before.hash, author, on,
-                          chunk or body_of(messages))
+    def entry(self, before: Entry, part: Packed, author: Author, on: bytes = b"") -> Entry:
+        """The entry of operations that follow those of an author's entry before it, and of what they build on."""
+        kind = Kind.CHUNK_BUILDING if on else Kind.CHUNK
+        return self._made(kind, before.site, part.operations[0].seq, part.size, before.hash, author, on, part.chunk)
 
     def made_anew(self, last: Entry, author: Author) -> Entry:
         """The entry with which an author says that of his entries up to this one all that doesn't count was made
@@ -250,7 +252,7 @@ class Form(ABC):
     def copies(self, copied: Copied, author: Author, site: int, before: bytes = NO_HASH) -> Entry:
         """The entry with which the author of messages, or that of their copies, says which stand for which. `before` is the
         hash of the last entry that has such messages."""
-        numbers = b"".join(number_of(number) for stretch in copied.stretches for number in stretch)
+        numbers = b"".join(varint(number) for stretch in copied.stretches for number in stretch)
         body = copied.author + SITE.pack(copied.site) + copied.by + SITE.pack(copied.by_site) + copied.last + numbers
         return self._made(Kind.COPIES, site, 0, 0, before, author, b"", body)
 
@@ -349,26 +351,6 @@ def kind_of(number: int) -> Kind:
     return KINDS.get(number, Kind.NEWER)
 
 
-def body_of(messages: Sequence[Message]) -> bytes:
-    """Messages one after the other, each after its length."""
-    return b"".join(LENGTH.pack(len(message.data)) + message.data for message in messages)
-
-
-def in_entries(messages: Sequence[Message], length: int = 0) -> list[list[Message]]:
-    """Messages of a site, which had so many characters before them, in parts that fit an entry each."""
-    parts: list[list[Message]] = []
-    writer = Writer()
-    for message in messages:
-        run = of_message(message)
-        if not parts or not writer.add(run, length):
-            writer = Writer()
-            writer.add(run, length)
-            parts.append([])
-        parts[-1].append(message)
-        length = length_after([message], length)
-    return parts
-
-
 def digest(raw: bytes) -> bytes:
     """The hash of an entry's bytes."""
     return hashlib.blake2b(raw, digest_size=32).digest()
@@ -378,22 +360,22 @@ def _short_digest(data: bytes) -> bytes:
     return hashlib.blake2b(data, digest_size=DIGEST_BYTES).digest()
 
 
-def messages_of(kind: Kind, spelled: bytes) -> tuple[Message, ...]:
-    """The messages of an entry of a kind, as it spells them."""
+def operations_of(kind: Kind, spelled: bytes) -> tuple[Operation, ...]:
+    """The operations of an entry of a kind, as it spells them, letters typed one after the other in one."""
     if kind in CHUNKS:
-        return chunk.messages(spelled)
-    return _messages_of(spelled) if kind in ONE_BY_ONE else ()
+        return chunk.unpacked(spelled)
+    return _read_one_by_one(spelled) if kind in ONE_BY_ONE else ()
 
 
-def runs_of(kind: Kind, spelled: bytes) -> tuple[Run, ...]:
-    """The same, those in one that are letters typed one after the other."""
-    return chunk.runs(spelled) if kind in CHUNKS else tuple(map(of_message, messages_of(kind, spelled)))
+def one_by_one(kind: Kind, spelled: bytes) -> tuple[Operation, ...]:
+    """The same operations one by one."""
+    return chunk.one_by_one(spelled) if kind in CHUNKS else operations_of(kind, spelled)
 
 
 @lru_cache(UNFOLDED)
-def _messages_of(spelled: bytes) -> tuple[Message, ...]:
-    """The messages of an entry of before, which was opened."""
-    return tuple(map(Message.read, _split(spelled)))
+def _read_one_by_one(spelled: bytes) -> tuple[Operation, ...]:
+    """The operations of an entry of an older kind."""
+    return tuple(map(Operation.read, _split(spelled)))
 
 
 def _split(spelled: bytes) -> list[bytes]:
@@ -452,17 +434,21 @@ def check_entry(entry: Entry) -> None:
 def _check_messages(entry: Entry) -> None:
     """Raises Bad where an entry's messages are spelled wrong, or aren't those of its place."""
     try:
-        if entry.kind not in CHUNKS and not all(map(is_spelled, _split(entry.spelled))):
-            raise Bad("has bytes that are no message")
-        runs = entry.runs
+        operations = entry.operations
     except struct.error as why:
         raise Bad("has messages that are cut short") from why
+    except NoMessage as why:
+        raise Bad("has bytes that are no message") from why
     except NoChunk as why:
         raise Bad("has bytes that are no chunk") from why
     seq = entry.first
-    for run in runs:
-        if run.site != entry.site or run.seq != seq:
+    for one in operations:
+        if one.site != entry.site or one.seq != seq:
             raise Bad("has messages of another place")
-        seq += run.size
+        seq += one.size
     if seq != entry.first + entry.size:
         raise Bad("doesn't have as many messages as it says")
+
+
+# OLD NAMES
+messages_of, runs_of, in_entries = one_by_one, operations_of, chunk.packed_in_parts

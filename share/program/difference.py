@@ -12,7 +12,6 @@ from typing import NamedTuple
 
 from share.admission.ledger import Line
 from share.format.history import Messages
-from share.format.operation import inserted
 from share.program.site import Site
 from share.text.change import Change, make
 from share.text.names import Names
@@ -101,7 +100,7 @@ def _in_no_entry(messages: Messages) -> Iterator[Names]:
     """What those messages insert that are in no entry yet."""
     for part in messages.parts():
         if not isinstance(part.holder, Line):
-            yield from filter(None, map(inserted, part.holder.between(part.begin, part.end)))
+            yield from (one.new for one in part.holder.between(part.begin, part.end) if one.new)
 
 
 def _common_end(old: tuple[Line, int], new: tuple[Line, int]) -> float:
@@ -116,4 +115,4 @@ def _common_end(old: tuple[Line, int], new: tuple[Line, int]) -> float:
         else:
             high = middle - 1
     last = min(one.lasts[low - 1] if low else 0, end, other_end)
-    return next((names.at for names in map(inserted, one.between(last, end)) if names), math.inf)
+    return next((each.at for each in one.between(last, end) if each.data), math.inf)

@@ -22,7 +22,7 @@ RUNS_BUILT, BUILDS = TOP / "bin" / "built", TOP / "bin" / "site_cli"
 BUILT_FROM = "built-from"
 NOT_PROVED = "not proved"
 NOTHING_BUILT = "Nothing is built here. Run bin/site_cli < demo/two-sites.script first: it builds the program."
-# A run takes so many lines; then another run has to go on.
+# The most lines that one run reads; then a fresh one takes over.
 MOST_LINES = 2**20
 PIPE = 1 << 20
 F_SETPIPE_SZ = 1031
@@ -132,14 +132,6 @@ class Program:
         parts = [b"%d %s %d" % (self.site, verb.encode(), TEXT)]
         parts += [b"%d" % word if isinstance(word, int) else word for word in words]
         return b" ".join(parts)
-
-    def taking(self, message: bytes) -> bytes:
-        """The event that hands a message in."""
-        return self.event("take", message.hex().encode())
-
-    def unpacking(self, chunk: bytes) -> bytes:
-        """The event that hands a chunk of messages in."""
-        return self.event("unpack", chunk.hex().encode())
 
     def text(self) -> bytes:
         """What the site shows."""

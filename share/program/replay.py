@@ -5,9 +5,8 @@ from collections.abc import Iterable
 from contextlib import suppress
 from typing import NamedTuple, TypeVar
 
-from share.format.chunk import Run
 from share.format.history import Messages
-from share.format.operation import CHANGE_LOOKS, DELETE, INSERT, RESTORE
+from share.format.operation import CHANGE_LOOKS, DELETE, INSERT, RESTORE, Operation
 from share.program.site import Site
 from share.text.change import boundary
 from share.text.errors import Trouble
@@ -97,16 +96,16 @@ class Replays:
 def steps(history: Messages, begin: int, most: int) -> list[Step]:
     """The steps of a history from a message on, so many at most."""
     found: list[Step] = []
-    last: Run | None = None
-    for run in history[begin:].runs():
-        size = len(run.data) or sum(names.length for names in run.mentions)
-        if last and _goes_on(last, run):
-            found[-1] = found[-1]._replace(end=begin + run.size, size=found[-1].size + size)
+    last: Operation | None = None
+    for one in history[begin:].runs():
+        size = len(one.data) or sum(names.length for names in one.mentions)
+        if last and _goes_on(last, one):
+            found[-1] = found[-1]._replace(end=begin + one.size, size=found[-1].size + size)
         elif len(found) == most:
             break
         else:
-            found.append(Step(begin, begin + run.size, run.site, DID[run.kind], size))
-        last, begin = run, begin + run.size
+            found.append(Step(begin, begin + one.size, one.site, DID[one.kind], size))
+        last, begin = one, begin + one.size
     return found
 
 
@@ -115,11 +114,11 @@ def as_line(step: Step) -> dict[str, int]:
     return {"begin": step.begin, "end": step.end, "site": step.site, **dict.fromkeys(DID.values(), 0), step.did: step.size}
 
 
-def _goes_on(last: Run, run: Run) -> bool:
+def _goes_on(last: Operation, one: Operation) -> bool:
     """Whether messages are of the same step as those before them: typing that goes on, or more of the same kind."""
-    if (last.site, last.kind) != (run.site, run.kind):
+    if (last.site, last.kind) != (one.site, one.kind):
         return False
-    return not last.data or [*run.mentions] == [Names(last.site, last.at + len(last.data) - 1, 1)]
+    return not last.data or [*one.mentions] == [Names(last.site, last.at + len(last.data) - 1, 1)]
 
 
 def wrote(site: Site, begin: int, end: int) -> list[Wrote]:

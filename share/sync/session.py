@@ -10,10 +10,11 @@ from typing import TypeVar
 from share.admission import ledger
 from share.admission.judge import Counted
 from share.admission.ledger import Row
-from share.format.entry import Copy, Entry, Kind, in_entries
+from share.format.chunk import packed_in_parts
+from share.format.entry import Copy, Entry, Kind
 from share.format.history import Messages, Part
 from share.format.link import is_network
-from share.format.operation import Message, length_after
+from share.format.operation import Message
 from share.log.base import open_log
 from share.program import retyping
 from share.program.difference import Shown, differences, shown_by
@@ -408,11 +409,10 @@ class Session:
         """Puts messages that the site made into the file, after what is said of them up to their last entry, and has them
         sent."""
         judge, author = self._holdings.judge, self._client.author
-        made, before, length = [], self._last, judge.length(self.number)
-        for part in in_entries(messages, length):
-            before = self._form.entry(before, part, self._client.author, judge.built_on(part), length)
+        made, before = [], self._last
+        for part in packed_in_parts(messages, judge.length(self.number)):
+            before = self._form.entry(before, part, author, judge.built_on(part.operations))
             made.append(before)
-            length = length_after(part, length)
         said = says(before)
 
         def keep() -> int:

@@ -14,7 +14,8 @@ from collections.abc import Callable
 
 from share.admission.judge import Judge, rank
 from share.format import link as links
-from share.format.entry import Form, Kind, Plain, in_entries
+from share.format.chunk import packed_in_parts
+from share.format.entry import Form, Kind, Plain
 from share.log.base import START, Log, open_log
 from share.program.process import Program
 from share.program.site import Edited, Site, Told
@@ -22,6 +23,7 @@ from share.store import notes
 from share.store.note_file import Disk
 from share.store.read_only import found_in, shown
 from share.sync.session import Session, Status
+from share.tests.naive import taking
 from share.tests.note import Note
 from share.tests.servers import RedisServer
 from share.tests.waiting import wait_for
@@ -163,8 +165,8 @@ class Carried:
         return self._kept(work(self.site))
 
     def _kept(self, edited: Edited) -> Edited:
-        for part in in_entries(edited.messages):
-            self.made.append(self.form.entry(self.made[-1], part, self.author, self.judge.built_on(part)))
+        for part in packed_in_parts(edited.messages):
+            self.made.append(self.form.entry(self.made[-1], part, self.author, self.judge.built_on(part.operations)))
             self.judge.add(self.made[-1])
         own = self.judge.count().messages
         assert own == edited.messages, (own, edited)
@@ -305,7 +307,7 @@ def plain_text(messages) -> bytes:
     """What a plain site shows that takes in messages as they come."""
     program = Program(65_000)
     try:
-        program.ask([program.taking(message.data) for message in messages])
+        program.ask([taking(program, message) for message in messages])
         return program.text()
     finally:
         program.close()

@@ -1,7 +1,6 @@
 """Sites that share a note show the same, however their entries come."""
 import random
 
-from share.format.operation import inserted
 from share.tests.support import Case, Pair, edit_at_random, plain_text
 from share.text.change import change
 
@@ -43,8 +42,7 @@ class SameText(Pair):
             self.assertEqual(bytes(note.text), text)
             self.assertEqual(note.session.status().waiting, 0)
         for message in counted:
-            if names := inserted(message):
-                message.data[-names.length:].decode()
+            message.data.decode()
 
 
 class TakingBack(Pair):
