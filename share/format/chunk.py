@@ -4,11 +4,11 @@ that byte alone.
 docs/FORMATS.md has them byte by byte. A list of operations has one spelling as a chunk, and what is spelled otherwise is none.
 """
 import re
-import threading
 from collections.abc import Iterable, Iterator, Sequence
 from functools import lru_cache
 from typing import NamedTuple
 
+from share.format.latest import Latest
 from share.format.operation import (CHANGE_LOOKS, DELETE, GREATEST_STAMP, INSERT, MOST_INSERTED, MOST_OF_A_SITE, MOST_RANGES,
                                     PLAIN_LOOKS, RESTORE, TEXT, Operation, is_font, length_after)
 from share.text.looks import MOST_COLOUR
@@ -55,29 +55,8 @@ class Packed(NamedTuple):
         return sum(one.size for one in self.operations)
 
 
-class _Latest:
-    """The operations of the chunks that were packed or unpacked last: of those since it was last full, and of those before."""
-
-    def __init__(self) -> None:
-        self._before: dict[bytes, tuple[Operation, ...]] = {}
-        self._now: dict[bytes, tuple[Operation, ...]] = {}
-        # Entries are opened by several threads.
-        self._bytes, self._putting = 0, threading.Lock()
-
-    def get(self, chunk: bytes) -> tuple[Operation, ...] | None:
-        """The operations of a chunk, where they are kept."""
-        return self._now.get(chunk) or self._before.get(chunk)
-
-    def put(self, chunk: bytes, found: tuple[Operation, ...]) -> None:
-        """Keeps the operations of a chunk."""
-        with self._putting:
-            self._bytes += len(chunk)
-            if self._bytes > MOST_KEPT:
-                self._before, self._now, self._bytes = self._now, {}, len(chunk)
-            self._now[chunk] = found
-
-
-_latest = _Latest()
+# The operations of the chunks that were packed or unpacked last.
+_latest = Latest[tuple[Operation, ...]](MOST_KEPT)
 
 
 def unpacked(chunk: bytes) -> tuple[Operation, ...]:

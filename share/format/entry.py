@@ -46,6 +46,7 @@ from typing import NamedTuple
 
 from share.format import chunk
 from share.format.chunk import GREATEST_SEQ, UNFOLDED, NoChunk, Packed, varint
+from share.format.latest import Latest
 from share.format.operation import NoMessage, Operation
 from share.format.presence import MOST_PRESENCE
 
@@ -83,8 +84,11 @@ CHUNKS, ONE_BY_ONE = (Kind.CHUNK, Kind.CHUNK_BUILDING), (Kind.MESSAGES, Kind.BUI
 # the number.
 SAY_WHAT_BECAME = (Kind.ANEW, Kind.COPIES, Kind.RENEWED)
 NOT_UNDER_A_NUMBER = (Kind.CLAIM, *SAY_WHAT_BECAME)
-# What is said of a renewed note has so many bytes at most.
+# The most bytes that are said of a renewed note.
 MOST_SAID = 200
+# The hashes of the entries that were made, or came, last: of this many bytes of them.
+MOST_HASHED = 2**19
+_hashes = Latest[bytes](MOST_HASHED)
 
 
 class Copy(NamedTuple):
@@ -352,7 +356,16 @@ def kind_of(number: int) -> Kind:
 
 
 def digest(raw: bytes) -> bytes:
-    """The hash of an entry's bytes."""
+    """The hash of an entry's bytes. They come again, from the note's file and from the log, and aren't hashed again then."""
+    found = _hashes.get(raw)
+    if found is None:
+        found = _hashed(raw)
+        if len(raw) <= MOST_BYTES:
+            _hashes.put(raw, found)
+    return found
+
+
+def _hashed(raw: bytes) -> bytes:
     return hashlib.blake2b(raw, digest_size=32).digest()
 
 

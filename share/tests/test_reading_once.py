@@ -9,6 +9,7 @@ from share.admission.judge import Judge
 from share.editors.mirror import Mirror
 from share.engine.engine import Engine
 from share.format import chunk as chunks
+from share.format import entry as entries
 from share.format import link as links
 from share.format.chunk import unpacked
 from share.format.entry import Author, Entry, Kind, Plain
@@ -28,10 +29,11 @@ FORM = Plain(bytes(range(16)))
 
 
 class Counts:
-    """How often messages are read, and chunks packed and unpacked; and what the program was handed of them, in its events' order."""
+    """How often messages are read, chunks packed and unpacked, and entries hashed; and what the program was handed of them, in its
+    events' order."""
 
     def __init__(self) -> None:
-        self.read = self.packed = self.unpacked = 0
+        self.read = self.packed = self.unpacked = self.hashed = 0
         self.events: list[bytes] = []
 
     @contextlib.contextmanager
@@ -50,7 +52,8 @@ class Counts:
             return ask(program, events)
 
         with (mock.patch.object(Operation, "read", count("read", read)), mock.patch.object(chunks.Writer, "add", count("packed", add)),
-              mock.patch.object(chunks, "_typed", count("unpacked", typed)), mock.patch.object(Program, "ask", asked)):
+              mock.patch.object(chunks, "_typed", count("unpacked", typed)), mock.patch.object(Program, "ask", asked),
+              mock.patch.object(entries, "_hashed", count("hashed", entries._hashed))):
             yield self
 
     def verbs(self) -> list[bytes]:
@@ -108,7 +111,7 @@ class Letters(Engines):
                 author.until(author.is_sent, "the letter to be sent")
                 for _ in range(20):
                     author.turn()
-            self.assertEqual((counts.read, counts.packed, counts.unpacked), (1, 1, 0))
+            self.assertEqual((counts.read, counts.packed, counts.unpacked, counts.hashed), (1, 1, 0, 1))
             self.assertEqual(counts.events, [])
 
     def test_who_gets_it_unpacks_it_once(self) -> None:
@@ -125,7 +128,7 @@ class Letters(Engines):
                 receiver.until(lambda: receiver.mirror.text == author.text, "the letter")
                 for _ in range(20):
                     receiver.turn()
-            self.assertEqual((counts.read, counts.packed, counts.unpacked), (0, 0, 1))
+            self.assertEqual((counts.read, counts.packed, counts.unpacked, counts.hashed), (0, 0, 1, 1))
             self.assertEqual(counts.verbs(), [b"unpack", b"where"])
 
 
