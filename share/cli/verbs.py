@@ -20,7 +20,7 @@ from share.format.history import Messages
 from share.format.operation import INSERT, typed
 from share.program import replay, retyping
 from share.program.process import make_ready
-from share.program.replay import Replays, Step, Wrote
+from share.program.replay import Replays, HistoryStep, Wrote
 from share.program.site import Site
 from share.store import atomic, contents, nicknames, notes, read_only
 from share.store.contents import Counted
@@ -278,7 +278,7 @@ def _listed(name: str, path: pathlib.Path) -> Line:
     return line | {"open": bool(running), "log": about.url, "sealed": about.sealed}
 
 
-def _typed(messages: Messages, step: Step) -> str:
+def _typed(messages: Messages, step: HistoryStep) -> str:
     """What a step typed."""
     data = b"".join(typed(one) for one in messages[step.begin:step.end] if one.kind == INSERT)
     return as_text(swapped(data))

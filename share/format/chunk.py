@@ -15,15 +15,15 @@ from share.text.looks import MOST_COLOUR
 from share.text.names import Names
 
 # What a chunk begins with: its tag and its text.
-BEGIN = b"OTC1" + TEXT.to_bytes(2, "big")
+CHUNK_BEGIN = b"OTC1" + TEXT.to_bytes(2, "big")
 MOST_CHUNK = 16_000
-GREATEST_SEQ, GREATEST_SITE = 2**32 - 1, 2**16 - 1
+GREATEST_SEQ, GREATEST_SITE_FIELD = 2**32 - 1, 2**16 - 1
 # What isn't as expected.
-OTHER_SITE, LATER, NEW_LOOKS, NEAR, FAR = 1, 2, 3, 4, 5
+OTHER_SITE, LATER_STAMP, NEW_LOOKS, NEAR_CARET, FAR_FROM_CARET = 1, 2, 3, 4, 5
 # What a message does.
-LONG, SET, ONE, CHANGED, RESTORED, CODE, SITE = 6, 7, 8, 0x0B, 0x0C, 0x0E, 0x0F
-CODES = frozenset([*range(OTHER_SITE, ONE + 1), CHANGED, RESTORED, CODE, SITE])
-LETTERS, CODED = re.compile(rb"[^\x01-\x08\x0b\x0c\x0e\x0f]+"), re.compile(rb"[\x01-\x08\x0b\x0c\x0e\x0f]")
+LONG, SET, ONE, CHANGED, RESTORED, ESCAPE, NEW_SITE = 6, 7, 8, 0x0B, 0x0C, 0x0E, 0x0F
+CODES = frozenset([*range(OTHER_SITE, ONE + 1), CHANGED, RESTORED, ESCAPE, NEW_SITE])
+PLAIN_LETTERS, CODED = re.compile(rb"[^\x01-\x08\x0b\x0c\x0e\x0f]+"), re.compile(rb"[\x01-\x08\x0b\x0c\x0e\x0f]")
 # No field has a varint of more bytes.
 LONGEST_VARINT = 7
 LEAST_RANGE = 3
@@ -33,10 +33,11 @@ UNFOLDED, MOST_KEPT = 16, 2**17
 # A varint (LEB128) in its one spelling; and a chunk of nothing but letters that were typed one after the other, in plain looks.
 VARINT = rb"([\x00-\x7f]|[\x80-\xff]{1,6}[\x01-\x7f])"
 VARINTS = re.compile(VARINT + b"*")
-TYPED = re.compile(BEGIN + bytes([SITE]) + 4 * VARINT + b"(?:" + bytes([FAR]) + 2 * VARINT + b")?(" + LETTERS.pattern + rb")\Z")
+TYPED = re.compile(CHUNK_BEGIN + bytes([NEW_SITE]) + 4 * VARINT + b"(?:" + bytes([FAR_FROM_CARET]) + 2 * VARINT + b")?("
+                   + PLAIN_LETTERS.pattern + rb")\Z")
 
 # A character, or the root where it is None.
-Place = tuple[int, int] | None
+Cause = tuple[int, int] | None
 
 
 class NoChunk(ValueError):
@@ -63,7 +64,7 @@ def unpacked(chunk: bytes) -> tuple[Operation, ...]:
     """The operations of a chunk of one site, letters typed one after the other in one; raises NoChunk where it is none."""
     found = _latest.get(chunk)
     if found is None:
-        found = _typed(chunk) or tuple(_Reader(chunk).operations())
+        found = _keystrokes_in(chunk) or tuple(_ChunkReader(chunk).operations())
         _latest.put(chunk, found)
     return found
 
@@ -108,7 +109,7 @@ def _types_on(one: Operation, last: Operation) -> bool:
             and one.looks == last.looks and one.stamp == last.stamp + last.size and [*one.mentions] == [Names(one.site, one.at - 1, 1)])
 
 
-def _typed(chunk: bytes) -> tuple[Operation] | None:
+def _keystrokes_in(chunk: bytes) -> tuple[Operation] | None:
     """The operations of a chunk that has letters alone, typed one after the other in the looks of the default: what a keystroke
     is. None where it has something else, or isn't right."""
     found = TYPED.match(chunk)
@@ -117,13 +118,13 @@ def _typed(chunk: bytes) -> tuple[Operation] | None:
     *numbers, data = found.groups(b"\0")
     site, seq, stamp, at, of, cause = [one[0] if len(one) == 1 else _number_in(one) for one in numbers]
     size = len(data)
-    if not (1 <= site <= GREATEST_SITE and 1 <= seq and seq + size - 1 <= GREATEST_SEQ and 1 <= stamp
+    if not (1 <= site <= GREATEST_SITE_FIELD and 1 <= seq and seq + size - 1 <= GREATEST_SEQ and 1 <= stamp
             and stamp + size - 1 <= GREATEST_STAMP and at + size <= MOST_OF_A_SITE):
         return None
     if not of:
         return None if found[5] else (Operation(INSERT, site, seq, stamp, size, (), at, data, PLAIN_LOOKS),)
     place = Names(of, cause, 1)
-    if not (1 <= place.site <= GREATEST_SITE and place.at < (at if place.site == site else MOST_OF_A_SITE)):
+    if not (1 <= place.site <= GREATEST_SITE_FIELD and place.at < (at if place.site == site else MOST_OF_A_SITE)):
         return None
     return (Operation(INSERT, site, seq, stamp, size, (place,), at, data, PLAIN_LOOKS),)
 
@@ -137,7 +138,7 @@ def _number_in(spelled: bytes) -> int:
 
 
 @lru_cache(UNFOLDED)
-def one_by_one(chunk: bytes) -> tuple[Operation, ...]:
+def unpacked_one_by_one(chunk: bytes) -> tuple[Operation, ...]:
     """The operations of a chunk one by one."""
     return tuple(one for row in unpacked(chunk) for one in row.each())
 
@@ -148,7 +149,7 @@ class _Expected:
     def __init__(self, site: int, seq: int, stamp: int, at: int):
         self.site, self.seq, self.stamp, self.at = site, seq, stamp, at
         self.looks: bytes = PLAIN_LOOKS
-        self.caret: Place = None
+        self.caret: Cause = None
 
     def inserted(self, count: int, size: int) -> None:
         """Operations were insertions, of characters whose number is given in all."""
@@ -166,7 +167,7 @@ class Writer:
     """A chunk that is being written, also of several sites."""
 
     def __init__(self) -> None:
-        self.data = bytearray(BEGIN)
+        self.data = bytearray(CHUNK_BEGIN)
         self._sites: dict[int, _Expected] = {}
         self._last = 0
 
@@ -178,15 +179,15 @@ class Writer:
         if one is None:
             at = operation.at if operation.kind == INSERT else length
             one = _Expected(operation.site, operation.seq, operation.stamp, at)
-            lead = b"".join([bytes([SITE]), *map(varint, (operation.site, operation.seq, operation.stamp, at))])
+            lead = b"".join([bytes([NEW_SITE]), *map(varint, (operation.site, operation.seq, operation.stamp, at))])
         more = operation.stamp - one.stamp
         if operation.seq != one.seq or more < 0 or operation.kind == INSERT and operation.at != one.at:
             return False
         if not lead and operation.site != self._last:
             lead = bytes([OTHER_SITE]) + varint(operation.site) + varint(more)
         elif more:
-            lead = bytes([LATER]) + varint(more)
-        spelled = lead + _spelled(operation, one)
+            lead = bytes([LATER_STAMP]) + varint(more)
+        spelled = lead + _spelled_operation(operation, one)
         if len(self.data) + len(spelled) > MOST_CHUNK:
             return False
         self.data += spelled
@@ -244,28 +245,28 @@ def _from_zigzag(number: int) -> int:
     return number // 2 if number % 2 == 0 else -(number // 2) - 1
 
 
-def _spelled(operation: Operation, one: _Expected) -> bytes:
+def _spelled_operation(operation: Operation, one: _Expected) -> bytes:
     """What an operation of its site does, where this is expected."""
     if operation.kind == INSERT:
         looks = b"" if operation.looks == one.looks else bytes([NEW_LOOKS]) + operation.looks
-        return looks + _place(operation.mentions[0][:2] if operation.mentions else None, one.caret) + _bytes(operation)
+        return looks + _spelled_cause(operation.mentions[0][:2] if operation.mentions else None, one.caret) + _bytes(operation)
     if operation.kind == CHANGE_LOOKS:
         return bytes([CHANGED]) + operation.looks + _set(operation.mentions)
     if operation.kind == RESTORE:
         return bytes([RESTORED]) + _set(operation.mentions)
     if len(operation.mentions) == 1 and operation.mentions[0].length == 1:
-        return _place(operation.mentions[0][:2], one.caret) + bytes([ONE])
+        return _spelled_cause(operation.mentions[0][:2], one.caret) + bytes([ONE])
     return bytes([SET]) + _set(operation.mentions)
 
 
-def _place(place: Place, caret: Place) -> bytes:
+def _spelled_cause(place: Cause, caret: Cause) -> bytes:
     if place == caret:
         return b""
     if place is None:
-        return bytes([FAR, 0])
+        return bytes([FAR_FROM_CARET, 0])
     if caret is None or caret[0] != place[0]:
-        return bytes([FAR]) + varint(place[0]) + varint(place[1])
-    return bytes([NEAR]) + varint(_zigzag(place[1] - caret[1]))
+        return bytes([FAR_FROM_CARET]) + varint(place[0]) + varint(place[1])
+    return bytes([NEAR_CARET]) + varint(_zigzag(place[1] - caret[1]))
 
 
 def _bytes(operation: Operation) -> bytes:
@@ -284,12 +285,12 @@ def _set(ranges: Sequence[Names]) -> bytes:
     return bytes(spelled)
 
 
-class _Reader:
+class _ChunkReader:
     """Reads a chunk of one site from the front."""
 
     def __init__(self, chunk: bytes):
-        self._data, self._at = chunk, len(BEGIN) + 1
-        if not chunk.startswith(BEGIN) or len(chunk) > MOST_CHUNK or chunk[len(BEGIN):self._at] != bytes([SITE]):
+        self._data, self._at = chunk, len(CHUNK_BEGIN) + 1
+        if not chunk.startswith(CHUNK_BEGIN) or len(chunk) > MOST_CHUNK or chunk[len(CHUNK_BEGIN):self._at] != bytes([NEW_SITE]):
             raise NoChunk
         self._one = _Expected(self._number(), self._number(), self._number(), self._number())
         if not self._one.site:
@@ -299,7 +300,7 @@ class _Reader:
         """The operations, letters typed one after the other in one."""
         is_first = True
         while is_first or self._at < len(self._data):
-            if self._passes(LATER):
+            if self._passes(LATER_STAMP):
                 more = self._number()
                 if is_first or not more:
                     raise NoChunk
@@ -309,21 +310,21 @@ class _Reader:
             one = self._one
             # It has its last numbers now, one below those of the next.
             if not (1 <= operation.seq and one.seq - 1 <= GREATEST_SEQ and 1 <= operation.stamp and one.stamp - 1 <= GREATEST_STAMP
-                    and one.site <= GREATEST_SITE and one.at <= MOST_OF_A_SITE):
+                    and one.site <= GREATEST_SITE_FIELD and one.at <= MOST_OF_A_SITE):
                 raise NoChunk
             yield operation
 
     def _operation(self) -> Operation:
         one, code, is_expected = self._one, self._byte(), True
         looks, place = one.looks, one.caret
-        if code <= FAR:
+        if code <= FAR_FROM_CARET:
             is_expected = False
             if code == NEW_LOOKS:
                 looks, code = self._values(7), self._byte()
                 if looks == one.looks:
                     raise NoChunk
-            if code in (NEAR, FAR):
-                place, code = self._near() if code == NEAR else self._far(), self._byte()
+            if code in (NEAR_CARET, FAR_FROM_CARET):
+                place, code = self._near() if code == NEAR_CARET else self._far(), self._byte()
         if code in (CHANGED, RESTORED, SET):
             if not is_expected:
                 raise NoChunk
@@ -334,9 +335,9 @@ class _Reader:
             return self._done(DELETE, b"", (Names(*place, 1),))
         return self._insertion(code, place, looks)
 
-    def _insertion(self, code: int, place: Place, looks: bytes) -> Operation:
+    def _insertion(self, code: int, place: Cause, looks: bytes) -> Operation:
         one = self._one
-        if place and not (1 <= place[0] <= GREATEST_SITE and 0 <= place[1] < MOST_OF_A_SITE
+        if place and not (1 <= place[0] <= GREATEST_SITE_FIELD and 0 <= place[1] < MOST_OF_A_SITE
                           and (place[0] != one.site or place[1] < one.at)):
             raise NoChunk
         count, data = 1, self._take(self._number() + 2) if code == LONG else self._letters(code)
@@ -354,11 +355,11 @@ class _Reader:
         """A letter, and those that were typed after it."""
         found = bytearray([code] if code not in CODES else self._coded(code))
         while self._at < len(self._data):
-            if more := LETTERS.match(self._data, self._at):
+            if more := PLAIN_LETTERS.match(self._data, self._at):
                 found += more[0]
                 self._at = more.end()
-            elif self._passes(CODE):
-                found += self._coded(CODE)
+            elif self._passes(ESCAPE):
+                found += self._coded(ESCAPE)
             else:
                 break
         return bytes(found)
@@ -366,7 +367,7 @@ class _Reader:
     def _coded(self, code: int) -> bytes:
         """A letter that is spelled after a code, since it is one."""
         letter = self._take(1)
-        if code != CODE or letter[0] not in CODES:
+        if code != ESCAPE or letter[0] not in CODES:
             raise NoChunk
         return letter
 
@@ -382,7 +383,7 @@ class _Reader:
 
     def _done(self, kind: int, looks: bytes, ranges: tuple[Names, ...]) -> Operation:
         for one in ranges:
-            if not (1 <= one.site <= GREATEST_SITE and one.at >= 0 and one.at + one.length <= MOST_OF_A_SITE):
+            if not (1 <= one.site <= GREATEST_SITE_FIELD and one.at >= 0 and one.at + one.length <= MOST_OF_A_SITE):
                 raise NoChunk
         operation = Operation(kind, self._one.site, self._one.seq, self._one.stamp, 1, ranges, looks=looks)
         self._one.did(kind, ranges[0])
@@ -413,13 +414,13 @@ class _Reader:
             self._byte()
         return self._data[begin:self._at]
 
-    def _near(self) -> Place:
+    def _near(self) -> Cause:
         number, caret = self._number(), self._one.caret
         if caret is None or not number:
             raise NoChunk
         return caret[0], caret[1] + _from_zigzag(number)
 
-    def _far(self) -> Place:
+    def _far(self) -> Cause:
         site, caret = self._number(), self._one.caret
         if site == (caret[0] if caret else 0):
             raise NoChunk

@@ -9,7 +9,7 @@ All numbers are big-endian. An entry has this head:
     note      16     the note's identity
     site      2      1 to 65,528
     first     4      the seq of its first message; 0 without messages
-    count     2      how many messages
+    count     2      the number of its messages
     before    32     the hash of this site's entry before it; zeros in a claim
     author    16/32  who claims or writes: 128 random bits where plain, an Ed25519 public key where sealed
 
@@ -22,7 +22,7 @@ says that messages were made anew is in no chain: it names the last entry of tho
 What speaks of copies is in no chain either. It is said by the author of messages or by that of their copies, and has who
 wrote the messages and their site (2 bytes), who wrote the copies and their site, the hash of the last entry that has such
 copies (zeros where that isn't said), and then varints three by three: the seq of the first message of a
-stretch, that of its copy, and how many they are. What was typed in one go may have come apart and have several copies; 0 in
+stretch, that of its copy, and their number. What was typed in one go may have come apart and have several copies; 0 in
 place of the copy's seq says that nothing remained of them that had to be made anew. It names the last entry that has such
 messages as the one before it: two histories of one number have the same seqs. With zeros there it speaks of each. Where what
 stands for a message is a deletion it was made to hide that, which is a copy itself.
@@ -52,8 +52,8 @@ from share.format.presence import MOST_PRESENCE
 
 HEAD = struct.Struct(">BB16sHIH32s")
 LENGTH = struct.Struct(">H")
-SITE = struct.Struct(">H")
-# An entry has so many bytes at most.
+SITE_FIELD = struct.Struct(">H")
+# The most bytes of an entry.
 MOST_BYTES = 16_384
 NOTE_BYTES = 16
 NO_HASH = bytes(32)
@@ -85,7 +85,7 @@ CHUNKS, ONE_BY_ONE = (Kind.CHUNK, Kind.CHUNK_BUILDING), (Kind.MESSAGES, Kind.BUI
 SAY_WHAT_BECAME = (Kind.ANEW, Kind.COPIES, Kind.RENEWED)
 NOT_UNDER_A_NUMBER = (Kind.CLAIM, *SAY_WHAT_BECAME)
 # The most bytes that are said of a renewed note.
-MOST_SAID = 200
+LONGEST_SAID = 200
 # The hashes of the entries that were made, or came, last: of this many bytes of them.
 MOST_HASHED = 2**19
 _hashes = Latest[bytes](MOST_HASHED)
@@ -101,7 +101,7 @@ class Copy(NamedTuple):
 
 class Copied(NamedTuple):
     """What an entry says of copies: whose messages they stand for, whose they are, stretches of both: where each begins,
-    and how many messages it has; and the hash of the last entry of the copies."""
+    and the number of its messages; and the hash of the last entry of the copies."""
 
     author: bytes
     site: int
@@ -122,7 +122,7 @@ class Entry(NamedTuple):
     kind: Kind
     site: int
     first: int
-    # How many messages there are.
+    # The number of operations.
     size: int
     before: bytes
     author: bytes
@@ -156,7 +156,7 @@ class Entry(NamedTuple):
     @property
     def messages(self) -> tuple[Operation, ...]:
         """The operations one by one."""
-        return one_by_one(self.kind, self.spelled)
+        return operations_one_by_one(self.kind, self.spelled)
 
     @property
     def runs(self) -> tuple[Operation, ...]:
@@ -167,7 +167,7 @@ class Entry(NamedTuple):
     def copied(self) -> Copied:
         """What an entry of copies says; ValueError where it isn't spelled rightly."""
         size = len(self.author)
-        begin = 2 * (size + SITE.size)
+        begin = 2 * (size + SITE_FIELD.size)
         end = begin + len(NO_HASH)
         if len(self.spelled) < end:
             raise ValueError("cut short")
@@ -175,8 +175,8 @@ class Entry(NamedTuple):
         stretches = tuple(zip(numbers[::3], numbers[1::3], numbers[2::3]))
         if not numbers or len(numbers) % 3 or not all(map(_is_stretch, stretches)):
             raise ValueError("no stretches")
-        site, by = SITE.unpack_from(self.spelled, size)[0], self.spelled[size + SITE.size:begin - SITE.size]
-        by_site = SITE.unpack_from(self.spelled, begin - SITE.size)[0]
+        site, by = SITE_FIELD.unpack_from(self.spelled, size)[0], self.spelled[size + SITE_FIELD.size:begin - SITE_FIELD.size]
+        by_site = SITE_FIELD.unpack_from(self.spelled, begin - SITE_FIELD.size)[0]
         return Copied(self.spelled[:size], site, by, by_site, stretches, self.spelled[begin:end])
 
 
@@ -193,7 +193,7 @@ class Form(ABC):
 
     number: int
     author_bytes: int
-    # How many of an entry's last bytes can't be computed from the others.
+    # The number of an entry's last bytes that can't be computed from the others.
     tail_bytes: int
 
     def __init__(self, note: bytes):
@@ -257,12 +257,12 @@ class Form(ABC):
         """The entry with which the author of messages, or that of their copies, says which stand for which. `before` is the
         hash of the last entry that has such messages."""
         numbers = b"".join(varint(number) for stretch in copied.stretches for number in stretch)
-        body = copied.author + SITE.pack(copied.site) + copied.by + SITE.pack(copied.by_site) + copied.last + numbers
+        body = copied.author + SITE_FIELD.pack(copied.site) + copied.by + SITE_FIELD.pack(copied.by_site) + copied.last + numbers
         return self._made(Kind.COPIES, site, 0, 0, before, author, b"", body)
 
     def renewed(self, name: str, site: int, author: Author) -> Entry:
         """The entry by which an author of this name says that the note goes on under a new key."""
-        said = name.encode("utf-8", "ignore")[:MOST_SAID].decode("utf-8", "ignore").encode()
+        said = name.encode("utf-8", "ignore")[:LONGEST_SAID].decode("utf-8", "ignore").encode()
         return self._made(Kind.RENEWED, site, 0, 0, NO_HASH, author, b"", said)
 
     def open(self, raw: bytes) -> Entry:
@@ -380,9 +380,9 @@ def operations_of(kind: Kind, spelled: bytes) -> tuple[Operation, ...]:
     return _read_one_by_one(spelled) if kind in ONE_BY_ONE else ()
 
 
-def one_by_one(kind: Kind, spelled: bytes) -> tuple[Operation, ...]:
+def operations_one_by_one(kind: Kind, spelled: bytes) -> tuple[Operation, ...]:
     """The same operations one by one."""
-    return chunk.one_by_one(spelled) if kind in CHUNKS else operations_of(kind, spelled)
+    return chunk.unpacked_one_by_one(spelled) if kind in CHUNKS else operations_of(kind, spelled)
 
 
 @lru_cache(UNFOLDED)
@@ -436,7 +436,7 @@ def check_entry(entry: Entry) -> None:
     elif entry.kind is Kind.COPIES:
         _check_copies(entry)
     elif entry.kind is Kind.RENEWED:
-        if entry.first or entry.size or entry.before != NO_HASH or len(entry.spelled) > MOST_SAID:
+        if entry.first or entry.size or entry.before != NO_HASH or len(entry.spelled) > LONGEST_SAID:
             raise Bad("says of a renewed note what can't be")
     elif not entry.size or entry.before == NO_HASH:
         raise Bad("has no messages, or nothing before it")
@@ -464,4 +464,4 @@ def _check_messages(entry: Entry) -> None:
 
 
 # OLD NAMES
-messages_of, runs_of, in_entries = one_by_one, operations_of, chunk.packed_in_parts
+messages_of, runs_of, in_entries = operations_one_by_one, operations_of, chunk.packed_in_parts

@@ -9,7 +9,7 @@ from typing import NamedTuple, Protocol, overload
 from share.format.chunk import Writer, unpacked
 from share.format.operation import Operation
 
-# A chunk of fewer operations is handed in with others where there are many, since one run of the program reads only so many lines.
+# A chunk of fewer operations is handed in with others where there are many, since a run of the program reads no more than 2^20 lines.
 FEW = 16
 
 
@@ -50,7 +50,7 @@ class Messages(Sequence[Operation]):
     """Operations in a row."""
 
     def __init__(self, operations: Iterable[Operation] = (), parts: Iterable[Part] = ()):
-        # Who has the operations of each part, where they begin there, and how many there are up to its end.
+        # Who has the operations of each part, where they begin there, and the number of all up to its end.
         self._holders: list[Holder] = []
         self._begins, self._ends = array("I"), array("I")
         for part in parts:

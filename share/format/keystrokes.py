@@ -5,7 +5,7 @@ Their first bytes are told by the entry before, and what follows are the letters
 rightly, and needs no reading; and where all of the entry before it counts, it counts, too: what it mentions is there, its characters
 begin where its site's end, and its stamps go on.
 """
-from share.format.chunk import BEGIN, CODES, FAR, GREATEST_SEQ, LETTERS, MOST_CHUNK, SITE, varint
+from share.format.chunk import CHUNK_BEGIN, CODES, FAR_FROM_CARET, GREATEST_SEQ, PLAIN_LETTERS, MOST_CHUNK, NEW_SITE, varint
 from share.format.entry import CHUNKS, Entry, Kind, check_entry
 from share.format.operation import GREATEST_STAMP, MOST_OF_A_SITE, Operation
 
@@ -21,7 +21,7 @@ class End:
     def __init__(self, last: Operation):
         self.site = last.site
         site = varint(last.site)
-        self._lead, self._far = BEGIN + bytes([SITE]) + site, bytes([FAR]) + site
+        self._lead, self._far = CHUNK_BEGIN + bytes([NEW_SITE]) + site, bytes([FAR_FROM_CARET]) + site
         self._seq, self._stamp, self._at = last.seq + last.size, last.stamp + last.size, last.at + len(last.data)
         self._cause = varint(self._at - 1)
 
@@ -31,7 +31,7 @@ class End:
         begin = b"".join((self._lead, varint(self._seq), varint(self._stamp), at, self._far, self._cause))
         if not (entry.first == self._seq and len(chunk) == len(begin) + size <= MOST_CHUNK and chunk.startswith(begin)):
             return False
-        if chunk[-1] in CODES or size > 1 and not LETTERS.fullmatch(chunk, len(begin)):
+        if chunk[-1] in CODES or size > 1 and not PLAIN_LETTERS.fullmatch(chunk, len(begin)):
             return False
         self._seq, self._stamp, self._at = self._seq + size, self._stamp + size, self._at + size
         self._cause = at if size == 1 else varint(self._at - 1)

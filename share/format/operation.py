@@ -7,7 +7,7 @@ import struct
 from collections.abc import Iterable, Iterator
 from typing import NamedTuple
 
-from share.text.looks import LONGEST_FONT, MOST_COLOUR
+from share.text.looks import FONT_LETTERS, LONGEST_FONT, MOST_COLOUR
 from share.text.names import Names
 
 TEXT = 1
@@ -22,11 +22,11 @@ MOST_INSERTED, MOST_RANGES = 4_096, 1_024
 HEADER = struct.Struct(">2sBBHHIQ")
 # The cause, where it begins, and the length of its font's name.
 INSERTION = struct.Struct(">HIIB")
-COUNT = struct.Struct(">H")
+TWO_BYTES = struct.Struct(">H")
 RANGE = struct.Struct(">HII")
 TAG = b"OT"
-FONT_BYTES = frozenset(b"ABCDEFGHIJKLMNOPQRSTUVWXYZabcdefghijklmnopqrstuvwxyz0123456789.")
-FONT_BEGINS = frozenset(b"ABCDEFGHIJKLMNOPQRSTUVWXYZabcdefghijklmnopqrstuvwxyz")
+FONT_BYTES = frozenset(FONT_LETTERS.encode() + b"0123456789.")
+FONT_BEGINS = frozenset(FONT_LETTERS.encode())
 # The looks of a plain character, as an insertion has them.
 PLAIN_LOOKS = b"\x10Oberon10.Scn.Fnt\x01\x00"
 
@@ -128,8 +128,8 @@ def _insertion(message: bytes, site: int) -> tuple[tuple[Names, ...], int, bytes
     if not is_font(message[begin:begin + font], font) or message[begin + font] > MOST_COLOUR:
         raise NoMessage
     end = begin + font + 2
-    (length,) = COUNT.unpack_from(message, end)
-    data = message[end + COUNT.size:]
+    (length,) = TWO_BYTES.unpack_from(message, end)
+    data = message[end + TWO_BYTES.size:]
     if not 1 <= length <= MOST_INSERTED or at + length > MOST_OF_A_SITE or len(data) != length:
         raise NoMessage
     return (Names(cause_site, cause, 1),) if cause_site else (), at, message[begin - 1:end], data
@@ -153,10 +153,10 @@ def _selected(message: bytes) -> bytes:
 
 def _ranges(message: bytes, begin: int) -> tuple[Names, ...]:
     """A set of names, which is the rest of a message."""
-    (count,) = COUNT.unpack_from(message, begin)
-    if not 1 <= count <= MOST_RANGES or len(message) != begin + COUNT.size + count * RANGE.size:
+    (count,) = TWO_BYTES.unpack_from(message, begin)
+    if not 1 <= count <= MOST_RANGES or len(message) != begin + TWO_BYTES.size + count * RANGE.size:
         raise NoMessage
-    found = tuple(map(Names._make, RANGE.iter_unpack(message[begin + COUNT.size:])))
+    found = tuple(map(Names._make, RANGE.iter_unpack(message[begin + TWO_BYTES.size:])))
     before, end = 0, -1
     for site, at, length in found:
         if not site or not length or at + length > MOST_OF_A_SITE:

@@ -17,7 +17,7 @@ from share.text.change import Change, make
 from share.text.names import Names
 
 # Where more stretches than this differ, they aren't told one by one.
-MOST_CHANGES = 2_000
+MOST_DIFFERENCES = 2_000
 
 
 class Shown(NamedTuple):
@@ -29,7 +29,7 @@ class Shown(NamedTuple):
 
 
 class _Same(NamedTuple):
-    """Characters that are in both texts: where they begin in each, and how many they are."""
+    """Characters that are in both texts: where they begin in each, and their number."""
 
     before: int
     now: int
@@ -47,7 +47,7 @@ def differences(before: Shown, now: Shown) -> list[Change] | None:
     changes, at, begin = list[Change](), 0, 0
     same = _same(before.names, now.names, _common_ends(before.messages, now.messages))
     for one in chain(same, [_Same(len(before.text), len(now.text), 0)]):
-        if one.before < at or one.now < begin or len(changes) > MOST_CHANGES:
+        if one.before < at or one.now < begin or len(changes) > MOST_DIFFERENCES:
             return None
         if one.before > at or one.now > begin:
             changes.append(Change(begin, begin + one.before - at, now.text[begin:one.now]))
@@ -92,7 +92,7 @@ def _common_ends(before: Messages, now: Messages) -> Callable[[int], float]:
 
 
 def _lines(messages: Messages) -> dict[int, tuple[Line, int]]:
-    """The line of each site whose messages are in entries, and how many these are."""
+    """The line of each site whose messages are in entries, and the number of these."""
     return {part.holder.site: (part.holder, part.end) for part in messages.parts() if isinstance(part.holder, Line)}
 
 

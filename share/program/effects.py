@@ -44,7 +44,7 @@ class Named(NamedTuple):
 
     def told(self, earlier: list[list[Stretch]], later: list[list[Stretch]]) -> list[Change]:
         """What changed, by where the old ones were shown before, and where all are since."""
-        return told(self.old + self.new, earlier + [[] for _ in self.new], later)
+        return changes_between(self.old + self.new, earlier + [[] for _ in self.new], later)
 
 
 def stretches(answer: list[bytes]) -> list[Stretch]:
@@ -58,7 +58,7 @@ def stretches(answer: list[bytes]) -> list[Stretch]:
             for _, at, position, length, printed in words]
 
 
-def told(names: list[Names], earlier: list[list[Stretch]], later: list[list[Stretch]]) -> list[Change]:
+def changes_between(names: list[Names], earlier: list[list[Stretch]], later: list[list[Stretch]]) -> list[Change]:
     """What went from a text and what came to it, each as a change of the text that those before it leave."""
     both = [*zip(names, earlier, later)]
     went = sorted(part for one, was, now in both for part in _only(one, was, now))

@@ -12,13 +12,13 @@ from share.format.operation import INSERT, Operation
 
 # The cost of an operation is counted in letters that are typed one after the other: finding a place counts as 250 of them, and
 # each four characters of a stretch as one.
-PLACE, CHARACTERS = 250, 4
+COST_OF_A_PLACE, CHARACTERS = 250, 4
 # The cost of what is handed in at once: at the beginning, and its bounds.
-BEGIN, LEAST, MOST = 16 * PLACE, PLACE, 128 * PLACE
+FIRST_COST, LEAST_COST, MOST_COST = 16 * COST_OF_A_PLACE, COST_OF_A_PLACE, 128 * COST_OF_A_PLACE
 # It is halved after a call that took more processor time, and doubled after one that took less.
-SLOW_SECONDS, QUICK_SECONDS = 0.02, 0.005
+SLOW_CALL_SECONDS, QUICK_CALL_SECONDS = 0.02, 0.005
 # A piece of a run has no more letters, so that a chunk has room for it however they are spelled.
-LETTERS = 4_000
+MOST_LETTERS = 4_000
 
 
 class Pace:
@@ -30,9 +30,9 @@ class Pace:
 
     def took(self, seconds: float) -> None:
         """Adjusts it to the processor time that it took."""
-        if seconds > SLOW_SECONDS:
+        if seconds > SLOW_CALL_SECONDS:
             self.most = max(self._bounds[0], self.most // 2)
-        elif seconds < QUICK_SECONDS:
+        elif seconds < QUICK_CALL_SECONDS:
             self.most = min(self._bounds[1], self.most * 2)
 
 
@@ -41,7 +41,7 @@ class Coming:
 
     def __init__(self) -> None:
         self._parts: deque[Part] = deque()
-        self._many, self.pace = 0, Pace(BEGIN, LEAST, MOST)
+        self._many, self.pace = 0, Pace(FIRST_COST, LEAST_COST, MOST_COST)
 
     def __len__(self) -> int:
         return self._many
@@ -81,15 +81,15 @@ def _operations(part: Part) -> Iterator[Operation]:
     """The operations of a part, letters typed one after the other in one, or in pieces where they are many."""
     for chunk, known, _ in part.holder.parts(part.begin, part.end):
         for one in known or unpacked(chunk):
-            for begin in range(0, one.size, LETTERS):
-                yield one.part(begin, min(begin + LETTERS, one.size))
+            for begin in range(0, one.size, MOST_LETTERS):
+                yield one.part(begin, min(begin + MOST_LETTERS, one.size))
 
 
 def _cost(one: Operation, before: Operation | None) -> int:
     """What an operation may cost, given the one before it."""
     if one.kind != INSERT:
-        return sum(PLACE + names.length // CHARACTERS for names in one.mentions)
+        return sum(COST_OF_A_PLACE + names.length // CHARACTERS for names in one.mentions)
     # Nothing else can be after a letter that came just before.
     goes_on = before is not None and before.kind == INSERT and [
         names[:2] for names in one.mentions] == [(before.site, before.at + len(before.data) - 1)]
-    return len(one.data) + (0 if goes_on else PLACE)
+    return len(one.data) + (0 if goes_on else COST_OF_A_PLACE)

@@ -12,31 +12,29 @@ from itertools import accumulate, chain, islice
 from typing import NamedTuple
 
 from share.format.history import Messages
-from share.format.operation import MOST_RANGES, Operation
-from share.program.effects import Named, Stretch, stretches, told
+from share.format.operation import MOST_INSERTED, MOST_RANGES, Operation
+from share.program.effects import Named, Stretch, stretches, changes_between
 from share.program.intake import Coming
-from share.program.process import MOST_LINES, Ended, Program, escaped, shown
+from share.program.process import MOST_LINES_READ, Ended, Program, escaped, text_in
 from share.text.change import Change, boundary
 from share.text.errors import Trouble
 from share.text.looks import Looks, Run, in_words
 from share.text.names import Names, halves, united
 
-# One message has so many bytes of an insertion at most.
-MOST_BYTES = 4_096
 # What more messages together change isn't told.
 SLICE = 2_000
-# So many chunks are handed in at once.
-CHUNKS = 50
+# The chunks that are handed in at once, at most.
+CHUNKS_AT_ONCE = 50
 # How the packed file is called.
-KEPT = "text"
-# What messages change is told while they have so many names at most. In a note of 1 MB that takes 4 to 8 ms
+PACKED_NAME = "text"
+# The most names of messages of which it is told what they change. In a note of 1 MB that takes 4 to 8 ms
 # where the names stand in long stretches, shown or hidden, and 110 to 230 where each is by itself; to ask
 # for the whole text takes 60 to 90, and up to 240 on a busy machine.
 MOST_NAMES = 10_000
-# So many messages a note has at most when it is edited: the program has half a gigabyte for a million.
+# The most messages of a note that is edited: the program has half a gigabyte for a million.
 MOST_MESSAGES = 2_000_000
-# Where there is room for one in so many alone it is told that the note is nearly full.
-NEARLY = 20
+# A note is said to be nearly full where it has room for no more than one message in this number.
+ONE_IN = 20
 SCATTERED, NO_MEMORY, TOO_MANY = 12, 7, 21
 # The answer to a chunk of which some are taken in, some were held already, and none waits.
 UNPACKED = re.compile(rb"unpacked (\d+) (\d+) 0")
@@ -78,7 +76,7 @@ class Lasting:
         """The program's answers. Where it ended it is started again: none of these events was kept, so they
         are asked anew."""
         try:
-            if self.run.lines + len(events) > MOST_LINES:
+            if self.run.lines + len(events) > MOST_LINES_READ:
                 self.start_again()
             try:
                 return self.run.ask(events)
@@ -97,7 +95,7 @@ class Lasting:
         self.run = Program(self._number, self._folder, self._stands_still)
         chunks = self._history.chunks()
         try:
-            while some := [*islice(chunks, CHUNKS)]:
+            while some := [*islice(chunks, CHUNKS_AT_ONCE)]:
                 self.run.ask(self.unpacking(some))
         except Ended as why:
             raise Trouble("The program ended and couldn't be started again. All that was typed before is "
@@ -137,7 +135,7 @@ class Site:
 
     def _reopen(self, packed: Messages, progress: Progress) -> None:
         """Goes on from the packed file, or where that can't be has its messages handed in."""
-        if not self._program.run.folder or self._ask([self._program.event("reopen", KEPT.encode())])[0] != [b"ok"]:
+        if not self._program.run.folder or self._ask([self._program.event("reopen", PACKED_NAME.encode())])[0] != [b"ok"]:
             self.take(packed, progress=progress)
             return
         self.history += packed
@@ -149,10 +147,10 @@ class Site:
         return self._program.run.is_unproved
 
     def keep(self) -> dict[int, int]:
-        """Has the program write the packed file; how many messages of each site it has, nothing where it isn't written."""
+        """Has the program write the packed file; the number of each site's messages in it, nothing where it isn't written."""
         if not self._program.run.folder:
             return {}
-        fronts, kept = self._ask([self._program.event("front"), self._program.event("keep", KEPT.encode(), b"packed")])
+        fronts, kept = self._ask([self._program.event("front"), self._program.event("keep", PACKED_NAME.encode(), b"packed")])
         if kept != [b"ok"]:
             return {}
         return {int(site): int(seq) for _, site, seq in (line.split() for line in fronts[:-1])}
@@ -204,7 +202,7 @@ class Site:
         return named.told([*map(stretches, earlier)], [*map(stretches, later)]) if is_new else None
 
     def insert(self, position: int, data: bytes) -> Edited:
-        """Types bytes after the first so many of the text. Each message has whole characters alone."""
+        """Types bytes at a position of the text. Each message has whole characters alone."""
         parts = [*split(data)]
         places = accumulate(map(len, parts), initial=position)
         return one_by_one(self._edit("type", place, escaped(part)) for place, part in zip(places, parts))
@@ -248,7 +246,7 @@ class Site:
     def look(self, looks: Looks, names: Iterable[Names]) -> Edited:
         """Gives looks to those of these characters that are shown, wherever that is: no event gives them by names."""
         found = sorted((one.position, one.position + len(one.data)) for part in self.where(united(names)) for one in part)
-        return one_by_one(self._of_stretch("looks", begin, end, in_words(looks)) for begin, end in _joined(found))
+        return one_by_one(self._of_stretch("looks", begin, end, in_words(looks)) for begin, end in _joined_places(found))
 
     def where(self, names: list[Names]) -> list[list[Stretch]]:
         """Where characters are shown, of each of these names."""
@@ -266,10 +264,10 @@ class Site:
 
     def text(self) -> bytes:
         """What the program shows."""
-        return shown(self._ask([self._program.event("text")])[0])
+        return text_in(self._ask([self._program.event("text")])[0])
 
     def go_back(self, length: int) -> None:
-        """Goes on as if what was made here since the history had so many messages hadn't been, since it isn't kept."""
+        """Goes on as if what was made here since the history had this length hadn't been, since it isn't kept."""
         self.history.cut(length)
         self._program.start_again()
 
@@ -280,7 +278,7 @@ class Site:
     def _hand_in(self, coming: Messages, progress: Progress = lambda done: None) -> None:
         """Has the program take in operations, and doesn't ask what they change."""
         chunks, done = coming.chunks(), 0
-        while some := [*islice(chunks, CHUNKS)]:
+        while some := [*islice(chunks, CHUNKS_AT_ONCE)]:
             self._unpacked(self._ask(self._program.unpacking(some)), some, coming[done:])
             done += sum(size for _, size in some)
             progress(done)
@@ -313,7 +311,7 @@ class Site:
                             for begin in range(0, len(names), MOST_RANGES))
         if not edited.messages:
             return edited, []
-        return edited, told(names, earlier, self.where(names)) if tells else self.text()
+        return edited, changes_between(names, earlier, self.where(names)) if tells else self.text()
 
     def _of_names(self, verb: str, names: Sequence[Names]) -> Edited:
         """An edit by names, which a line has room for; where those that change are too scattered for one message, half
@@ -344,13 +342,13 @@ class Site:
 
 
 def is_full(many: int) -> bool:
-    """Whether a note of so many messages has as many as a note may have."""
+    """Whether a note has as many messages as one may have."""
     return many >= MOST_MESSAGES
 
 
 def is_nearly_full(many: int) -> bool:
-    """Whether a note of so many messages has room for few more."""
-    return many * NEARLY >= MOST_MESSAGES * (NEARLY - 1)
+    """Whether a note has room for few messages more."""
+    return many * ONE_IN >= MOST_MESSAGES * (ONE_IN - 1)
 
 
 def _not_taken(answer: bytes, operation: Operation) -> Trouble:
@@ -373,15 +371,15 @@ def one_by_one(edits: Iterable[Edited]) -> Edited:
 
 def split(data: bytes) -> Iterator[bytes]:
     """Bytes in parts that fit a message, parted between characters of UTF-8."""
-    while len(data) > MOST_BYTES:
-        end = boundary(data, MOST_BYTES)
+    while len(data) > MOST_INSERTED:
+        end = boundary(data, MOST_INSERTED)
         yield data[:end]
         data = data[end:]
     if data:
         yield data
 
 
-def _joined(places: Iterable[tuple[int, int]]) -> list[tuple[int, int]]:
+def _joined_places(places: Iterable[tuple[int, int]]) -> list[tuple[int, int]]:
     """Stretches that rise, by where they begin and end; those that follow one another in one."""
     out: list[tuple[int, int]] = []
     for begin, end in places:

@@ -151,7 +151,7 @@ class BadInput(Case):
                     program.process.send_signal(signal.SIGSTOP)
                 if starves:
                     self.starve(program.process.pid)
-                with mock.patch("share.program.patience.MOST_SECONDS", 1), contextlib.nullcontext() if starves else (
+                with mock.patch("share.program.patience.MOST_WORKING_SECONDS", 1), contextlib.nullcontext() if starves else (
                         self.assertRaises(Ended)):
                     self.assertEqual(program.text(), b"")
 

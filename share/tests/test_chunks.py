@@ -5,7 +5,7 @@ from collections.abc import Iterable
 from unittest import mock
 
 from share.admission.ledger import Ledger, Line, Row
-from share.format.chunk import BEGIN, MOST_CHUNK, NoChunk, Writer, one_by_one, unpacked
+from share.format.chunk import CHUNK_BEGIN, MOST_CHUNK, NoChunk, Writer, unpacked_one_by_one, unpacked
 from share.format.entry import Author, Plain
 from share.format.history import Messages, Part
 from share.format.operation import DELETE, Operation
@@ -13,7 +13,7 @@ from share.program.process import Program
 from share.tests.naive import about, chunk_of, entry_of, inserting, taking
 
 # Site 1 has a file of five characters, types an a after them, and then the byte 15, which is a code in a chunk.
-WORKED = BEGIN + b"\x0f\1\3\x09\5" + b"\5\1\4a" + b"\x0e\x0f"
+WORKED = CHUNK_BEGIN + b"\x0f\1\3\x09\5" + b"\5\1\4a" + b"\x0e\x0f"
 TURNS, TRIES = 60, 300
 
 
@@ -56,7 +56,7 @@ class Chunks(unittest.TestCase):
         self.addCleanup(two.close)
         sent = self.edits(one, chance)
         self.assertEqual(self.packs(one), [chunk_of(sent)])
-        self.assertEqual(one_by_one(chunk_of(sent) or b""), tuple(sent))
+        self.assertEqual(unpacked_one_by_one(chunk_of(sent) or b""), tuple(sent))
         self.assertLess(len(unpacked(chunk_of(sent) or b"")), len(sent))
         self.assertEqual(answered(two, chunk_of(sent) or b""), b"unpacked %d 0 0" % len(sent))
         self.assertEqual(two.text(), one.text())
@@ -68,13 +68,13 @@ class Chunks(unittest.TestCase):
         self.assertEqual(b"".join(data for data, _ in Messages(own + more).chunks()), self.packs(two, 300, len(sent))[0])
         length = len(b"".join(run.data for run in unpacked(chunk_of(sent) or b"")))
         self.assertEqual(self.packs(one, 300, len(sent), 7, len(own)), [chunk_of(more, length)])
-        self.assertEqual(one_by_one(chunk_of(more, length) or b""), tuple(more))
+        self.assertEqual(unpacked_one_by_one(chunk_of(more, length) or b""), tuple(more))
         # One that overlaps what is held is judged operation by operation.
         self.assertEqual(answered(two, chunk_of(sent + more) or b""), b"unpacked 0 %d 0" % len(sent + more))
 
     def test_a_chunk_worked_out_by_hand(self) -> None:
         first, second = inserting(1, 3, 9, (1, 4), 5, b"a"), inserting(1, 4, 10, (1, 5), 6, b"\x0f")
-        self.assertEqual(one_by_one(WORKED), (first, second))
+        self.assertEqual(unpacked_one_by_one(WORKED), (first, second))
         self.assertEqual(chunk_of([first, second]), WORKED)
         self.assertEqual([(run.size, run.data, run.mentions) for run in unpacked(WORKED)], [(2, b"a\x0f", ((1, 4, 1),))])
 
@@ -100,7 +100,7 @@ class Chunks(unittest.TestCase):
         for message in (inserting(65_535, 2**32 - 1, 2**48 - 1, (65_535, 2**24 - 2), 2**24 - 1, b"x"),
                         about(DELETE, 1, 1, 1, [(65_535, 2**24 - 1, 1)])):
             chunk = chunk_of([message]) or b""
-            self.assertEqual(one_by_one(chunk), (message,))
+            self.assertEqual(unpacked_one_by_one(chunk), (message,))
             with self.assertRaises(NoChunk):
                 # One more of either is past a bound.
                 unpacked(chunk + (b"y" if message.kind != DELETE else b"\4\4\x08"))
@@ -120,10 +120,10 @@ class Chunks(unittest.TestCase):
             chunk = bytes(bad[:chance.choice([len(bad), len(bad), chance.randrange(len(bad) + 1)])])
             answer = answered(taker, chunk)
             try:
-                found = one_by_one(chunk)
+                found = unpacked_one_by_one(chunk)
             except NoChunk:
                 # A note's chunks are of one site, and have messages.
-                self.assertTrue(answer in (b"refused 1", b"refused 2") or chunk in (b"", BEGIN) or {1, 15} & {*chunk[7:]}, chunk)
+                self.assertTrue(answer in (b"refused 1", b"refused 2") or chunk in (b"", CHUNK_BEGIN) or {1, 15} & {*chunk[7:]}, chunk)
                 told[False] += 1
             else:
                 self.assertNotIn(answer, (b"refused 1", b"refused 2"))
@@ -134,7 +134,7 @@ class Chunks(unittest.TestCase):
 
 def length_of(chunk: bytes) -> int:
     """How many characters a chunk says that its site had."""
-    numbers, at = [], len(BEGIN) + 1
+    numbers, at = [], len(CHUNK_BEGIN) + 1
     while len(numbers) < 4:
         end = next(end for end in range(at, len(chunk)) if chunk[end] < 0x80)
         numbers.append(sum((byte & 0x7F) << 7 * place for place, byte in enumerate(chunk[at:end + 1])))

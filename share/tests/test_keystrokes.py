@@ -304,13 +304,13 @@ class Opened(Case):
         make(self.ann.path(), About(True, bytes(range(32)), ""), rows, [Client(17, typist.author, stood=True)])
 
     def test_few_chunks_are_read(self) -> None:
-        with mock.patch.object(chunks, "_typed", wraps=chunks._typed) as read:
+        with mock.patch.object(chunks, "_keystrokes_in", wraps=chunks._keystrokes_in) as read:
             note = self.opened(self.ann)
             self.assertEqual(note.session.text(), self.text)
         self.assertLess(read.call_count, KEYS // 10)
 
     def test_no_message_is_unfolded(self) -> None:
-        with mock.patch.object(chunks, "one_by_one", side_effect=AssertionError):
+        with mock.patch.object(chunks, "unpacked_one_by_one", side_effect=AssertionError):
             note = self.opened(self.ann)
             self.assertEqual(note.session.text(), self.text)
             with self.ann.here():

@@ -39,7 +39,7 @@ class Counts:
     @contextlib.contextmanager
     def counting(self) -> Iterator["Counts"]:
         """Counts what is done meanwhile."""
-        read, add, typed, ask = Operation.read, chunks.Writer.add, chunks._typed, Program.ask
+        read, add, typed, ask = Operation.read, chunks.Writer.add, chunks._keystrokes_in, Program.ask
 
         def count(name: str, call: Callable) -> Callable:
             def counted(*words, **more):
@@ -52,7 +52,7 @@ class Counts:
             return ask(program, events)
 
         with (mock.patch.object(Operation, "read", count("read", read)), mock.patch.object(chunks.Writer, "add", count("packed", add)),
-              mock.patch.object(chunks, "_typed", count("unpacked", typed)), mock.patch.object(Program, "ask", asked),
+              mock.patch.object(chunks, "_keystrokes_in", count("unpacked", typed)), mock.patch.object(Program, "ask", asked),
               mock.patch.object(entries, "_hashed", count("hashed", entries._hashed))):
             yield self
 

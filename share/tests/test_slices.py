@@ -11,7 +11,7 @@ from share.format.chunk import MOST_CHUNK, Writer
 from share.format.entry import Kind, Plain
 from share.format.history import Messages, Part
 from share.format.operation import DELETE, Operation
-from share.program.intake import PLACE, Coming
+from share.program.intake import COST_OF_A_PLACE, Coming
 from share.program.site import Site
 from share.tests.attacks import AT_THE_FRONT, LETTERS, Hostile, square
 from share.tests.editors import Engines
@@ -86,7 +86,7 @@ class Parts(unittest.TestCase):
         coming.add(Messages(parts=[Part(line, 0, 1 + room)]))
         while coming:
             some = coming.first()
-            self.assertEqual([one for chunk, _ in some.chunks() for one in chunks.one_by_one(chunk)], [*some])
+            self.assertEqual([one for chunk, _ in some.chunks() for one in chunks.unpacked_one_by_one(chunk)], [*some])
             found += some
             coming.drop(len(some))
         self.assertEqual(found, [*entry.messages])
@@ -112,7 +112,7 @@ class Meanwhile(Case):
 
     def test_what_is_typed_meanwhile_counts_everywhere(self) -> None:
         chance = random.Random(6)
-        with mock.patch.multiple("share.program.intake", BEGIN=PLACE, MOST=PLACE):
+        with mock.patch.multiple("share.program.intake", FIRST_COST=COST_OF_A_PLACE, MOST_COST=COST_OF_A_PLACE):
             anna, berta = self.together(self.file_log(), "anna", "berta")
         berta.session.turn_seconds, between = 0.0, 0
         for _ in range(3):
