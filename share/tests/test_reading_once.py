@@ -3,6 +3,7 @@ handed is what came."""
 import contextlib
 import json
 from collections.abc import Callable, Iterator
+from typing import TypeVar
 from unittest import mock
 
 from share.admission.judge import Judge
@@ -25,6 +26,7 @@ from share.tests.support import Case, Person
 from share.tests.waiting import wait_for
 
 WORDS = "Some words. "
+Result = TypeVar("Result")
 FORM = Plain(bytes(range(16)))
 
 
@@ -41,8 +43,8 @@ class Counts:
         """Counts what is done meanwhile."""
         read, add, typed, ask = Operation.read, chunks.Writer.add, chunks._keystrokes_in, Program.ask
 
-        def count(name: str, call: Callable) -> Callable:
-            def counted(*words, **more):
+        def count(name: str, call: Callable[..., Result]) -> Callable[..., Result]:
+            def counted(*words: object, **more: object) -> Result:
                 setattr(self, name, getattr(self, name) + 1)
                 return call(*words, **more)
             return counted
@@ -86,7 +88,11 @@ class Here:
 
     def until(self, condition: Callable[[], bool], what: str) -> None:
         """Turns until something is so."""
-        wait_for(lambda: (self.turn(), condition())[1], what)
+        def is_so() -> bool:
+            self.turn()
+            return condition()
+
+        wait_for(is_so, what)
 
     def is_sent(self) -> bool:
         """Whether the log has all, and was read again since."""

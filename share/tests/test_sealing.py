@@ -14,7 +14,7 @@ from share.format.link import Link, url_of
 from share.format.operation import DELETE, Operation
 from share.format.presence import MOST_PRESENCE
 from share.format.sealed import KEY_BYTES, SIGNATURE_BYTES, Sealed, identity_of, new_key
-from share.tests.naive import about, entry_of, in_entries
+from share.tests.naive import about, entry_of, in_entries, spelled
 from share.text.errors import Trouble
 
 KEY = bytes(range(KEY_BYTES))
@@ -75,7 +75,7 @@ class Opened(unittest.TestCase):
     def test_nothing_of_the_messages_can_be_seen(self) -> None:
         """The same message under two keys has nothing in common after the head, and its bytes aren't there."""
         other = chain(Sealed(new_key()), self.author)[1].raw
-        raw, data = self.made[1].raw, self.made[1].messages[0].data
+        raw, data = self.made[1].raw, spelled(self.made[1].messages[0])
         self.assertNotIn(data, raw)
         self.assertNotIn(self.made[1].chunk, raw)
         self.assertNotEqual(raw[-SIGNATURE_BYTES:], other[-SIGNATURE_BYTES:])
