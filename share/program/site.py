@@ -279,19 +279,22 @@ class Site:
         """Has the program take in operations, and doesn't ask what they change."""
         chunks, done = coming.chunks(), 0
         while some := [*islice(chunks, CHUNKS_AT_ONCE)]:
-            self._unpacked(self._ask(self._program.unpacking(some)), some, coming[done:])
-            done += sum(size for _, size in some)
+            end = done + sum(size for _, size in some)
+            self._unpacked(self._ask(self._program.unpacking(some)), some, coming[done:end])
+            done = end
             progress(done)
 
     def _unpacked(self, answers: Iterable[list[bytes]], chunks: Iterable[tuple[bytes, int]], coming: Messages) -> bool:
         """Adds to the history what the program took in, by its answers to chunks; whether none of that was held before."""
         done, is_new = 0, True
-        for (answer,), (_, size) in zip(answers, chunks):
-            found = UNPACKED.fullmatch(answer)
-            if found is None or int(found[1]) + int(found[2]) != size:
-                raise _not_taken(answer, coming[done])
-            self.history += coming[done:done + size]
-            done, is_new = done + size, is_new and found[2] == b"0"
+        try:
+            for (answer,), (_, size) in zip(answers, chunks):
+                found = UNPACKED.fullmatch(answer)
+                if found is None or int(found[1]) + int(found[2]) != size:
+                    raise _not_taken(answer, coming[done])
+                done, is_new = done + size, is_new and found[2] == b"0"
+        finally:
+            self.history += coming[:done]
         return is_new
 
     def _asking_where(self, names: Iterable[Names]) -> list[bytes]:
