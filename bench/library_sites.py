@@ -54,7 +54,7 @@ class PipeSite:
 
     def take(self, messages):
         for at in range(0, len(messages), TOLD):
-            self.program.ask([self.program.taking(message) for message in messages[at:at + TOLD]])
+            self.program.ask([self.program.event("take", message.hex().encode()) for message in messages[at:at + TOLD]])
 
     def shown(self):
         return self.program.text()

@@ -25,7 +25,7 @@ from share.editors.mirror import Mirror
 from share.engine.protocol import serialize
 from share.format import link as links
 from share.format.chunk import packed
-from share.format.entry import Author, Kind, digest
+from share.format.entry import Author, digest
 from share.log.sqlite import SqliteLog
 from share.store import notes
 from share.store.note_file import About, Client, make
@@ -113,8 +113,9 @@ def typed_by(key: bytes, site: int, keys: int, people: int) -> list[tuple[bytes,
     made = [(claim.raw, claim.body)]
     for seq in range(1, keys + 1):
         turn, within = divmod(seq - 1, AT_A_TIME)
-        chunk = packed([*typed(site, seq, 1 + (turn * people + site - 1) * AT_A_TIME + within, 1).messages()])
-        last = form._made(Kind.CHUNK, site, seq, 1, last.hash, author, b"", chunk or b"")
+        part = packed([typed(site, seq, 1 + (turn * people + site - 1) * AT_A_TIME + within, 1)])
+        assert part
+        last = form.entry(last, part, author)
         made.append((last.raw, last.body))
     return made
 

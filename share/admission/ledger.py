@@ -258,9 +258,10 @@ class Line:
         """The same in parts: a chunk, or the runs where there is none of just these messages; and how many they are."""
         while begin < end:
             at = self.at_seq(begin + 1)
-            if run := self._typed(at, begin, end):
-                yield b"", [run], run.size
-                begin += run.size
+            if found := self._typed(at, begin, end):
+                chunk, size = found
+                yield chunk, (), size
+                begin += size
                 continue
             first, number = self.first(at) - 1, self.numbers[at]
             size = min(self.lasts[at], end) - begin
@@ -276,16 +277,17 @@ class Line:
         end = self.types_on.find(0, at)
         return len(self) if end < 0 else end
 
-    def _typed(self, at: int, begin: int, end: int) -> Run | None:
-        """The messages from one place on, to another at most, as one run: those of entries that type on one after the other, of which
-        the first is whole. None where they are those of fewer than two."""
+    def _typed(self, at: int, begin: int, end: int) -> tuple[bytes, int] | None:
+        """The chunk of the operations from one place on, to another at most, that are those of entries which type on one after the
+        other, of which the first is whole; and their number. None where they are those of fewer than two."""
         if not self.types_on[at] or begin >= self.first(at):
             return None
         last = min(self.typed_until(at), self.at_seq(min(end, begin + MOST_TYPED) + 1))
         if last < at + 2:
             return None
-        data = b"".join(map(self.ledger.typed, self.numbers[at:last]))
-        return self.ledger.runs(self.numbers[at])[0]._replace(size=len(data), data=data)
+        # What types on is spelled by its letters alone.
+        letters = b"".join(map(self.ledger.typed, self.numbers[at + 1:last]))
+        return self.ledger.spelled(self.numbers[at]) + letters, self.ledger.size(self.numbers[at]) + len(letters)
 
     def _within(self, begin: int, end: int) -> Iterator[tuple[int, int, int]]:
         """The entries that have messages from one place to another, and from where to where in each of them."""

@@ -6,9 +6,9 @@ from share.cli import access, html
 from share.cli.output import print_bytes, print_json, print_text, report_missing
 from share.engine import server
 from share.format.history import Messages
-from share.format.operation import INSERT, typed
+from share.format.operation import INSERT
 from share.program import replay, retyping
-from share.program.replay import Replays, Step, Wrote
+from share.program.replay import Replays, HistoryStep, Wrote
 from share.program.site import Site
 from share.store import atomic, contents, nicknames, notes, read_only
 from share.store.contents import Counted
@@ -130,9 +130,9 @@ def _listed(name: str, path: pathlib.Path) -> Line:
     return line | {"open": bool(running), "log": about.url, "sealed": about.sealed}
 
 
-def _text_of(messages: Messages, step: Step) -> str:
+def _text_of(messages: Messages, step: HistoryStep) -> str:
     """What a step typed."""
-    data = b"".join(typed(one) for one in messages[step.begin:step.end] if one.kind == INSERT)
+    data = b"".join(one.data for one in messages[step.begin:step.end] if one.kind == INSERT)
     return shown(swapped(data))
 
 

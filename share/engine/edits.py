@@ -9,7 +9,7 @@ from share.engine.arrivals import NO_NUMBER, NOT_NOW, Arrivals
 from share.engine.editor import Peer
 from share.engine.protocol import Wrong
 from share.engine.shared_text import SharedText
-from share.format.operation import MOST_RANGES, Message, inserted
+from share.format.operation import MOST_RANGES, Operation
 from share.program.site import Edited, Site
 from share.sync.session import Session
 from share.text.change import Change
@@ -48,7 +48,7 @@ class EditRequests:
     def _made_one_by_one(self, peer: Peer, first: Line, waiting: list[bytes | None], site: Site, can_type: bool,
                          answers: list[tuple[Line, Line]]) -> Edited:
         """Makes edits for as long as they may wait to be kept, and adds their answers."""
-        messages, end = list[Message](), time.monotonic() + TOGETHER_SECONDS
+        messages, end = list[Operation](), time.monotonic() + TOGETHER_SECONDS
         request: Line | None = first
         while request:
             before = len(site.history)
@@ -81,7 +81,7 @@ class EditRequests:
         self._arrivals.is_behind = True
         return {"edits": peer.transformer.edits, **protocol.failure(fault)}
 
-    def _edit(self, peer: Peer, request: Line, site: Site | None) -> tuple[Line, list[Message]]:
+    def _edit(self, peer: Peer, request: Line, site: Site | None) -> tuple[Line, list[Operation]]:
         """Makes an edit at the site, where it can be typed at; the answer and the messages."""
         transformer, text = peer.transformer, self._text
         edits = protocol.edits_of(request, transformer.edits + 1)
@@ -105,9 +105,9 @@ class EditRequests:
         more, messages = self._make(peer, own, changes, site, request.get("join"))
         return {"edits": edits, **more}, messages
 
-    def _make(self, peer: Peer, own: Op, changes: list[Change], site: Site, join: object) -> tuple[Line, list[Message]]:
+    def _make(self, peer: Peer, own: Op, changes: list[Change], site: Site, join: object) -> tuple[Line, list[Operation]]:
         """Makes changes that an editor shows already; what the answer has besides, and the messages."""
-        made: list[list[Message]] = []
+        made: list[list[Operation]] = []
         refused = _made(site, changes, made)
         messages = [*chain.from_iterable(made)]
         if not changes:
@@ -149,7 +149,7 @@ def _put_cursor(peer: Peer, changes: list[Change]) -> None:
     peer.cursor, peer.anchor = end if peer.cursor is not None else None, None
 
 
-def _made(site: Site, changes: list[Change], made: list[list[Message]]) -> int | None:
+def _made(site: Site, changes: list[Change], made: list[list[Operation]]) -> int | None:
     """Makes changes at a site, from the last one to the first, and adds the messages of each; the number of a
     refusal."""
     for edited in _change_by_change(site, changes):
@@ -171,6 +171,6 @@ def _change_by_change(site: Site, changes: list[Change]) -> Iterator[Edited]:
         yield Edited(cut.messages + put.messages, put.refused if cut.refused is None else cut.refused)
 
 
-def _inserted_names(messages: list[Message]) -> list[Names]:
+def _inserted_names(messages: list[Operation]) -> list[Names]:
     """The names that messages of an edit inserted, in their order."""
-    return [names for message in messages if (names := inserted(message))]
+    return [names for message in messages if (names := message.new)]

@@ -1,7 +1,6 @@
 """The looks that editors are shown of a note, and when the program is asked for them anew."""
 import time
 
-from share.format.operation import may_dress
 from share.program.site import SLICE, Site
 from share.text.change import Change
 from share.text.looks import Dressed, dressed
@@ -44,7 +43,7 @@ class Formatting:
             self._site, self._seen, self.is_due = site, 0, bool(self.stretches)
         if len(site.history) > self._seen:
             many = len(site.history) - self._seen > SLICE
-            self.is_due = self.is_due or many or any(may_dress(one.data) for one in site.history[self._seen:])
+            self.is_due = self.is_due or many or any(one.may_dress for one in site.history[self._seen:].runs())
             self._seen = len(site.history)
         now = time.monotonic()
         if not self.is_due or now < self._due:

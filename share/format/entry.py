@@ -9,7 +9,7 @@ All numbers are big-endian. An entry has this head:
     note      16     the note's identity
     site      2      1 to 65,528
     first     4      the seq of its first message; 0 without messages
-    count     2      how many messages
+    count     2      the number of its messages
     before    32     the hash of this site's entry before it; zeros in a claim
     author    16/32  who claims or writes: 128 random bits where plain, an Ed25519 public key where sealed
 
@@ -21,8 +21,8 @@ The hash of an entry is that of all its bytes. So the entries of a site make a c
 says that messages were made anew is in no chain: it names the last entry of those that it speaks of.
 What speaks of copies is in no chain either. It is said by the author of messages or by that of their copies, and has who
 wrote the messages and their site (2 bytes), who wrote the copies and their site, the hash of the last entry that has such
-copies (zeros where that isn't said), and then numbers (as in chunks) three by three: the seq of the first message of a
-stretch, that of its copy, and how many they are. What was typed in one go may have come apart and have several copies; 0 in
+copies (zeros where that isn't said), and then varints three by three: the seq of the first message of a
+stretch, that of its copy, and their number. What was typed in one go may have come apart and have several copies; 0 in
 place of the copy's seq says that nothing remained of them that had to be made anew. It names the last entry that has such
 messages as the one before it: two histories of one number have the same seqs. With zeros there it speaks of each. Where what
 stands for a message is a deletion it was made to hide that, which is a copy itself.
@@ -45,14 +45,15 @@ from functools import lru_cache
 from typing import NamedTuple
 
 from share.format import chunk
-from share.format.chunk import GREATEST_SEQ, UNFOLDED, NoChunk, Run, Writer, number_of, of_message, packed
-from share.format.operation import Message, is_spelled, length_after
+from share.format.chunk import GREATEST_SEQ, UNFOLDED, NoChunk, Packed, varint
+from share.format.latest import Latest
+from share.format.operation import NoMessage, Operation
 from share.format.presence import MOST_PRESENCE
 
 HEAD = struct.Struct(">BB16sHIH32s")
 LENGTH = struct.Struct(">H")
-SITE = struct.Struct(">H")
-# An entry has so many bytes at most.
+SITE_FIELD = struct.Struct(">H")
+# The most bytes of an entry.
 MOST_BYTES = 16_384
 NOTE_BYTES = 16
 NO_HASH = bytes(32)
@@ -83,8 +84,11 @@ CHUNKS, ONE_BY_ONE = (Kind.CHUNK, Kind.CHUNK_BUILDING), (Kind.MESSAGES, Kind.BUI
 # the number.
 SAY_WHAT_BECAME = (Kind.ANEW, Kind.COPIES, Kind.RENEWED)
 NOT_UNDER_A_NUMBER = (Kind.CLAIM, *SAY_WHAT_BECAME)
-# What is said of a renewed note has so many bytes at most.
-MOST_SAID = 200
+# The most bytes that are said of a renewed note.
+LONGEST_SAID = 200
+# The hashes of the entries that were made, or came, last: of this many bytes of them.
+MOST_HASHED = 2**19
+_hashes = Latest[bytes](MOST_HASHED)
 
 
 class Copy(NamedTuple):
@@ -97,7 +101,7 @@ class Copy(NamedTuple):
 
 class Copied(NamedTuple):
     """What an entry says of copies: whose messages they stand for, whose they are, stretches of both: where each begins,
-    and how many messages it has; and the hash of the last entry of the copies."""
+    and the number of its messages; and the hash of the last entry of the copies."""
 
     author: bytes
     site: int
@@ -118,7 +122,7 @@ class Entry(NamedTuple):
     kind: Kind
     site: int
     first: int
-    # How many messages there are.
+    # The number of operations.
     size: int
     before: bytes
     author: bytes
@@ -145,30 +149,35 @@ class Entry(NamedTuple):
         return self.spelled if self.kind in CHUNKS else b""
 
     @property
-    def messages(self) -> tuple[Message, ...]:
-        """The messages."""
-        return messages_of(self.kind, self.spelled)
+    def operations(self) -> tuple[Operation, ...]:
+        """The operations, letters typed one after the other in one."""
+        return operations_of(self.kind, self.spelled)
+
+    @property
+    def messages(self) -> tuple[Operation, ...]:
+        """The operations one by one."""
+        return operations_one_by_one(self.kind, self.spelled)
+
+    @property
+    def runs(self) -> tuple[Operation, ...]:
+        """OLD NAME."""
+        return self.operations
 
     @property
     def copied(self) -> Copied:
         """What an entry of copies says; ValueError where it isn't spelled rightly."""
         size = len(self.author)
-        begin = 2 * (size + SITE.size)
+        begin = 2 * (size + SITE_FIELD.size)
         end = begin + len(NO_HASH)
         if len(self.spelled) < end:
             raise ValueError("cut short")
-        numbers = chunk.numbers_in(self.spelled[end:])
+        numbers = chunk.varints_in(self.spelled[end:])
         stretches = tuple(zip(numbers[::3], numbers[1::3], numbers[2::3]))
         if not numbers or len(numbers) % 3 or not all(map(_is_stretch, stretches)):
             raise ValueError("no stretches")
-        site, by = SITE.unpack_from(self.spelled, size)[0], self.spelled[size + SITE.size:begin - SITE.size]
-        by_site = SITE.unpack_from(self.spelled, begin - SITE.size)[0]
+        site, by = SITE_FIELD.unpack_from(self.spelled, size)[0], self.spelled[size + SITE_FIELD.size:begin - SITE_FIELD.size]
+        by_site = SITE_FIELD.unpack_from(self.spelled, begin - SITE_FIELD.size)[0]
         return Copied(self.spelled[:size], site, by, by_site, stretches, self.spelled[begin:end])
-
-    @property
-    def runs(self) -> tuple[Run, ...]:
-        """The messages, those in one that are letters typed one after the other."""
-        return runs_of(self.kind, self.spelled)
 
 
 class Author(NamedTuple):
@@ -184,7 +193,7 @@ class Form(ABC):
 
     number: int
     author_bytes: int
-    # How many of an entry's last bytes can't be computed from the others.
+    # The number of an entry's last bytes that can't be computed from the others.
     tail_bytes: int
 
     def __init__(self, note: bytes):
@@ -234,13 +243,10 @@ class Form(ABC):
         """The entry with which an author claims a site's number."""
         return self._made(Kind.CLAIM, site, 0, 0, NO_HASH, author, b"", b"")
 
-    def entry(self, before: Entry, messages: Sequence[Message], author: Author, on: bytes = b"", length: int = 0) -> Entry:
-        """The entry of messages that follow those of an author's entry before it, where the site had so many characters,
-        and of what they build on. They fit one. Those that no chunk has are spelled as versions of before did."""
-        chunk = packed(messages, length)
-        kind = (Kind.CHUNK_BUILDING if on else Kind.CHUNK) if chunk else Kind.BUILDING if on else Kind.MESSAGES
-        return self._made(kind, before.site, messages[0].seq, len(messages), before.hash, author, on,
-                          chunk or body_of(messages))
+    def entry(self, before: Entry, part: Packed, author: Author, on: bytes = b"") -> Entry:
+        """The entry of operations that follow those of an author's entry before it, and of what they build on."""
+        kind = Kind.CHUNK_BUILDING if on else Kind.CHUNK
+        return self._made(kind, before.site, part.operations[0].seq, part.size, before.hash, author, on, part.chunk)
 
     def made_anew(self, last: Entry, author: Author) -> Entry:
         """The entry with which an author says that of his entries up to this one all that doesn't count was made
@@ -250,13 +256,13 @@ class Form(ABC):
     def copies(self, copied: Copied, author: Author, site: int, before: bytes = NO_HASH) -> Entry:
         """The entry with which the author of messages, or that of their copies, says which stand for which. `before` is the
         hash of the last entry that has such messages."""
-        numbers = b"".join(number_of(number) for stretch in copied.stretches for number in stretch)
-        body = copied.author + SITE.pack(copied.site) + copied.by + SITE.pack(copied.by_site) + copied.last + numbers
+        numbers = b"".join(varint(number) for stretch in copied.stretches for number in stretch)
+        body = copied.author + SITE_FIELD.pack(copied.site) + copied.by + SITE_FIELD.pack(copied.by_site) + copied.last + numbers
         return self._made(Kind.COPIES, site, 0, 0, before, author, b"", body)
 
     def renewed(self, name: str, site: int, author: Author) -> Entry:
         """The entry by which an author of this name says that the note goes on under a new key."""
-        said = name.encode("utf-8", "ignore")[:MOST_SAID].decode("utf-8", "ignore").encode()
+        said = name.encode("utf-8", "ignore")[:LONGEST_SAID].decode("utf-8", "ignore").encode()
         return self._made(Kind.RENEWED, site, 0, 0, NO_HASH, author, b"", said)
 
     def open(self, raw: bytes) -> Entry:
@@ -349,28 +355,17 @@ def kind_of(number: int) -> Kind:
     return KINDS.get(number, Kind.NEWER)
 
 
-def body_of(messages: Sequence[Message]) -> bytes:
-    """Messages one after the other, each after its length."""
-    return b"".join(LENGTH.pack(len(message.data)) + message.data for message in messages)
-
-
-def in_entries(messages: Sequence[Message], length: int = 0) -> list[list[Message]]:
-    """Messages of a site, which had so many characters before them, in parts that fit an entry each."""
-    parts: list[list[Message]] = []
-    writer = Writer()
-    for message in messages:
-        run = of_message(message)
-        if not parts or not writer.add(run, length):
-            writer = Writer()
-            writer.add(run, length)
-            parts.append([])
-        parts[-1].append(message)
-        length = length_after([message], length)
-    return parts
-
-
 def digest(raw: bytes) -> bytes:
-    """The hash of an entry's bytes."""
+    """The hash of an entry's bytes. They come again, from the note's file and from the log, and aren't hashed again then."""
+    found = _hashes.get(raw)
+    if found is None:
+        found = _hashed(raw)
+        if len(raw) <= MOST_BYTES:
+            _hashes.put(raw, found)
+    return found
+
+
+def _hashed(raw: bytes) -> bytes:
     return hashlib.blake2b(raw, digest_size=32).digest()
 
 
@@ -378,22 +373,22 @@ def _short_digest(data: bytes) -> bytes:
     return hashlib.blake2b(data, digest_size=DIGEST_BYTES).digest()
 
 
-def messages_of(kind: Kind, spelled: bytes) -> tuple[Message, ...]:
-    """The messages of an entry of a kind, as it spells them."""
+def operations_of(kind: Kind, spelled: bytes) -> tuple[Operation, ...]:
+    """The operations of an entry of a kind, as it spells them, letters typed one after the other in one."""
     if kind in CHUNKS:
-        return chunk.messages(spelled)
-    return _messages_of(spelled) if kind in ONE_BY_ONE else ()
+        return chunk.unpacked(spelled)
+    return _read_one_by_one(spelled) if kind in ONE_BY_ONE else ()
 
 
-def runs_of(kind: Kind, spelled: bytes) -> tuple[Run, ...]:
-    """The same, those in one that are letters typed one after the other."""
-    return chunk.runs(spelled) if kind in CHUNKS else tuple(map(of_message, messages_of(kind, spelled)))
+def operations_one_by_one(kind: Kind, spelled: bytes) -> tuple[Operation, ...]:
+    """The same operations one by one."""
+    return chunk.unpacked_one_by_one(spelled) if kind in CHUNKS else operations_of(kind, spelled)
 
 
 @lru_cache(UNFOLDED)
-def _messages_of(spelled: bytes) -> tuple[Message, ...]:
-    """The messages of an entry of before, which was opened."""
-    return tuple(map(Message.read, _split(spelled)))
+def _read_one_by_one(spelled: bytes) -> tuple[Operation, ...]:
+    """The operations of an entry of an older kind."""
+    return tuple(map(Operation.read, _split(spelled)))
 
 
 def _split(spelled: bytes) -> list[bytes]:
@@ -441,7 +436,7 @@ def check_entry(entry: Entry) -> None:
     elif entry.kind is Kind.COPIES:
         _check_copies(entry)
     elif entry.kind is Kind.RENEWED:
-        if entry.first or entry.size or entry.before != NO_HASH or len(entry.spelled) > MOST_SAID:
+        if entry.first or entry.size or entry.before != NO_HASH or len(entry.spelled) > LONGEST_SAID:
             raise Bad("says of a renewed note what can't be")
     elif not entry.size or entry.before == NO_HASH:
         raise Bad("has no messages, or nothing before it")
@@ -452,17 +447,21 @@ def check_entry(entry: Entry) -> None:
 def _check_messages(entry: Entry) -> None:
     """Raises Bad where an entry's messages are spelled wrong, or aren't those of its place."""
     try:
-        if entry.kind not in CHUNKS and not all(map(is_spelled, _split(entry.spelled))):
-            raise Bad("has bytes that are no message")
-        runs = entry.runs
+        operations = entry.operations
     except struct.error as why:
         raise Bad("has messages that are cut short") from why
+    except NoMessage as why:
+        raise Bad("has bytes that are no message") from why
     except NoChunk as why:
         raise Bad("has bytes that are no chunk") from why
     seq = entry.first
-    for run in runs:
-        if run.site != entry.site or run.seq != seq:
+    for one in operations:
+        if one.site != entry.site or one.seq != seq:
             raise Bad("has messages of another place")
-        seq += run.size
+        seq += one.size
     if seq != entry.first + entry.size:
         raise Bad("doesn't have as many messages as it says")
+
+
+# OLD NAMES
+messages_of, runs_of, in_entries = operations_one_by_one, operations_of, chunk.packed_in_parts

@@ -15,7 +15,7 @@ from share.format.presence import RANDOM_BYTES, TOKEN_BYTES
 
 OF_BEFORE = struct.Struct(">16sI")
 # The token, the count, how often it has asked; then what it lacks.
-HEAD, LACK = struct.Struct(">16sII"), struct.Struct(">B32s")
+SAID_HEAD, LACK = struct.Struct(">16sII"), struct.Struct(">B32s")
 MOST_LACKS = 5
 # No version of before takes anything of this length for something that it knows, and it fits when it is sealed.
 BYTES = 216
@@ -58,14 +58,14 @@ def written(one: Said) -> bytes:
     """What a replicator says, as bytes."""
     lacks = b"".join(LACK.pack(*lack) for lack in one.lacks[:MOST_LACKS])
     # Of one length, so that a server's operator can't tell who lacks something.
-    return (HEAD.pack(one.token, one.number, one.asks) + lacks).ljust(BYTES, b"\0")
+    return (SAID_HEAD.pack(one.token, one.number, one.asks) + lacks).ljust(BYTES, b"\0")
 
 
 def read(data: bytes) -> Said | None:
     """What a replicator has said; None where these bytes are something else."""
     if len(data) != BYTES:
         return None
-    ways, end = {int(way): way for way in Way}, HEAD.size + MOST_LACKS * LACK.size
-    lacks = [Lack(ways[way], of) for way, of in LACK.iter_unpack(data[HEAD.size:end]) if way in ways]
-    token, number, asks = HEAD.unpack_from(data)
+    ways, end = {int(way): way for way in Way}, SAID_HEAD.size + MOST_LACKS * LACK.size
+    lacks = [Lack(ways[way], of) for way, of in LACK.iter_unpack(data[SAID_HEAD.size:end]) if way in ways]
+    token, number, asks = SAID_HEAD.unpack_from(data)
     return Said(token, number, asks, lacks)

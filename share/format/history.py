@@ -1,4 +1,4 @@
-"""Messages in a row, kept as they came: as stretches of what has them, of which one may have a million. They are unfolded
+"""Operations in a row, kept as they came: as stretches of what has them, of which one may have a million. They are unpacked
 one entry after the other where somebody looks at them."""
 from array import array
 from bisect import bisect_right
@@ -6,61 +6,60 @@ from collections.abc import Iterable, Iterator, Sequence
 from itertools import chain, islice
 from typing import NamedTuple, Protocol, overload
 
-from share.format.chunk import Run, Writer, of_message
-from share.format.chunk import runs as runs_in
-from share.format.operation import Message
+from share.format.chunk import Writer, unpacked
+from share.format.operation import Operation
 
-# A chunk of fewer messages is handed in with others, since the program takes some lines alone.
+# A chunk of fewer operations is handed in with others where there are many, since a run of the program reads no more than 2^20 lines.
 FEW = 16
 
 
 class Holder(Protocol):
-    """What has messages, each by its place."""
+    """What has operations, each by its place."""
 
-    def between(self, begin: int, end: int) -> Iterator[Message]:
-        """The messages from one place to another."""
+    def between(self, begin: int, end: int) -> Iterator[Operation]:
+        """The operations from one place to another, one by one."""
 
-    def parts(self, begin: int, end: int) -> Iterator[tuple[bytes, Sequence[Run], int]]:
-        """The same in parts: a chunk, or the runs where there is none of just these messages; and how many they are."""
+    def parts(self, begin: int, end: int) -> Iterator[tuple[bytes, Sequence[Operation], int]]:
+        """The same in parts: a chunk, or the operations where there is none of just these; and their number."""
 
 
 class Loose:
-    """Messages that are in no entry yet."""
+    """Operations that are in no entry yet."""
 
-    def __init__(self, messages: Sequence[Message]):
-        self._messages = messages
+    def __init__(self, operations: Sequence[Operation]):
+        self._operations = operations
 
-    def between(self, begin: int, end: int) -> Iterator[Message]:
-        """The messages from one place to another."""
-        return islice(self._messages, begin, end)
+    def between(self, begin: int, end: int) -> Iterator[Operation]:
+        """The operations from one place to another."""
+        return islice(self._operations, begin, end)
 
-    def parts(self, begin: int, end: int) -> Iterator[tuple[bytes, Sequence[Run], int]]:
-        """The same, one by one."""
-        yield b"", [*map(of_message, self._messages[begin:end])], end - begin
+    def parts(self, begin: int, end: int) -> Iterator[tuple[bytes, Sequence[Operation], int]]:
+        """The same in one part."""
+        yield b"", self._operations[begin:end], end - begin
 
 
 class Part(NamedTuple):
-    """The messages of a holder from one place to another."""
+    """The operations of a holder from one place to another."""
 
     holder: Holder
     begin: int
     end: int
 
 
-class Messages(Sequence[Message]):
-    """Messages in a row."""
+class Messages(Sequence[Operation]):
+    """Operations in a row."""
 
-    def __init__(self, messages: Iterable[Message] = (), parts: Iterable[Part] = ()):
-        # Who has the messages of each part, where they begin there, and how many there are up to its end.
+    def __init__(self, operations: Iterable[Operation] = (), parts: Iterable[Part] = ()):
+        # Who has the operations of each part, where they begin there, and the number of all up to its end.
         self._holders: list[Holder] = []
         self._begins, self._ends = array("I"), array("I")
         for part in parts:
             self.add(part)
-        if loose := tuple(messages):
+        if loose := tuple(operations):
             self.add(Part(Loose(loose), 0, len(loose)))
 
     def add(self, part: Part) -> None:
-        """Adds messages at the end."""
+        """Adds operations at the end."""
         holder, begin, end = part
         if begin == end:
             return
@@ -73,63 +72,63 @@ class Messages(Sequence[Message]):
         self._ends.append(before + end - begin)
 
     def parts(self) -> Iterator[Part]:
-        """The messages by what has them."""
+        """The operations by what has them."""
         before = 0
         for holder, begin, end in zip(self._holders, self._begins, self._ends):
             yield Part(holder, begin, begin + end - before)
             before = end
 
-    def runs(self) -> Iterator[Run]:
-        """The messages, those in one that are letters typed one after the other."""
+    def runs(self) -> Iterator[Operation]:
+        """The operations, letters typed one after the other in one."""
         for part in self.parts():
-            for chunk, runs, _ in part.holder.parts(part.begin, part.end):
-                yield from runs_in(chunk) if chunk else runs
+            for chunk, known, _ in part.holder.parts(part.begin, part.end):
+                yield from known or unpacked(chunk)
 
-    def chunks(self) -> Iterator[tuple[bytes, int]]:
-        """Chunks of all of them, and how many each has."""
-        writer, count = Writer(), 0
-        for chunk, runs, size in chain.from_iterable(one.holder.parts(one.begin, one.end) for one in self.parts()):
-            if chunk and size >= FEW:
+    def chunks(self, few: int | None = None) -> Iterator[tuple[bytes, int]]:
+        """Chunks of all of them, and the number that each has: those that came, but for such of few, and new ones of the others."""
+        writer, count, few = Writer(), 0, few or FEW
+        for chunk, known, size in chain.from_iterable(one.holder.parts(one.begin, one.end) for one in self.parts()):
+            if chunk and size >= few:
                 if count:
                     yield bytes(writer.data), count
-                writer, count = Writer(), 0
+                    writer, count = Writer(), 0
                 yield chunk, size
                 continue
-            for run in runs_in(chunk) if chunk else runs:
-                if not writer.add(run):
+            for one in known or unpacked(chunk):
+                if not writer.add(one):
                     yield bytes(writer.data), count
                     writer, count = Writer(), 0
-                    writer.add(run)
-                count += run.size
+                    writer.add(one)
+                count += one.size
         if count:
             yield bytes(writer.data), count
 
     def cut(self, length: int) -> None:
-        """Goes on with the first so many alone."""
+        """Goes on with the first of them alone, up to a length."""
         while self._ends and self._end_before(-1) >= length:
             del self._holders[-1], self._begins[-1], self._ends[-1]
         if self._ends:
             self._ends[-1] = min(self._ends[-1], length)
 
     def _end_before(self, number: int) -> int:
-        """How many messages there are before a part."""
+        """The number of operations before a part."""
         number %= len(self._ends)
         return self._ends[number - 1] if number else 0
 
     def __len__(self) -> int:
         return self._ends[-1] if self._ends else 0
 
-    def __iter__(self) -> Iterator[Message]:
+    def __iter__(self) -> Iterator[Operation]:
         for part in self.parts():
             yield from part.holder.between(part.begin, part.end)
 
     @overload
-    def __getitem__(self, place: int) -> Message: ...
+    def __getitem__(self, place: int) -> Operation: ...
 
     @overload
     def __getitem__(self, place: slice) -> "Messages": ...
 
-    def __getitem__(self, place: int | slice) -> "Message | Messages":
+    def __getitem__(self, place: int | slice) -> "Operation | Messages":
         if isinstance(place, slice):
             return self._between(*place.indices(len(self)))
         place += len(self) if place < 0 else 0
@@ -150,7 +149,7 @@ class Messages(Sequence[Message]):
         found += others
         return found
 
-    def __iadd__(self, others: Iterable[Message]) -> "Messages":
+    def __iadd__(self, others: Iterable[Operation]) -> "Messages":
         for part in others.parts() if isinstance(others, Messages) else Messages(others).parts():
             self.add(part)
         return self
@@ -161,7 +160,7 @@ class Messages(Sequence[Message]):
         return isinstance(other, Sequence) and len(self) == len(other) and all(one == two for one, two in zip(self, other))
 
     def _is_made_as(self, other: "Messages") -> bool:
-        """Whether both have the same stretches of the same holders, so that nobody has to look at the messages."""
+        """Whether both have the same stretches of the same holders, so that nobody has to look at the operations."""
         return (self._begins == other._begins and self._ends == other._ends
                 and all(one is two for one, two in zip(self._holders, other._holders)))
 

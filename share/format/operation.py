@@ -1,177 +1,188 @@
-"""Messages as far as sharing reads them: who sent one, which names it inserts and which it speaks of. The program alone
-spells them.
+"""Operations: what sites did to a note's text, as one type that all of sharing uses.
 
-docs/FORMATS.md has them byte by byte.
+One comes as a message, from the program or in an entry of an older kind, or in a chunk (share/format/chunk.py). It is read once,
+where it comes in. Nothing here makes a message: the program alone does. docs/FORMATS.md has messages byte by byte.
 """
 import struct
 from collections.abc import Iterable, Iterator
 from typing import NamedTuple
 
-from share.text.looks import LONGEST_FONT, MOST_COLOUR
+from share.text.looks import FONT_LETTERS, LONGEST_FONT, MOST_COLOUR
 from share.text.names import Names
 
 TEXT = 1
 INSERT, DELETE, CHANGE_LOOKS, RESTORE = 1, 2, 3, 4
 GREATEST_STAMP = 2**48 - 1
 LONGEST_MESSAGE = 10_297
-# A site's file has so many bytes at most.
+# The greatest size of a site's file.
 MOST_OF_A_SITE = 2**24
-# One message has so many bytes of an insertion at most, and so many ranges.
+# The most bytes that one message inserts, and the most ranges that it names.
 MOST_INSERTED, MOST_RANGES = 4_096, 1_024
 
 HEADER = struct.Struct(">2sBBHHIQ")
-# The cause, where it begins, and how long its font is.
+# The cause, where it begins, and the length of its font's name.
 INSERTION = struct.Struct(">HIIB")
-LENGTH = struct.Struct(">H")
+TWO_BYTES = struct.Struct(">H")
 RANGE = struct.Struct(">HII")
 TAG = b"OT"
-FONT_BYTES = frozenset(b"ABCDEFGHIJKLMNOPQRSTUVWXYZabcdefghijklmnopqrstuvwxyz0123456789.")
-LETTERS = frozenset(b"ABCDEFGHIJKLMNOPQRSTUVWXYZabcdefghijklmnopqrstuvwxyz")
+FONT_BYTES = frozenset(FONT_LETTERS.encode() + b"0123456789.")
+FONT_BEGINS = frozenset(FONT_LETTERS.encode())
 # The looks of a plain character, as an insertion has them.
-DEFAULT_BYTES = b"\x10Oberon10.Scn.Fnt\x01\x00"
+PLAIN_LOOKS = b"\x10Oberon10.Scn.Fnt\x01\x00"
 
 
-class Message(NamedTuple):
-    """A message with the fields of its first 20 bytes that tell its place."""
+class NoMessage(ValueError):
+    """Bytes that are no message of a note's text."""
 
+
+class Operation(NamedTuple):
+    """An operation; or letters that were typed one after the other, each an operation that mentions the letter before it and has
+    the next stamp. All that the first one mentions is mentioned first."""
+
+    kind: int
     site: int
     seq: int
     stamp: int
-    kind: int
-    data: bytes
+    # The number of operations.
+    size: int
+    mentions: tuple[Names, ...]
+    # What is inserted, and where its characters begin.
+    at: int = 0
+    data: bytes = b""
+    # An insertion's looks, or what a change of looks sets, as a message has them.
+    looks: bytes = b""
 
     @classmethod
-    def read(cls, data: bytes) -> "Message":
-        """The message of these bytes; ValueError where they don't begin as one."""
-        if len(data) < HEADER.size or data[:2] != TAG:
-            raise ValueError("no message")
-        _, _, kind, _, site, seq, stamp = HEADER.unpack_from(data)
-        return cls(site, seq, stamp, kind, data)
+    def read(cls, message: bytes) -> "Operation":
+        """The operation of a message; NoMessage where bytes are none of a note's text, as docs/FORMATS.md has it."""
+        if not HEADER.size < len(message) <= LONGEST_MESSAGE:
+            raise NoMessage
+        tag, version, kind, text, site, seq, stamp = HEADER.unpack_from(message)
+        if tag != TAG or version != (2 if kind == RESTORE else 1) or text != TEXT or not (site and seq):
+            raise NoMessage
+        if not 1 <= stamp <= GREATEST_STAMP:
+            raise NoMessage
+        try:
+            if kind == INSERT:
+                mentions, at, looks, data = _insertion(message, site)
+                return cls(kind, site, seq, stamp, 1, mentions, at, data, looks)
+            if kind in (DELETE, CHANGE_LOOKS, RESTORE):
+                looks = _selected(message) if kind == CHANGE_LOOKS else b""
+                return cls(kind, site, seq, stamp, 1, _ranges(message, HEADER.size + len(looks)), looks=looks)
+        except (struct.error, IndexError) as why:
+            raise NoMessage from why
+        raise NoMessage
+
+    @property
+    def new(self) -> Names | None:
+        """The names that are inserted, None where none are."""
+        return Names(self.site, self.at, len(self.data)) if self.data else None
+
+    @property
+    def names(self) -> tuple[Names, ...]:
+        """The names that are inserted, deleted or restored; none of a change of looks."""
+        if self.data:
+            return (Names(self.site, self.at, len(self.data)),)
+        return self.mentions if self.kind in (DELETE, RESTORE) else ()
+
+    @property
+    def may_dress(self) -> bool:
+        """Whether there can be looks after it where there were none: it sets some, or brings characters back."""
+        return self.looks != PLAIN_LOOKS if self.kind == INSERT else self.kind in (CHANGE_LOOKS, RESTORE)
+
+    def part(self, begin: int, end: int) -> "Operation":
+        """The operations from one place to another, of those that it has."""
+        if (begin, end) == (0, self.size):
+            return self
+        length = len(self.data) // self.size
+        at = self.at + begin * length
+        return Operation(self.kind, self.site, self.seq + begin, self.stamp + begin, end - begin,
+                         (Names(self.site, at - 1, 1),) if begin else self.mentions, at,
+                         self.data[begin * length:end * length], self.looks)
+
+    def each(self) -> Iterator["Operation"]:
+        """The operations one by one."""
+        return (self.part(number, number + 1) for number in range(self.size))
 
 
-def is_spelled(data: bytes) -> bool:
-    """Whether bytes are a message of a note's text, as docs/FORMATS.md has it."""
-    if not HEADER.size < len(data) <= LONGEST_MESSAGE:
-        return False
-    tag, version, kind, text, site, seq, stamp = HEADER.unpack_from(data)
-    if tag != TAG or version != (2 if kind == RESTORE else 1) or text != TEXT or not (site and seq):
-        return False
-    if not 1 <= stamp <= GREATEST_STAMP:
-        return False
-    try:
-        if kind == INSERT:
-            return _is_insertion(data, site)
-        if kind in (DELETE, RESTORE):
-            return _are_ranges(data, HEADER.size)
-        return kind == CHANGE_LOOKS and _is_change(data)
-    except (struct.error, IndexError):
-        return False
-
-
-def inserted(message: Message) -> Names | None:
-    """The names that a message inserts, None where it inserts none. The message is spelled rightly."""
-    if message.kind != INSERT:
-        return None
-    _, _, at, font = INSERTION.unpack_from(message.data, HEADER.size)
-    # Behind the font are a colour and an offset.
-    (length,) = LENGTH.unpack_from(message.data, HEADER.size + INSERTION.size + font + 2)
-    return Names(message.site, at, length)
-
-
-def typed(message: Message) -> bytes:
-    """What an insertion inserts, nothing of another message."""
-    names = inserted(message)
-    return message.data[-names.length:] if names else b""
-
-
-def mentioned(message: Message) -> list[Names]:
-    """The names that a message mentions: an insertion's cause, else its ranges. It is spelled rightly."""
-    if message.kind == INSERT:
-        site, at, _, _ = INSERTION.unpack_from(message.data, HEADER.size)
-        return [Names(site, at, 1)] if site else []
-    return list(_ranges(message.data, begin_of_ranges(message.data)))
-
-
-def names_of(message: Message) -> list[Names]:
-    """The names that a message inserts, deletes or restores; none of a change of looks. It is spelled rightly.
-    """
-    if one := inserted(message):
-        return [one]
-    return mentioned(message) if message.kind in (DELETE, RESTORE) else []
-
-
-def length_after(messages: Iterable[Message], length: int) -> int:
-    """How many characters a site has inserted with messages of its own, where there were so many before them."""
-    for names in filter(None, map(inserted, messages)):
-        length = names.at + names.length
+def length_after(operations: Iterable[Operation], length: int) -> int:
+    """The number of characters that a site has inserted with operations of its own, after those of before them."""
+    for one in operations:
+        if one.data:
+            length = one.at + len(one.data)
     return length
-
-
-def may_dress(message: bytes) -> bool:
-    """Whether after a message there can be looks where there were none: it sets some, or brings characters back."""
-    if message[3] == INSERT:
-        return not message.startswith(DEFAULT_BYTES, HEADER.size + INSERTION.size - 1)
-    return message[3] in (CHANGE_LOOKS, RESTORE)
-
-
-def begin_of_ranges(data: bytes) -> int:
-    """Where the set of a message begins that has one."""
-    if data[3] != CHANGE_LOOKS:
-        return HEADER.size
-    selected, begin = data[HEADER.size], HEADER.size + 1
-    if selected & 1:
-        begin += 1 + data[begin]
-    return begin + bool(selected & 2) + bool(selected & 4)
 
 
 def is_font(font: bytes, length: int) -> bool:
     """Whether bytes are the name of a font of this length."""
-    return (len(font) == length and 1 <= length <= LONGEST_FONT and font[0] in LETTERS
+    return (len(font) == length and 1 <= length <= LONGEST_FONT and font[0] in FONT_BEGINS
             and FONT_BYTES.issuperset(font))
 
 
-def _is_insertion(data: bytes, site: int) -> bool:
-    cause_site, cause, at, font = INSERTION.unpack_from(data, HEADER.size)
+def _insertion(message: bytes, site: int) -> tuple[tuple[Names, ...], int, bytes, bytes]:
+    """What an insertion mentions, where its characters begin, its looks, and they themselves."""
+    cause_site, cause, at, font = INSERTION.unpack_from(message, HEADER.size)
     if cause_site == 0 and cause or cause >= MOST_OF_A_SITE or cause_site == site and cause >= at:
-        return False
+        raise NoMessage
     begin = HEADER.size + INSERTION.size
-    if not is_font(data[begin:begin + font], font) or data[begin + font] > MOST_COLOUR:
-        return False
-    (length,) = LENGTH.unpack_from(data, begin + font + 2)
-    return bool(1 <= length <= MOST_INSERTED and at + length <= MOST_OF_A_SITE
-                and len(data) == begin + font + 2 + LENGTH.size + length)
+    if not is_font(message[begin:begin + font], font) or message[begin + font] > MOST_COLOUR:
+        raise NoMessage
+    end = begin + font + 2
+    (length,) = TWO_BYTES.unpack_from(message, end)
+    data = message[end + TWO_BYTES.size:]
+    if not 1 <= length <= MOST_INSERTED or at + length > MOST_OF_A_SITE or len(data) != length:
+        raise NoMessage
+    return (Names(cause_site, cause, 1),) if cause_site else (), at, message[begin - 1:end], data
 
 
-def _is_change(data: bytes) -> bool:
-    selected, begin = data[HEADER.size], HEADER.size + 1
+def _selected(message: bytes) -> bytes:
+    """What a change of looks sets: which of the values, and these."""
+    selected, end = message[HEADER.size], HEADER.size + 1
     if not 1 <= selected <= 7:
-        return False
+        raise NoMessage
     if selected & 1:
-        if not is_font(data[begin + 1:begin + 1 + data[begin]], data[begin]):
-            return False
-        begin += 1 + data[begin]
+        begin, end = end + 1, end + 1 + message[end]
+        if not is_font(message[begin:end], end - begin):
+            raise NoMessage
     if selected & 2:
-        if data[begin] > MOST_COLOUR:
-            return False
-        begin += 1
-    return _are_ranges(data, begin + bool(selected & 4))
+        if message[end] > MOST_COLOUR:
+            raise NoMessage
+        end += 1
+    return message[HEADER.size:end + bool(selected & 4)]
 
 
-def _are_ranges(data: bytes, begin: int) -> bool:
-    (count,) = LENGTH.unpack_from(data, begin)
-    if not 1 <= count <= MOST_RANGES or len(data) != begin + LENGTH.size + count * RANGE.size:
-        return False
+def _ranges(message: bytes, begin: int) -> tuple[Names, ...]:
+    """A set of names, which is the rest of a message."""
+    (count,) = TWO_BYTES.unpack_from(message, begin)
+    if not 1 <= count <= MOST_RANGES or len(message) != begin + TWO_BYTES.size + count * RANGE.size:
+        raise NoMessage
+    found = tuple(map(Names._make, RANGE.iter_unpack(message[begin + TWO_BYTES.size:])))
     before, end = 0, -1
-    for site, at, length in _ranges(data, begin):
+    for site, at, length in found:
         if not site or not length or at + length > MOST_OF_A_SITE:
-            return False
+            raise NoMessage
         # Ranges rise, and those of one site don't touch.
         if site < before or site == before and at <= end:
-            return False
+            raise NoMessage
         before, end = site, at + length
-    return True
+    return found
 
 
-def _ranges(data: bytes, begin: int) -> Iterator[Names]:
-    for site, at, length in RANGE.iter_unpack(data[begin + LENGTH.size:]):
-        yield Names(site, at, length)
+# OLD NAMES
+Message = Operation
+
+
+def inserted(one: Operation) -> Names | None:
+    return one.new
+
+
+def typed(one: Operation) -> bytes:
+    return one.data
+
+
+def mentioned(one: Operation) -> list[Names]:
+    return [*one.mentions]
+
+
+def names_of(one: Operation) -> list[Names]:
+    return [*one.names]

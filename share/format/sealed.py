@@ -30,7 +30,7 @@ except ImportError:
 
 KEY_BYTES = 32
 NONCE_BYTES, TAG_BYTES, SIGNATURE_BYTES = 24, 16, 64
-# What goes to one thread at once, and how many entries are worth threads.
+# The entries that go to one thread at once, and the least that are worth threads.
 SHARE_OF_A_THREAD = 200
 
 

@@ -5,7 +5,7 @@ from typing import NamedTuple
 
 from share.admission.judge import Judge
 from share.format.entry import NO_HASH, Copy
-from share.format.operation import Message, typed
+from share.format.operation import Operation
 
 # So many times a copy may have been copied, and so many messages may be one text.
 MOST_TIMES, MOST_ALIKE = 8, 64
@@ -18,7 +18,7 @@ class One(NamedTuple):
     """A message of an author. Of a number that has two histories several have the same seq."""
 
     copy: Copy
-    message: Message
+    message: Operation
     # The last entry of its history, where that is known.
     last: bytes
 
@@ -31,7 +31,7 @@ class Alike:
         self._left = {one.message: one for one in left}
         self._by_copy = {one.copy: message for message, one in self._left.items()}
         # What doesn't count of an author's number, by its seqs.
-        self._elsewhere: dict[Who, dict[int, list[Message]]] = {}
+        self._elsewhere: dict[Who, dict[int, list[Operation]]] = {}
         # Those that have the bytes of one and stand for it, or it for them, wherever they are; and that which is typed.
         self._same = {message: self._all_of(one) for message, one in self._left.items()}
         one_of = {message: min(one for one in same if self._is_left_out(one)).message for message, same in self._same.items()}
@@ -39,7 +39,7 @@ class Alike:
         # What is typed for each. A copy may have copies, and those that say so may be anybody.
         self.typed_for = {message: _last_of(one, found, MOST_TIMES) or [one] for message, one in one_of.items()}
 
-    def stood_for(self) -> Iterator[tuple[One, Sequence[Message]]]:
+    def stood_for(self) -> Iterator[tuple[One, Sequence[Operation]]]:
         """The messages, here and elsewhere, for which something is typed, and the messages that are typed for them."""
         for message, one in self._left.items():
             yield one, self.typed_for[message]
@@ -64,12 +64,12 @@ class Alike:
                         waiting.append(other)
         return [*found.values()]
 
-    def _like(self, message: Message, of: Copy, last: bytes) -> One | None:
+    def _like(self, message: Operation, of: Copy, last: bytes) -> One | None:
         """The message of an author, a site and a seq that has the bytes of another one; of a history, where that is known."""
-        some: Iterable[Message | None] = [self._judge.message_in(last, of.seq)] if last != NO_HASH else self._of(of)
-        return next((One(of, one, last) for one in some if one and typed(one) == typed(message)), None)
+        some: Iterable[Operation | None] = [self._judge.message_in(last, of.seq)] if last != NO_HASH else self._of(of)
+        return next((One(of, one, last) for one in some if one and one.data == message.data), None)
 
-    def _of(self, of: Copy) -> Iterator[Message]:
+    def _of(self, of: Copy) -> Iterator[Operation]:
         """The messages of an author, a site and a seq."""
         who = of.site, of.author
         if who not in self._elsewhere:
@@ -81,16 +81,16 @@ class Alike:
         if self._judge.message_counts(*of):
             yield self._judge.message(of.site, of.seq)
 
-    def _parts(self, message: Message) -> list[Message]:
+    def _parts(self, message: Operation) -> list[Operation]:
         """What was left out of what stands for a message in several parts, in their order, as the author says."""
-        of, groups = self._left[message].copy, dict[Who, list[Message]]()
-        for copy in self._judge.copies_of(*of, typed(message)):
+        of, groups = self._left[message].copy, dict[Who, list[Operation]]()
+        for copy in self._judge.copies_of(*of, message.data):
             if copy in self._by_copy:
                 groups.setdefault((copy.site, copy.author), []).append(self._by_copy[copy])
-        return next((parts for parts in groups.values() if len(parts) > 1 and b"".join(map(typed, parts)) == typed(message)), [])
+        return next((parts for parts in groups.values() if len(parts) > 1 and b"".join(each.data for each in parts) == message.data), [])
 
 
-def _last_of(message: Message, found: Mapping[Message, Sequence[Message]], most: int) -> list[Message]:
+def _last_of(message: Operation, found: Mapping[Operation, Sequence[Operation]], most: int) -> list[Operation]:
     """The messages that stand for one and for which no others do; nothing where they are too many times copied."""
     if message not in found:
         return [message]

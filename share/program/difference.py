@@ -12,13 +12,12 @@ from typing import NamedTuple
 
 from share.admission.ledger import Line
 from share.format.history import Messages
-from share.format.operation import inserted
 from share.program.site import Site
 from share.text.change import Change, make
 from share.text.names import Names
 
 # Where more stretches than this differ, they aren't told one by one.
-MOST_CHANGES = 2_000
+MOST_DIFFERENCES = 2_000
 
 
 class Shown(NamedTuple):
@@ -30,7 +29,7 @@ class Shown(NamedTuple):
 
 
 class _Same(NamedTuple):
-    """Characters that are in both texts: where they begin in each, and how many they are."""
+    """Characters that are in both texts: where they begin in each, and their number."""
 
     before: int
     now: int
@@ -48,7 +47,7 @@ def differences(before: Shown, now: Shown) -> list[Change] | None:
     changes, at, begin = list[Change](), 0, 0
     same = _same(before.names, now.names, _common_ends(before.messages, now.messages))
     for one in chain(same, [_Same(len(before.text), len(now.text), 0)]):
-        if one.before < at or one.now < begin or len(changes) > MOST_CHANGES:
+        if one.before < at or one.now < begin or len(changes) > MOST_DIFFERENCES:
             return None
         if one.before > at or one.now > begin:
             changes.append(Change(begin, begin + one.before - at, now.text[begin:one.now]))
@@ -93,7 +92,7 @@ def _common_ends(before: Messages, now: Messages) -> Callable[[int], float]:
 
 
 def _lines(messages: Messages) -> dict[int, tuple[Line, int]]:
-    """The line of each site whose messages are in entries, and how many these are."""
+    """The line of each site whose messages are in entries, and the number of these."""
     return {part.holder.site: (part.holder, part.end) for part in messages.parts() if isinstance(part.holder, Line)}
 
 
@@ -101,7 +100,7 @@ def _in_no_entry(messages: Messages) -> Iterator[Names]:
     """What those messages insert that are in no entry yet."""
     for part in messages.parts():
         if not isinstance(part.holder, Line):
-            yield from filter(None, map(inserted, part.holder.between(part.begin, part.end)))
+            yield from (one.new for one in part.holder.between(part.begin, part.end) if one.new)
 
 
 def _common_end(old: tuple[Line, int], new: tuple[Line, int]) -> float:
@@ -116,4 +115,4 @@ def _common_end(old: tuple[Line, int], new: tuple[Line, int]) -> float:
         else:
             high = middle - 1
     last = min(one.lasts[low - 1] if low else 0, end, other_end)
-    return next((names.at for names in map(inserted, one.between(last, end)) if names), math.inf)
+    return next((each.at for each in one.between(last, end) if each.data), math.inf)

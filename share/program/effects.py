@@ -1,19 +1,14 @@
-"""Tells what a message changes in the text: the program is asked where the characters that it names are
-shown, before it and after it. Letters that were typed one after the other are told as one."""
+"""Tells what operations change in the text: the program is asked where the characters that they name are shown, once before they
+are handed in and once after it."""
 import re
 from collections.abc import Iterable, Iterator
 from typing import NamedTuple
 
-from share.format.chunk import Run, Writer
-from share.format.operation import CHANGE_LOOKS, INSERT, Message, names_of
-from share.program.process import Program, characters
+from share.format.operation import DELETE, RESTORE, Operation
+from share.program.process import characters
 from share.text.change import Change
 from share.text.errors import Trouble
-from share.text.names import Names
-
-
-# So many letters that were typed one after the other are handed in and told as one.
-MANY = 4
+from share.text.names import Names, united, without
 
 
 class Stretch(NamedTuple):
@@ -24,48 +19,32 @@ class Stretch(NamedTuple):
     data: bytes
 
 
-def count(runs: Iterable[Run]) -> int:
-    """How many names messages speak of."""
-    return sum(len(run.data) if run.data else sum(one.length for one in run.mentions) for run in runs if run.kind != CHANGE_LOOKS)
+class Named(NamedTuple):
+    """The names of the characters that operations hide or show again and that were there before these; and of those that they
+    insert."""
 
+    old: list[Names]
+    new: list[Names]
 
-def told_as_one(runs: Iterable[Run]) -> Iterator[Run | Message]:
-    """Messages, of which letters that were typed one after the other are one."""
-    for run in runs:
-        if run.size < MANY:
-            yield from run.messages()
-        else:
-            yield run
+    @classmethod
+    def by(cls, operations: Iterable[Operation]) -> "Named":
+        """What operations name."""
+        old, new = list[Names](), list[Names]()
+        for one in operations:
+            if one.data:
+                new.append(Names(one.site, one.at, len(one.data)))
+            elif one.kind in (DELETE, RESTORE):
+                old += one.mentions
+        new = united(new)
+        return cls(without(united(old), new), new)
 
+    def many(self) -> int:
+        """The number of these characters."""
+        return sum(one.length for some in self for one in some)
 
-def asking(program: Program, message: Message | Run) -> list[bytes]:
-    """The events that hand a message in, or letters, and ask what it changes."""
-    if isinstance(message, Run):
-        writer = Writer()
-        writer.add(message)
-        return [program.unpacking(bytes(writer.data)), program.event("where", message.site, message.at, message.size)]
-    where = [program.event("where", *names) for names in names_of(message)]
-    # What is inserted is shown nowhere before that.
-    earlier = [] if message.kind == INSERT else where
-    return [*earlier, program.taking(message.data), *where]
-
-
-def answered(message: Message | Run, answers: list[list[bytes]]) -> tuple[bytes, list[Change] | None]:
-    """What a message was answered, or letters, by the answers to these events, and what it changed; None where others
-    that waited came in with it."""
-    if isinstance(message, Run):
-        taken, found = answers
-        is_new = taken[-1] == b"unpacked %d 0 0" % message.size
-        return taken[-1], told([Names(message.site, message.at, message.size)], [[]], [stretches(found)]) if is_new else None
-    middle = 0 if message.kind == INSERT else len(answers) // 2
-    answer = answers[middle][-1]
-    if not answer.startswith(b"taken "):
-        return answer, []
-    if not answer.startswith(b"taken 0 "):
-        return answer, None
-    earlier = [stretches(found) for found in answers[:middle]] or [[]]
-    later = [stretches(found) for found in answers[middle + 1:]]
-    return answer, told(names_of(message), earlier, later)
+    def told(self, earlier: list[list[Stretch]], later: list[list[Stretch]]) -> list[Change]:
+        """What changed, by where the old ones were shown before, and where all are since."""
+        return changes_between(self.old + self.new, earlier + [[] for _ in self.new], later)
 
 
 def stretches(answer: list[bytes]) -> list[Stretch]:
@@ -79,7 +58,7 @@ def stretches(answer: list[bytes]) -> list[Stretch]:
             for _, at, position, length, printed in words]
 
 
-def told(names: list[Names], earlier: list[list[Stretch]], later: list[list[Stretch]]) -> list[Change]:
+def changes_between(names: list[Names], earlier: list[list[Stretch]], later: list[list[Stretch]]) -> list[Change]:
     """What went from a text and what came to it, each as a change of the text that those before it leave."""
     both = [*zip(names, earlier, later)]
     went = sorted(part for one, was, now in both for part in _only(one, was, now))

@@ -5,11 +5,12 @@ import pathlib
 from collections.abc import Iterator
 from typing import NamedTuple
 
-# Who waits for a process looks at it so often, in seconds; after so many looks in a row that find it still it is given up.
-LOOK_SECONDS = 0.5
+# The seconds between two looks at a process that is waited for, and the number of looks in a row that find it still before it is
+# given up.
+LOOK_AGAIN_SECONDS = 0.5
 MOST_STILL = 4
-# One that works is given up after so many seconds of a processor.
-MOST_SECONDS = 30
+# The seconds of a processor after which one that works is given up.
+MOST_WORKING_SECONDS = 30
 # It runs or wants to, or waits for the disk.
 WORKING = ("R", "D")
 TICKS = os.sysconf("SC_CLK_TCK")
@@ -39,7 +40,7 @@ class Patience:
             self._first = self._last = seconds
         self._still = 0 if works or seconds > self._last else self._still + 1
         self._last = seconds
-        return self._still >= MOST_STILL or seconds >= self._first + MOST_SECONDS
+        return self._still >= MOST_STILL or seconds >= self._first + MOST_WORKING_SECONDS
 
     def is_still(self) -> bool:
         """Whether the last look found that the process does nothing."""
@@ -48,11 +49,11 @@ class Patience:
 
 def seen(process: int) -> Seen:
     """What is seen of a process; nothing works where it has ended."""
-    found = [*_stats(process)]
+    found = [*_stats_of(process)]
     return Seen(any(words[0] in WORKING for words in found), sum(int(words[11]) + int(words[12]) for words in found) / TICKS)
 
 
-def _stats(process: int) -> Iterator[list[str]]:
+def _stats_of(process: int) -> Iterator[list[str]]:
     """What the system says of a process, and of those that it started, after their names."""
     folder = pathlib.Path(f"/proc/{process}")
     with contextlib.suppress(OSError):
@@ -60,4 +61,4 @@ def _stats(process: int) -> Iterator[list[str]]:
         # Not every system says which these are.
         for thread in (folder / "task").glob("*/children"):
             for child in thread.read_text(encoding="ascii").split():
-                yield from _stats(int(child))
+                yield from _stats_of(int(child))

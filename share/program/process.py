@@ -11,7 +11,7 @@ import time
 from collections.abc import Callable
 
 from share.format.operation import TEXT
-from share.program.patience import LOOK_SECONDS, Patience
+from share.program.patience import LOOK_AGAIN_SECONDS, Patience
 from share.text.errors import Trouble
 
 # Not resolved: where it is installed a link leads to the version of the moment.
@@ -22,11 +22,11 @@ RUNS_BUILT, BUILDS = TOP / "bin" / "built", TOP / "bin" / "site_cli"
 BUILT_FROM = "built-from"
 NOT_PROVED = "not proved"
 NOTHING_BUILT = "Nothing is built here. Run bin/site_cli < demo/two-sites.script first: it builds the program."
-# A run takes so many lines; then another run has to go on.
-MOST_LINES = 2**20
+# The most lines that one run reads; then a fresh one takes over.
+MOST_LINES_READ = 2**20
 PIPE = 1 << 20
 F_SETPIPE_SZ = 1031
-CLOSE_SECONDS = 1
+END_SECONDS = 1
 # In a clock's number: that it is a process's processor time.
 CLOCK_OF_A_PROCESS = 2
 # The lines of an answer that others follow.
@@ -69,7 +69,7 @@ def is_unproved(words: list[str]) -> bool:
 
 
 def make_ready() -> None:
-    """Has the program be built where none is, which standard error tells of."""
+    """Builds the program where there is none, which standard error reports."""
     if os.environ.get("VIALSHOAL_PROGRAM") or os.access(built(), os.X_OK) or not os.access(BUILDS, os.X_OK):
         return
     if subprocess.run([BUILDS], stdin=subprocess.DEVNULL, stdout=subprocess.DEVNULL, check=False).returncode:
@@ -108,7 +108,7 @@ class Program:
         part: list[bytes] = []
         patience = Patience(self.process.pid)
         while len(answers) < len(events):
-            read, write, _ = select.select([self._out], [self._in] if script else [], [], LOOK_SECONDS)
+            read, write, _ = select.select([self._out], [self._in] if script else [], [], LOOK_AGAIN_SECONDS)
             if not (read or write):
                 self._wait(patience)
                 continue
@@ -133,17 +133,9 @@ class Program:
         parts += [b"%d" % word if isinstance(word, int) else word for word in words]
         return b" ".join(parts)
 
-    def taking(self, message: bytes) -> bytes:
-        """The event that hands a message in."""
-        return self.event("take", message.hex().encode())
-
-    def unpacking(self, chunk: bytes) -> bytes:
-        """The event that hands a chunk of messages in."""
-        return self.event("unpack", chunk.hex().encode())
-
     def text(self) -> bytes:
         """What the site shows."""
-        return shown(self.ask([self.event("text")])[0])
+        return text_in(self.ask([self.event("text")])[0])
 
     def processor_seconds(self) -> float:
         """The processor time that the process has used."""
@@ -178,7 +170,7 @@ class Program:
             if pipe:
                 pipe.close()
         try:
-            self.process.wait(CLOSE_SECONDS)
+            self.process.wait(END_SECONDS)
         except subprocess.TimeoutExpired:
             self.process.kill()
             self.process.wait()
@@ -197,7 +189,7 @@ def escaped(data: bytes) -> bytes:
     return b"".join(ESCAPES[byte] for byte in data)
 
 
-def shown(answer: list[bytes]) -> bytes:
+def text_in(answer: list[bytes]) -> bytes:
     """The text that an answer to `text` prints."""
     words = answer[-1].split(b" ", 2)
     if words[0] != b"text" or len(words) < 2:

@@ -5,9 +5,8 @@ from collections.abc import Iterable
 from contextlib import suppress
 from typing import NamedTuple, TypeVar
 
-from share.format.chunk import Run
 from share.format.history import Messages
-from share.format.operation import CHANGE_LOOKS, DELETE, INSERT, RESTORE
+from share.format.operation import CHANGE_LOOKS, DELETE, INSERT, RESTORE, Operation
 from share.program.site import Site
 from share.text.change import boundary
 from share.text.errors import Trouble
@@ -16,15 +15,15 @@ from share.text.names import Names
 from share.text.rope import Measured
 from share.text.units import Units
 
-# So many texts as they were are kept.
-KEPT = 64
+# The texts as they were that are kept.
+MOST_KEPT_TEXTS = 64
 # The number under which is replayed. Nothing is typed there.
 REPLAYING = 1
 DID = {INSERT: "typed", DELETE: "deleted", RESTORE: "restored", CHANGE_LOOKS: "looked"}
 
 
-class Step(NamedTuple):
-    """Messages of a site in a row that go on with one another, what they did, and to how many bytes."""
+class HistoryStep(NamedTuple):
+    """Messages of a site in a row that go on with one another, what they did, and the number of bytes it was done to."""
 
     begin: int
     end: int
@@ -62,7 +61,7 @@ class Replays:
         self._at = 0
 
     def past(self, history: Messages, at: int) -> Past:
-        """The text as it was after so many messages."""
+        """The text as it was after a number of messages."""
         if history[:len(self._history)] != self._history:
             # All was taken in anew, in another order.
             self.close()
@@ -70,7 +69,7 @@ class Replays:
         if at not in self._kept:
             self._kept[at] = self._replayed(at)
         self._kept.move_to_end(at)
-        while len(self._kept) > KEPT:
+        while len(self._kept) > MOST_KEPT_TEXTS:
             self._kept.popitem(last=False)
         return self._kept[at]
 
@@ -94,32 +93,32 @@ class Replays:
         return Past(text, wrote(self._site, 0, len(text)))
 
 
-def steps(history: Messages, begin: int, most: int) -> list[Step]:
-    """The steps of a history from a message on, so many at most."""
-    found: list[Step] = []
-    last: Run | None = None
-    for run in history[begin:].runs():
-        size = len(run.data) or sum(names.length for names in run.mentions)
-        if last and _goes_on(last, run):
-            found[-1] = found[-1]._replace(end=begin + run.size, size=found[-1].size + size)
+def steps(history: Messages, begin: int, most: int) -> list[HistoryStep]:
+    """The steps of a history from a message on, up to a number of them."""
+    found: list[HistoryStep] = []
+    last: Operation | None = None
+    for one in history[begin:].runs():
+        size = len(one.data) or sum(names.length for names in one.mentions)
+        if last and _is_same_step(last, one):
+            found[-1] = found[-1]._replace(end=begin + one.size, size=found[-1].size + size)
         elif len(found) == most:
             break
         else:
-            found.append(Step(begin, begin + run.size, run.site, DID[run.kind], size))
-        last, begin = run, begin + run.size
+            found.append(HistoryStep(begin, begin + one.size, one.site, DID[one.kind], size))
+        last, begin = one, begin + one.size
     return found
 
 
-def as_line(step: Step) -> dict[str, int]:
+def as_line(step: HistoryStep) -> dict[str, int]:
     """A step as editors are told it: what wasn't done was done to 0 bytes."""
     return {"begin": step.begin, "end": step.end, "site": step.site, **dict.fromkeys(DID.values(), 0), step.did: step.size}
 
 
-def _goes_on(last: Run, run: Run) -> bool:
+def _is_same_step(last: Operation, one: Operation) -> bool:
     """Whether messages are of the same step as those before them: typing that goes on, or more of the same kind."""
-    if (last.site, last.kind) != (run.site, run.kind):
+    if (last.site, last.kind) != (one.site, one.kind):
         return False
-    return not last.data or [*run.mentions] == [Names(last.site, last.at + len(last.data) - 1, 1)]
+    return not last.data or [*one.mentions] == [Names(last.site, last.at + len(last.data) - 1, 1)]
 
 
 def wrote(site: Site, begin: int, end: int) -> list[Wrote]:

@@ -14,7 +14,7 @@ from typing import NamedTuple
 from share.admission.judge import Judge, rank
 from share.admission.left_out import LeftOut, not_copied
 from share.format.entry import Author, Copied, Copy, Entry, Form
-from share.format.operation import Message, inserted, mentioned, typed
+from share.format.operation import Operation
 from share.program.alike import Alike, One
 from share.program.effects import Stretch
 from share.program.site import Edited, Site, one_by_one
@@ -49,14 +49,14 @@ class Lost(NamedTuple):
 
     site: int
     author: bytes
-    messages: list[Message]
+    messages: list[Operation]
     # The hash of the last entry that has some of them; the others are before it.
     last: bytes
 
     @property
     def text(self) -> bytes:
         """What they insert."""
-        return b"".join(map(typed, self.messages))
+        return b"".join(each.data for each in self.messages)
 
 
 def left_out(judge: Judge, anew: Set[Made] = frozenset()) -> list[LeftOut]:
@@ -72,7 +72,7 @@ def lost(judge: Judge, anew: Set[Made] = frozenset()) -> list[Lost]:
         stretches.setdefault((one.site, one.author), []).append((one.first, one.last))
     found: list[Lost] = []
     for (site, author), seqs in stretches.items():
-        wanted, known, branches = _merged(seqs), set[Message](), dict[bytes, list[Message]]()
+        wanted, known, branches = _merged(seqs), set[Operation](), dict[bytes, list[Operation]]()
         for entry in sorted(judge.not_counting(site, author), key=lambda entry: entry.first):
             messages = [message for message in _not_copied(entry, judge) if _is_in(message.seq, wanted) and message not in known
                         and not judge.is_let_through(message)]
@@ -83,7 +83,7 @@ def lost(judge: Judge, anew: Set[Made] = frozenset()) -> list[Lost]:
     return found
 
 
-def _not_copied(entry: Entry, judge: Judge) -> list[Message]:
+def _not_copied(entry: Entry, judge: Judge) -> list[Operation]:
     """Those of an entry's messages for which no copy stands that counts. Those of another history may have the same seqs."""
     seqs = {seq for one in not_copied(entry, 1, 0, judge.copies, judge) for seq in range(one.first, one.last + 1)}
     return [message for message in entry.messages if message.seq in seqs]
@@ -179,15 +179,15 @@ class Typed(NamedTuple):
     """What was typed again: the edit, and which of its messages stands for which other one."""
 
     edited: Edited
-    copies: list[tuple[One, Message]]
+    copies: list[tuple[One, Operation]]
 
 
 def type_again(found: Iterable[Lost], entries: Sequence[Entry], judge: Judge, site: Site) -> Typed:
     """Types at a site, which has all that counts of these entries, what was left out."""
     ones = [One(Copy(of.author, message.site, message.seq), message, of.last)
-            for of in found for message in of.messages if inserted(message)]
+            for of in found for message in of.messages if message.new]
     left = {one.message: one.copy.author for one in ones}
-    made, edits, alike = dict[Message, Message](), list[Edited](), Alike(ones, judge)
+    made, edits, alike = dict[Operation, Operation](), list[Edited](), Alike(ones, judge)
     for _ in range(MOST_VIEWS):
         view = _View(entries, judge, left)
         # Others may have the same names in each view.
@@ -199,7 +199,7 @@ def type_again(found: Iterable[Lost], entries: Sequence[Entry], judge: Judge, si
     return Typed(one_by_one(edits), [(old, made[part]) for old, parts in alike.stood_for() for part in parts if part in made])
 
 
-def words_of(copies: Iterable[tuple[One, Message]], form: Form, author: Author, last: Entry) -> list[Entry]:
+def words_of(copies: Iterable[tuple[One, Operation]], form: Form, author: Author, last: Entry) -> list[Entry]:
     """The entries by which the author of copies, of which this is the last entry, says what they stand for."""
     found: dict[tuple[bytes, int, bytes], list[tuple[int, int, int]]] = {}
     for one, new in copies:
@@ -217,7 +217,7 @@ def words_of(copies: Iterable[tuple[One, Message]], form: Form, author: Author, 
 class _View:
     """The note as it was for those whose text was left out, as far as one view has it."""
 
-    def __init__(self, entries: Sequence[Entry], judge: Judge, left: Mapping[Message, bytes]):
+    def __init__(self, entries: Sequence[Entry], judge: Judge, left: Mapping[Operation, bytes]):
         wanted = {(message.site, author) for message, author in left.items()}
         before = _with_those_before(entries, {
             entry.hash for who in wanted for entry in judge.not_counting(*who)
@@ -228,7 +228,7 @@ class _View:
         # Those that are left out, in the order of their stamps; and the characters that are here alone, by their sites.
         self.lost = {message: None for message in sorted(others, key=lambda one: (one.stamp, one.site)) if message in left}
         self._alone: dict[int, list[Names]] = {}
-        for one in united(new for message in others if (new := inserted(message))):
+        for one in united(new for message in others if (new := message.new)):
             self._alone.setdefault(one.site, []).append(one)
 
     def common(self, names: Names) -> list[Names]:
@@ -253,7 +253,7 @@ class _Root:
     """What was left out and hangs below one place of the text that is there: where it begins in the view, and how many
     characters of the text are before it."""
 
-    def __init__(self, first: Message):
+    def __init__(self, first: Operation):
         self.messages = [first]
         self.at = self.place = 0
 
@@ -268,9 +268,9 @@ class _Insertions:
 
     def __init__(self) -> None:
         self._begins: dict[int, list[int]] = {}
-        self._messages: dict[int, list[Message]] = {}
+        self._messages: dict[int, list[Operation]] = {}
 
-    def add(self, message: Message) -> None:
+    def add(self, message: Operation) -> None:
         """Adds one."""
         site, begin, _ = _new(message)
         begins, messages = self._begins.setdefault(site, []), self._messages.setdefault(site, [])
@@ -278,13 +278,13 @@ class _Insertions:
         begins.insert(at, begin)
         messages.insert(at, message)
 
-    def of(self, names: Names) -> Sequence[Message]:
+    def of(self, names: Names) -> Sequence[Operation]:
         """Those that have some of these characters, or are before the first of them."""
         begins = self._begins.get(names.site, [])
         first = max(0, bisect_right(begins, names.at) - 1)
         return self._messages.get(names.site, [])[first:bisect_left(begins, names.at + names.length)]
 
-    def one(self, name: Name) -> Message | None:
+    def one(self, name: Name) -> Operation | None:
         """The one that has a character."""
         return next((one for one in self.of(Names(*name, 1)) if name[1] < _new(one).at + _new(one).length), None)
 
@@ -292,13 +292,13 @@ class _Insertions:
 class _Typist:
     """Types messages again at a site, and knows which characters stand for which."""
 
-    def __init__(self, site: Site, made: dict[Message, Message], parts: Mapping[Message, Sequence[Message]]):
+    def __init__(self, site: Site, made: dict[Operation, Operation], parts: Mapping[Operation, Sequence[Operation]]):
         self.site, self._made, self._parts = site, made, parts
         self._done = _Insertions()
         # What is typed next, each at its place.
-        self._waiting: dict[Message, int] = {}
+        self._waiting: dict[Operation, int] = {}
 
-    def type_in_a_row(self, messages: Iterable[Message], place: int) -> Edited:
+    def type_in_a_row(self, messages: Iterable[Operation], place: int) -> Edited:
         """Types messages one after the other from a place on."""
         edits = list[Edited]()
         for message in messages:
@@ -322,7 +322,7 @@ class _Typist:
                 after, place = (new.site, new.at + new.length - 1), place + _new(part).length
         return one_by_one([*edits, self._type()])
 
-    def _lacking(self, message: Message, edits: list[Edited]) -> Sequence[Message]:
+    def _lacking(self, message: Operation, edits: list[Edited]) -> Sequence[Operation]:
         """What is to be typed for a message: itself, or what stands for it; nothing where that was typed."""
         parts = self._parts.get(message, [message])
         if parts != [message]:
@@ -344,14 +344,14 @@ class _Typist:
                     at += old.length
         return found
 
-    def _put(self, place: int, message: Message) -> Edited:
+    def _put(self, place: int, message: Operation) -> Edited:
         self._waiting[message] = place
         return self._type() if len(self._waiting) >= MOST_AT_ONCE else Edited([])
 
     def _type(self) -> Edited:
         """Types what waits."""
         waiting, self._waiting = self._waiting, {}
-        edits = self.site.replace([(place, place, typed(message)) for message, place in waiting.items()]) if waiting else []
+        edits = self.site.replace([(place, place, message.data) for message, place in waiting.items()]) if waiting else []
         for message, edited in zip(waiting, edits):
             if edited.refused is not None:
                 raise Refused(edited.refused)
@@ -394,7 +394,7 @@ def _by_looks(looks: Iterable[Dressed], shown: Sequence[tuple[Stretch, int]]) ->
 
 def _roots(view: _View) -> list[_Root]:
     """What a view has that was left out, by what it hangs below that wasn't."""
-    roots, of, done = list[_Root](), dict[Message, _Root](), _Insertions()
+    roots, of, done = list[_Root](), dict[Operation, _Root](), _Insertions()
     for message in view.lost:
         cause = _cause(message)
         if cause and (above := done.one(cause)):
@@ -436,13 +436,13 @@ def _place_after(view: _View, old: Site, site: Site, begin: int, end: int, place
     return place
 
 
-def _cause(message: Message) -> Name | None:
+def _cause(message: Operation) -> Name | None:
     """The character after which a message inserts; none at the begin of the text."""
-    return next(((one.site, one.at) for one in mentioned(message)), None)
+    return next(((one.site, one.at) for one in message.mentions), None)
 
 
-def _new(message: Message) -> Names:
+def _new(message: Operation) -> Names:
     """The characters that an insertion inserts."""
-    names = inserted(message)
+    names = message.new
     assert names
     return names

@@ -1,42 +1,40 @@
-"""A site: a process of the program, and the messages that it was handed.
+"""A site: a process of the program, and the operations that it was handed.
 
-The messages that it takes in are those that count, in an order in which each is after its causes, so it takes
-in each at once.
+Those that it takes in are those that count, in an order in which each is after its causes, so it takes in each at once. What came
+in a chunk is handed to it as that chunk.
 """
 import pathlib
 import re
+import subprocess
 import time
 from collections.abc import Callable, Iterable, Iterator, Sequence
 from itertools import accumulate, chain, islice
 from typing import NamedTuple
 
-from share.format.chunk import Run as Typed
 from share.format.history import Messages
-from share.format.operation import MOST_RANGES, Message
-from share.program.effects import Stretch, answered, asking, count, stretches, told, told_as_one
+from share.format.operation import MOST_INSERTED, MOST_RANGES, Operation
+from share.program.effects import Named, Stretch, stretches, changes_between
 from share.program.intake import Coming
-from share.program.process import MOST_LINES, Ended, Program, escaped, shown
+from share.program.process import MOST_LINES_READ, Ended, Program, escaped, text_in
 from share.text.change import Change, boundary
 from share.text.errors import Trouble
 from share.text.looks import Looks, Run, in_words
 from share.text.names import Names, halves, united
 
-# One message has so many bytes of an insertion at most.
-MOST_BYTES = 4_096
 # What more messages together change isn't told.
 SLICE = 2_000
-# So many chunks are handed in at once.
-CHUNKS = 50
+# The chunks that are handed in at once, at most.
+CHUNKS_AT_ONCE = 50
 # How the packed file is called.
-KEPT = "text"
-# What messages change is told while they have so many names at most. In a note of 1 MB that takes 4 to 8 ms
+PACKED_NAME = "text"
+# The most names of messages of which it is told what they change. In a note of 1 MB that takes 4 to 8 ms
 # where the names stand in long stretches, shown or hidden, and 110 to 230 where each is by itself; to ask
 # for the whole text takes 60 to 90, and up to 240 on a busy machine.
 MOST_NAMES = 10_000
-# So many messages a note has at most when it is edited: the program has half a gigabyte for a million.
+# The most messages of a note that is edited: the program has half a gigabyte for a million.
 MOST_MESSAGES = 2_000_000
-# Where there is room for one in so many alone it is told that the note is nearly full.
-NEARLY = 20
+# A note is said to be nearly full where it has room for no more than one message in this number.
+ONE_IN = 20
 SCATTERED, NO_MEMORY, TOO_MANY = 12, 7, 21
 # The answer to a chunk of which some are taken in, some were held already, and none waits.
 UNPACKED = re.compile(rb"unpacked (\d+) (\d+) 0")
@@ -49,24 +47,85 @@ Told = list[Change] | bytes
 class Edited(NamedTuple):
     """The messages that an edit made, and the number by which the program refused the rest of it."""
 
-    messages: list[Message]
+    messages: list[Operation]
     refused: int | None = None
+
+
+class Lasting:
+    """The program, of which a fresh run takes over where one ended, or has read all the lines that it reads. That one is given what
+    the one before it was handed and made, which is a history."""
+
+    def __init__(self, number: int, folder: pathlib.Path | None, history: Messages, stands: Callable[[bool], None]):
+        self._number, self._folder, self._history, self._stands, self._is_still = number, folder, history, stands, False
+        self.run = Program(number, folder, self._stands_still)
+
+    @property
+    def process(self) -> "subprocess.Popen[bytes]":
+        """The process of now."""
+        return self.run.process
+
+    def event(self, verb: str, *words: int | bytes) -> bytes:
+        """An event of the site, of its one text."""
+        return self.run.event(verb, *words)
+
+    def unpacking(self, chunks: Iterable[tuple[bytes, int]]) -> list[bytes]:
+        """The events that hand chunks in."""
+        return [self.run.event("unpack", chunk.hex().encode()) for chunk, _ in chunks]
+
+    def ask(self, events: list[bytes]) -> list[list[bytes]]:
+        """The program's answers. Where it ended it is started again: none of these events was kept, so they
+        are asked anew."""
+        try:
+            if self.run.lines + len(events) > MOST_LINES_READ:
+                self.start_again()
+            try:
+                return self.run.ask(events)
+            except Ended:
+                self.start_again()
+            return self.run.ask(events)
+        except Ended as why:
+            raise Trouble("The program ended, was started again and ended again. All that was typed before "
+                          "is kept.") from why
+        finally:
+            self._goes_on()
+
+    def start_again(self) -> None:
+        """Has a fresh run do all that this one did."""
+        self.run.close()
+        self.run = Program(self._number, self._folder, self._stands_still)
+        chunks = self._history.chunks()
+        try:
+            while some := [*islice(chunks, CHUNKS_AT_ONCE)]:
+                self.run.ask(self.unpacking(some))
+        except Ended as why:
+            raise Trouble("The program ended and couldn't be started again. All that was typed before is "
+                          "kept.") from why
+
+    def _stands_still(self) -> None:
+        if not self._is_still:
+            self._is_still = True
+            self._stands(True)
+
+    def _goes_on(self) -> None:
+        if self._is_still:
+            self._is_still = False
+            self._stands(False)
 
 
 class Site:
     """One text at one site."""
 
-    def __init__(self, number: int, messages: Iterable[Message] = (), progress: Progress = lambda done: None,
+    def __init__(self, number: int, messages: Iterable[Operation] = (), progress: Progress = lambda done: None,
                  folder: pathlib.Path | None = None, packed: Messages | None = None,
                  stands: Callable[[bool], None] = lambda stands: None):
         """A site with these messages, after those that its packed file has, which is in a folder. It is told at once that the
         program stands still, and that it answers again."""
-        self.number, self._folder, self._stands, self._is_still = number, folder, stands, False
-        # All that the program was handed and made; a program that ended is given it again.
+        self.number = number
+        # All that the program was handed and made.
         self.history = Messages()
-        self._program = Program(number, folder, self._stands_still)
+        self._program = Lasting(number, folder, self.history, stands)
         # A program that doesn't know chunks is told of as the note is opened. These bytes are none.
-        if self._ask([self._program.unpacking(b"\0")])[0][-1] != b"refused 1":
+        if self._ask(self._program.unpacking([(b"\0", 0)]))[0][-1] != b"refused 1":
             raise Trouble("The program is too old: it can't read chunks of messages. Build it anew, with "
                           "bin/site_cli < demo/two-sites.script, and open the note again.")
         before = len(packed) if packed else 0
@@ -76,7 +135,7 @@ class Site:
 
     def _reopen(self, packed: Messages, progress: Progress) -> None:
         """Goes on from the packed file, or where that can't be has its messages handed in."""
-        if not self._program.folder or self._ask([self._program.event("reopen", KEPT.encode())])[0] != [b"ok"]:
+        if not self._program.run.folder or self._ask([self._program.event("reopen", PACKED_NAME.encode())])[0] != [b"ok"]:
             self.take(packed, progress=progress)
             return
         self.history += packed
@@ -85,23 +144,23 @@ class Site:
     @property
     def is_unproved(self) -> bool:
         """Whether the program is known to be one that isn't proved."""
-        return self._program.is_unproved
+        return self._program.run.is_unproved
 
     def keep(self) -> dict[int, int]:
-        """Has the program write the packed file; how many messages of each site it has, nothing where it isn't written."""
-        if not self._program.folder:
+        """Has the program write the packed file; the number of each site's messages in it, nothing where it isn't written."""
+        if not self._program.run.folder:
             return {}
-        fronts, kept = self._ask([self._program.event("front"), self._program.event("keep", KEPT.encode(), b"packed")])
+        fronts, kept = self._ask([self._program.event("front"), self._program.event("keep", PACKED_NAME.encode(), b"packed")])
         if kept != [b"ok"]:
             return {}
         return {int(site): int(seq) for _, site, seq in (line.split() for line in fronts[:-1])}
 
-    def take(self, messages: Iterable[Message], looks: bool = False,
+    def take(self, messages: Iterable[Operation], looks: bool = False,
              progress: Progress = lambda done: None) -> Told:
         """Takes in messages. To one who looks at the text it tells what that has become."""
         coming = messages if isinstance(messages, Messages) else Messages(messages)
         if not looks or len(coming) > SLICE:
-            self._hand_in_chunks(coming, progress)
+            self._hand_in(coming, progress)
             return self.text() if looks else []
         changes = self._take_few(coming)
         return self.text() if changes is None else changes
@@ -117,31 +176,33 @@ class Site:
         return self.text() if changes is None else changes
 
     def _take_first(self, coming: Coming, changes: list[Change] | None) -> list[Change] | None:
-        """Takes in a few messages from the front; the changes so far with theirs, None where one isn't known."""
-        (some, chunk), before, worked = coming.first(), len(self.history), self._program.processor_seconds()
+        """Takes in a few operations from the front; the changes so far with theirs, None where one isn't known."""
+        some, before, worked = coming.first(), len(self.history), self._program.run.processor_seconds()
         found: list[Change] | None = None
         try:
             if changes is None:
-                self._unpacked(self._ask([self._program.unpacking(chunk)])[0][-1], some)
+                self._hand_in(some)
             else:
                 found = self._take_few(some)
         finally:
             coming.drop(len(self.history) - before)
-        coming.pace.took(self._program.processor_seconds() - worked)
+        coming.pace.took(self._program.run.processor_seconds() - worked)
         return None if changes is None or found is None else changes + found
 
     def _take_few(self, coming: Messages) -> list[Change] | None:
-        """Takes in messages; what they changed, None where that isn't known."""
-        runs = [*coming.runs()]
-        if is_full(len(self.history)) or count(runs) > MOST_NAMES:
-            self._hand_in_chunks(coming)
+        """Takes in operations; what they changed, None where that isn't known."""
+        named = Named.by(coming.runs())
+        if is_full(len(self.history)) or named.many() > MOST_NAMES:
+            self._hand_in(coming)
             return None
-        changes = self._hand_in([*told_as_one(runs)])
-        self.history += coming
-        return changes
+        chunks, before = [*coming.chunks(few=1)], self._asking_where(named.old)
+        answers = self._ask([*before, *self._program.unpacking(chunks), *self._asking_where(named.old + named.new)])
+        earlier, later = answers[:len(before)], answers[len(before) + len(chunks):]
+        is_new = self._unpacked(answers[len(before):len(before) + len(chunks)], chunks, coming)
+        return named.told([*map(stretches, earlier)], [*map(stretches, later)]) if is_new else None
 
     def insert(self, position: int, data: bytes) -> Edited:
-        """Types bytes after the first so many of the text. Each message has whole characters alone."""
+        """Types bytes at a position of the text. Each message has whole characters alone."""
         parts = [*split(data)]
         places = accumulate(map(len, parts), initial=position)
         return one_by_one(self._edit("type", place, escaped(part)) for place, part in zip(places, parts))
@@ -169,7 +230,7 @@ class Site:
 
     def _sent(self, answers: list[list[bytes]]) -> Edited:
         """What an edit has made that was answered so."""
-        messages = [Message.read(bytes.fromhex(line.split()[2].decode())) for answer in answers for line in answer[:-1]]
+        messages = [Operation.read(bytes.fromhex(line.split()[2].decode())) for answer in answers for line in answer[:-1]]
         self.history += messages
         refused = [int(answer[-1].split()[-1]) for answer in answers if answer[-1] != b"ok"]
         return Edited(messages, refused[0] if refused else None)
@@ -185,12 +246,11 @@ class Site:
     def look(self, looks: Looks, names: Iterable[Names]) -> Edited:
         """Gives looks to those of these characters that are shown, wherever that is: no event gives them by names."""
         found = sorted((one.position, one.position + len(one.data)) for part in self.where(united(names)) for one in part)
-        return one_by_one(self._of_stretch("looks", begin, end, in_words(looks)) for begin, end in _joined(found))
+        return one_by_one(self._of_stretch("looks", begin, end, in_words(looks)) for begin, end in _joined_places(found))
 
     def where(self, names: list[Names]) -> list[list[Stretch]]:
         """Where characters are shown, of each of these names."""
-        answers = self._ask([self._program.event("where", *one) for one in names])
-        return [stretches(answer) for answer in answers]
+        return [*map(stretches, self._ask(self._asking_where(names)))]
 
     def names(self, begin: int, end: int) -> list[Names]:
         """The names of what is shown from one position to a later one, in their order there."""
@@ -204,47 +264,41 @@ class Site:
 
     def text(self) -> bytes:
         """What the program shows."""
-        return shown(self._ask([self._program.event("text")])[0])
+        return text_in(self._ask([self._program.event("text")])[0])
 
     def go_back(self, length: int) -> None:
-        """Goes on as if what was made here since the history had so many messages hadn't been, since it isn't kept."""
+        """Goes on as if what was made here since the history had this length hadn't been, since it isn't kept."""
         self.history.cut(length)
-        self._start_again()
+        self._program.start_again()
 
     def close(self) -> None:
         """Ends the program."""
-        self._program.close()
+        self._program.run.close()
 
-    def _hand_in(self, messages: list[Message | Typed]) -> list[Change] | None:
-        """What messages changed that the program takes in, or letters that were typed one after the other; None where that can't be
-        told."""
-        asked = [asking(self._program, message) for message in messages]
-        found = iter(self._ask([*chain.from_iterable(asked)]))
-        done = [answered(message, [*islice(found, len(events))]) for message, events in zip(messages, asked)]
-        for message, (answer, _) in zip(messages, done):
-            is_taken = (_is_unpacked(answer, message.size) if isinstance(message, Typed) else
-                        answer in (b"taken 0 0", b"repeat"))
-            if not is_taken:
-                raise _not_taken(answer, message)
-        if any(changed is None for _, changed in done):
-            return None
-        return [one for _, changed in done for one in changed or ()]
-
-    def _hand_in_chunks(self, messages: Messages, progress: Progress = lambda done: None) -> None:
-        """Has the program take in messages in chunks."""
-        chunks, done = messages.chunks(), 0
-        while some := [*islice(chunks, CHUNKS)]:
-            answers = self._ask([self._program.unpacking(chunk) for chunk, _ in some])
-            for (_, size), (answer,) in zip(some, answers):
-                self._unpacked(answer, messages[done:done + size])
-                done += size
+    def _hand_in(self, coming: Messages, progress: Progress = lambda done: None) -> None:
+        """Has the program take in operations, and doesn't ask what they change."""
+        chunks, done = coming.chunks(), 0
+        while some := [*islice(chunks, CHUNKS_AT_ONCE)]:
+            end = done + sum(size for _, size in some)
+            self._unpacked(self._ask(self._program.unpacking(some)), some, coming[done:end])
+            done = end
             progress(done)
 
-    def _unpacked(self, answer: bytes, messages: Messages) -> None:
-        """Checks the answer to a chunk of messages, and adds them to the history."""
-        if not _is_unpacked(answer, len(messages)):
-            raise _not_taken(answer, messages[0])
-        self.history += messages
+    def _unpacked(self, answers: Iterable[list[bytes]], chunks: Iterable[tuple[bytes, int]], coming: Messages) -> bool:
+        """Adds to the history what the program took in, by its answers to chunks; whether none of that was held before."""
+        done, is_new = 0, True
+        try:
+            for (answer,), (_, size) in zip(answers, chunks):
+                found = UNPACKED.fullmatch(answer)
+                if found is None or int(found[1]) + int(found[2]) != size:
+                    raise _not_taken(answer, coming[done])
+                done, is_new = done + size, is_new and found[2] == b"0"
+        finally:
+            self.history += coming[:done]
+        return is_new
+
+    def _asking_where(self, names: Iterable[Names]) -> list[bytes]:
+        return [self._program.event("where", *one) for one in names]
 
     def _lines(self, verb: str, *words: int) -> list[list[str]]:
         """The words of each line that a question is answered by."""
@@ -260,7 +314,7 @@ class Site:
                             for begin in range(0, len(names), MOST_RANGES))
         if not edited.messages:
             return edited, []
-        return edited, told(names, earlier, self.where(names)) if tells else self.text()
+        return edited, changes_between(names, earlier, self.where(names)) if tells else self.text()
 
     def _of_names(self, verb: str, names: Sequence[Names]) -> Edited:
         """An edit by names, which a line has room for; where those that change are too scattered for one message, half
@@ -287,72 +341,30 @@ class Site:
         return TOO_MANY if is_full(len(self.history)) else None
 
     def _ask(self, events: list[bytes]) -> list[list[bytes]]:
-        """The program's answers. Where it ended it is started again: none of these events was kept, so they
-        are asked anew."""
-        try:
-            if self._program.lines + len(events) > MOST_LINES:
-                self._start_again()
-            try:
-                return self._program.ask(events)
-            except Ended:
-                self._start_again()
-            return self._program.ask(events)
-        except Ended as why:
-            raise Trouble("The program ended, was started again and ended again. All that was typed before "
-                          "is kept.") from why
-        finally:
-            self._goes_on()
-
-    def _stands_still(self) -> None:
-        if not self._is_still:
-            self._is_still = True
-            self._stands(True)
-
-    def _goes_on(self) -> None:
-        if self._is_still:
-            self._is_still = False
-            self._stands(False)
-
-    def _start_again(self) -> None:
-        """Has another run of the program do all that this one did."""
-        self._program.close()
-        self._program = Program(self.number, self._folder, self._stands_still)
-        chunks = self.history.chunks()
-        try:
-            while some := [*islice(chunks, CHUNKS)]:
-                self._program.ask([self._program.unpacking(chunk) for chunk, _ in some])
-        except Ended as why:
-            raise Trouble("The program ended and couldn't be started again. All that was typed before is "
-                          "kept.") from why
+        return self._program.ask(events)
 
 
 def is_full(many: int) -> bool:
-    """Whether a note of so many messages has as many as a note may have."""
+    """Whether a note has as many messages as one may have."""
     return many >= MOST_MESSAGES
 
 
 def is_nearly_full(many: int) -> bool:
-    """Whether a note of so many messages has room for few more."""
-    return many * NEARLY >= MOST_MESSAGES * (NEARLY - 1)
+    """Whether a note has room for few messages more."""
+    return many * ONE_IN >= MOST_MESSAGES * (ONE_IN - 1)
 
 
-def _is_unpacked(answer: bytes, size: int) -> bool:
-    """Whether this is the answer to a chunk of so many messages that was taken in."""
-    found = UNPACKED.fullmatch(answer)
-    return found is not None and int(found[1]) + int(found[2]) == size
-
-
-def _not_taken(answer: bytes, message: Message | Typed) -> Trouble:
+def _not_taken(answer: bytes, operation: Operation) -> Trouble:
     """What is told where the program doesn't take in what counts: a message, or one of those from it on."""
     if answer.split()[-1:] == [b"%d" % NO_MEMORY] and answer.split()[0] in (b"refused", b"partial"):
         return Trouble("There is no memory for what came in. End other programs and open the note again.")
-    return Trouble(f"The program answered message {message.seq} of site {message.site} with "
+    return Trouble(f"The program answered message {operation.seq} of site {operation.site} with "
                    f"{answer[:60].decode('ascii', 'replace')}. Save the note as a file.")
 
 
 def one_by_one(edits: Iterable[Edited]) -> Edited:
     """Several edits as one, up to the first one that is refused."""
-    messages: list[Message] = []
+    messages: list[Operation] = []
     for edited in edits:
         messages += edited.messages
         if edited.refused is not None:
@@ -362,15 +374,15 @@ def one_by_one(edits: Iterable[Edited]) -> Edited:
 
 def split(data: bytes) -> Iterator[bytes]:
     """Bytes in parts that fit a message, parted between characters of UTF-8."""
-    while len(data) > MOST_BYTES:
-        end = boundary(data, MOST_BYTES)
+    while len(data) > MOST_INSERTED:
+        end = boundary(data, MOST_INSERTED)
         yield data[:end]
         data = data[end:]
     if data:
         yield data
 
 
-def _joined(places: Iterable[tuple[int, int]]) -> list[tuple[int, int]]:
+def _joined_places(places: Iterable[tuple[int, int]]) -> list[tuple[int, int]]:
     """Stretches that rise, by where they begin and end; those that follow one another in one."""
     out: list[tuple[int, int]] = []
     for begin, end in places:

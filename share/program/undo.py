@@ -4,7 +4,7 @@ from collections.abc import Iterable, Iterator
 from dataclasses import dataclass, field
 from itertools import accumulate, chain
 
-from share.format.operation import INSERT, Message, names_of
+from share.format.operation import Operation
 from share.program.site import Edited, Site, Told, one_by_one
 from share.text.looks import Looked, Looks
 from share.text.names import Names, united, without
@@ -34,11 +34,11 @@ class Undoing:
         self._done: list[Step] = []
         self._undone: list[Step] = []
 
-    def made(self, messages: Iterable[Message], joins: bool) -> None:
+    def made(self, operations: Iterable[Operation], joins: bool) -> None:
         """Notes an edit, perhaps as one with the edit before it."""
         step = Step()
-        for message in messages:
-            (step.came if message.kind == INSERT else step.went).extend(names_of(message))
+        for one in operations:
+            (step.came if one.data else step.went).extend(one.names)
         step = Step(united(step.came), united(step.went))
         if joins and self._done:
             step = self._done.pop().and_then(step)
@@ -71,12 +71,12 @@ def do(site: Site, step: Step, redo: bool, told: list[Told], changed: Step) -> E
     came = step.came if redo else without(step.went, step.came)
     went = step.went if redo else step.came
     goes, comes = (changed.went, changed.came) if redo else (changed.came, changed.went)
-    messages: list[Message] = []
+    messages: list[Operation] = []
     # Others may have deleted some meanwhile, or brought some back: the messages say what changes.
     for by_names, names, changes in (site.delete, went, goes), (site.restore, came, comes):
         edited, became = by_names(names)
         messages += edited.messages
-        changes += chain.from_iterable(map(names_of, edited.messages))
+        changes += chain.from_iterable(one.names for one in edited.messages)
         told.append(became)
         if edited.refused is not None:
             return Edited(messages, edited.refused)

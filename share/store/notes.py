@@ -12,10 +12,11 @@ from typing import NamedTuple
 from share.admission.judge import Judge
 from share.admission.ledger import Row
 from share.admission.left_out import LeftOut
-from share.format.entry import GREATEST_SITE, NOTE_BYTES, Entry, Form, in_entries
+from share.format.chunk import packed_in_parts
+from share.format.entry import GREATEST_SITE, NOTE_BYTES, Entry, Form
 from share.format.history import Messages
 from share.format.link import Link, is_network
-from share.format.operation import Message, length_after
+from share.format.operation import Operation
 from share.log.base import Unreachable
 from share.program import retyping
 from share.program.site import is_full
@@ -196,27 +197,26 @@ def existing(name: str) -> pathlib.Path:
     return path
 
 
-def by_site(messages: Iterable[Message]) -> dict[int, list[Message]]:
+def by_site(messages: Iterable[Operation]) -> dict[int, list[Operation]]:
     """Messages of each site, in their order."""
-    found: dict[int, list[Message]] = {}
+    found: dict[int, list[Operation]] = {}
     for message in messages:
         found.setdefault(message.site, []).append(message)
     return {site: sorted(of_site, key=lambda one: one.seq) for site, of_site in found.items()}
 
 
-def in_rows(form: Form, messages: Mapping[int, Sequence[Message]]) -> list[Row]:
+def in_rows(form: Form, messages: Mapping[int, Sequence[Operation]]) -> list[Row]:
     """Entries of messages that were made elsewhere. Their numbers are claimed by authors whom nobody can be."""
     return [row for site, of_site in messages.items() for row in _rows(form, of_site, Client(site, form.new_author()))]
 
 
-def _rows(form: Form, messages: Sequence[Message], client: Client) -> Iterator[Row]:
+def _rows(form: Form, messages: Sequence[Operation], client: Client) -> Iterator[Row]:
     """A claim, and entries of messages."""
-    last, length = form.claim(client.site, client.author), 0
+    last = form.claim(client.site, client.author)
     yield Row(0, last, False)
-    for part in in_entries(messages):
-        last = form.entry(last, part, client.author, length=length)
+    for part in packed_in_parts(messages):
+        last = form.entry(last, part, client.author)
         yield Row(0, last, False)
-        length = length_after(part, length)
 
 
 def _make(name: str, path: pathlib.Path, url: str | None, link: Link | None, password: str | None) -> Sequence[str]:
@@ -235,7 +235,7 @@ def _make(name: str, path: pathlib.Path, url: str | None, link: Link | None, pas
     return ()
 
 
-def _make_new(path: pathlib.Path, about: About, messages: Mapping[int, Sequence[Message]]) -> None:
+def _make_new(path: pathlib.Path, about: About, messages: Mapping[int, Sequence[Operation]]) -> None:
     """Makes the file of a new note that has these messages."""
     form = about.form()
     free = [number for number in range(1, GREATEST_SITE + 1) if number not in messages]

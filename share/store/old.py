@@ -17,7 +17,7 @@ from collections.abc import Iterator, Mapping, Sequence
 from typing import NamedTuple
 
 from share.format.entry import GREATEST_SITE
-from share.format.operation import LONGEST_MESSAGE, Message, is_spelled
+from share.format.operation import LONGEST_MESSAGE, NoMessage, Operation
 from share.log.base import START, Lost, Unreachable
 from share.log.bounded import Bound
 from share.log.redis import Stream
@@ -44,7 +44,7 @@ TRIES, AGAIN_SECONDS = 20, 0.1
 class Old(NamedTuple):
     """The messages of each site from the first one on, without a gap, and sentences of what was left out."""
 
-    messages: Mapping[int, Sequence[Message]]
+    messages: Mapping[int, Sequence[Operation]]
     left_out: Sequence[str]
 
 
@@ -91,7 +91,7 @@ class _Gathered:
 
     def __init__(self) -> None:
         self.left_out: list[str] = []
-        self._held: dict[tuple[int, int], Message] = {}
+        self._held: dict[tuple[int, int], Operation] = {}
         self._bad: set[object] = set()
 
     def add(self, place: object, data: bytes | None, checksum: object) -> None:
@@ -117,7 +117,7 @@ class _Gathered:
         """What has come together."""
         if self._bad:
             self.left_out.append(f"{entries(len(self._bad))} of the log can't be read, and left out.")
-        sites: dict[int, list[Message]] = {}
+        sites: dict[int, list[Operation]] = {}
         for (site, seq), message in sorted(self._held.items()):
             of_site = sites.setdefault(site, [])
             if seq == len(of_site) + 1:
@@ -137,26 +137,29 @@ class _Gathered:
             return
         for message in messages:
             held = self._held.setdefault((site, message.seq), message)
-            if held.data != message.data:
+            if held != message:
                 # What follows builds on the other one.
                 rest = counted(len(messages) - message.seq + 1, "edit")
                 self.left_out.append(f"{path} has {rest} that others never had under this number, and they were left "
                                      "out.")
                 return
 
-    def _has(self, message: Message) -> bool:
+    def _has(self, message: Operation) -> bool:
         held = self._held.get((message.site, message.seq))
-        return held is not None and held.data == message.data
+        return held == message
 
 
 def _log_of(data: pathlib.Path, name: str) -> pathlib.Path:
     return data / "logs" / f"{name}.db"
 
 
-def _message(data: bytes | None, checksum: object) -> Message | None:
-    if data is None or zlib.crc32(data) != checksum or not is_spelled(data):
+def _message(data: bytes | None, checksum: object) -> Operation | None:
+    if data is None or zlib.crc32(data) != checksum:
         return None
-    message = Message.read(data)
+    try:
+        message = Operation.read(data)
+    except NoMessage:
+        return None
     return message if message.site <= GREATEST_SITE else None
 
 
@@ -240,13 +243,13 @@ def _read_stream(wire: Wire, key: str) -> _Gathered | None:
     raise Unreachable(f"{wire.url} loses entries as they are read.")
 
 
-def _records(path: pathlib.Path, site: int) -> tuple[list[Message], bool]:
+def _records(path: pathlib.Path, site: int) -> tuple[list[Operation], bool]:
     """The messages of a journal, and whether something that is none is after them: what a crash cut short, which was
     never sent or shown, or damage."""
     data = path.read_bytes()
     if not data.startswith(JOURNAL_BEGIN):
         return [], any(data) and not JOURNAL_BEGIN.startswith(data)
-    messages: list[Message] = []
+    messages: list[Operation] = []
     end = len(JOURNAL_BEGIN)
     while end + RECORD.size <= len(data):
         length, checksum = RECORD.unpack_from(data, end)

@@ -10,9 +10,8 @@ from contextlib import closing, suppress
 from typing import NamedTuple
 
 from share.admission.judge import Judge
-from share.format.chunk import Run as Typing
 from share.format.history import Messages
-from share.format.operation import INSERT, Message
+from share.format.operation import INSERT, Operation
 from share.format.presence import clean_name
 from share.log.base import Lost, Unreachable, open_log
 from share.program.site import Site, split
@@ -131,14 +130,14 @@ def _joined(stretches: Iterable[Stretch]) -> Iterator[Stretch]:
         yield last._replace(data=bytes(data))
 
 
-def _typed(stretches: Iterable[Stretch]) -> Iterator[Message]:
+def _typed(stretches: Iterable[Stretch]) -> Iterator[Operation]:
     """Messages that type stretches one after the other."""
     seqs, lengths, stamp = dict[int, int](), dict[int, int](), 0
-    before: list[Names] = []
+    before: tuple[Names, ...] = ()
     for site, looks, data in stretches:
         for part in split(data):
             seqs[site], stamp = seqs.get(site, 0) + 1, stamp + 1
             at = lengths.get(site, 0)
-            yield from Typing(INSERT, site, seqs[site], stamp, 1, before, at, part, looks).messages()
+            yield Operation(INSERT, site, seqs[site], stamp, 1, before, at, part, looks)
             lengths[site] = at + len(part)
-            before = [Names(site, lengths[site] - 1, 1)]
+            before = (Names(site, lengths[site] - 1, 1),)

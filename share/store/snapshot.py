@@ -14,7 +14,7 @@ from share.admission.judge import Judge
 from share.admission.ledger import Line
 from share.format.entry import digest
 from share.format.history import Messages, Part
-from share.program.site import KEPT, Site
+from share.program.site import PACKED_NAME, Site
 from share.store.atomic import PRIVATE
 from share.store.note_file import Disk, make_folder
 
@@ -52,7 +52,7 @@ def fronts_of(disk: Disk, judge: Judge, site: int, folder: pathlib.Path | None) 
     """How far a site's packed file goes, where it can be gone on from; else nothing."""
     noted = disk.packed(site)
     try:
-        if not (folder and noted and digest((folder / KEPT).read_bytes()) == noted[0]):
+        if not (folder and noted and digest((folder / PACKED_NAME).read_bytes()) == noted[0]):
             return {}
         found = [*FRONT.iter_unpack(noted[1])]
     except (OSError, struct.error):
@@ -69,8 +69,8 @@ def keep(disk: Disk, judge: Judge, site: Site) -> None:
         fronts = site.keep()
         found = [(of, seq, judge.entry_of(of, seq)) for of, seq in fronts.items()]
         if found and all(by for _, _, by in found):
-            (folder / KEPT).chmod(PRIVATE)
-            disk.note_packed(site.number, digest((folder / KEPT).read_bytes()),
+            (folder / PACKED_NAME).chmod(PRIVATE)
+            disk.note_packed(site.number, digest((folder / PACKED_NAME).read_bytes()),
                              b"".join(FRONT.pack(of, seq, by or b"") for of, seq, by in found))
 
 

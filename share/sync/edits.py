@@ -1,8 +1,9 @@
 """Edits that are made here: each is kept in the note's file before anyone sees it."""
 from collections.abc import Callable, Sequence
 
-from share.format.entry import Copy, Entry, Form, in_entries
-from share.format.operation import Message, length_after
+from share.format.chunk import packed_in_parts
+from share.format.entry import Copy, Entry, Form
+from share.format.operation import Message
 from share.program.site import Edited, Site
 from share.program.trace import Traced, trace
 from share.store.note_file import Anew, Client, Unkept
@@ -98,11 +99,10 @@ class OwnEdits:
     def _in_entries(self, messages: Sequence[Message]) -> list[Entry]:
         """Messages as entries that follow the last one."""
         judge, own = self._holdings.judge, self._numbers.own
-        made, before, length = list[Entry](), self.last, judge.length(own.site)
-        for part in in_entries(messages, length):
-            before = self._form.entry(before, part, own.author, judge.built_on(part), length)
+        made, before = list[Entry](), self.last
+        for part in packed_in_parts(messages, judge.length(own.site)):
+            before = self._form.entry(before, part, own.author, judge.built_on(part.operations))
             made.append(before)
-            length = length_after(part, length)
         return made
 
     def _keep_or_go_back(self, messages: Sequence[Message], says: Says, before: int) -> None:

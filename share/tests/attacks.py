@@ -16,10 +16,9 @@ from collections.abc import Callable, Iterable, Iterator, Sequence
 from typing import NamedTuple
 
 from share.format import chunk
-from share.format.chunk import Run
 from share.format.entry import GREATEST_SITE, HEAD, MOST_BYTES, Author, Bad, Entry, Form, Kind, digest
 from share.format.heartbeat import OF_BEFORE
-from share.format.operation import DEFAULT_BYTES, DELETE, INSERT, MOST_RANGES
+from share.format.operation import DELETE, INSERT, MOST_RANGES, PLAIN_LOOKS, Operation
 from share.text.names import Names
 
 # Of what somebody types at the front so many letters fit an entry, each by itself; of what is typed on, so many.
@@ -48,7 +47,7 @@ class Hostile:
         # The numbers that nobody has claimed, but for the one that stays nobody's as long as others are left.
         self.free = iter([site for site in [*range(GREATEST_SITE - 1, 0, -1), NOBODY] if site not in taken])
         # Stamps from here on are above those of the note as it is.
-        self.stamp = max((run.stamp + run.size for entry in self.entries() if entry.size for run in entry.runs), default=1)
+        self.stamp = max((run.stamp + run.size for entry in self.entries() if entry.size for run in entry.operations), default=1)
 
     def entries(self) -> list[Entry]:
         """What the log has."""
@@ -94,7 +93,7 @@ class Hostile:
         author = self.form.new_author()
         return self.form.claim(self.site(), author), author
 
-    def entry(self, before: Entry, author: Author, runs: Sequence[Run], on: bytes = b"") -> Entry:
+    def entry(self, before: Entry, author: Author, runs: Sequence[Operation], on: bytes = b"") -> Entry:
         """An entry of messages that follow an entry."""
         writer = chunk.Writer()
         if not all(writer.add(run) for run in runs):
@@ -108,16 +107,16 @@ class Hostile:
         return self.form._closed(head, self.rng.randbytes(size), author)
 
 
-def letters(site: int, stamps: Iterable[int], seq: int = 1, at: int = 0, letter: bytes = b"Q") -> Iterator[Run]:
+def letters(site: int, stamps: Iterable[int], seq: int = 1, at: int = 0, letter: bytes = b"Q") -> Iterator[Operation]:
     """Letters, each of them typed at the front."""
     for number, stamp in enumerate(stamps):
-        yield Run(INSERT, site, seq + number, stamp, 1, [], at + number, letter, DEFAULT_BYTES)
+        yield Operation(INSERT, site, seq + number, stamp, 1, (), at + number, letter, PLAIN_LOOKS)
 
 
-def typed(site: int, seq: int, stamp: int, many: int) -> Run:
+def typed(site: int, seq: int, stamp: int, many: int) -> Operation:
     """Letters that are typed one after the other from a site's begin on."""
-    mentions = [Names(site, seq - 2, 1)] if seq > 1 else []
-    return Run(INSERT, site, seq, stamp, many, mentions, seq - 1, b"a" * many, DEFAULT_BYTES)
+    mentions = (Names(site, seq - 2, 1),) if seq > 1 else ()
+    return Operation(INSERT, site, seq, stamp, many, mentions, seq - 1, b"a" * many, PLAIN_LOOKS)
 
 
 def square(hostile: Hostile, sites: int = SITES_OF_SQUARE) -> Iterator[bytes]:
@@ -147,7 +146,7 @@ def waiting(hostile: Hostile, *names: list[Names]) -> Iterator[bytes]:
     """A site whose messages mention what isn't there."""
     claim, author = hostile.claim()
     yield claim.raw
-    runs = [Run(DELETE, claim.site, seq, hostile.stamp + seq, 1, of_one) for seq, of_one in enumerate(names, 1)]
+    runs = [Operation(DELETE, claim.site, seq, hostile.stamp + seq, 1, tuple(of_one)) for seq, of_one in enumerate(names, 1)]
     yield hostile.entry(claim, author, runs, on=secrets.token_bytes(32)).raw
 
 

@@ -4,13 +4,16 @@ It was written from what the rules say, and shares no code with what it is compa
 in as a whole; what counts of it comes out.
 """
 import hashlib
-from collections.abc import Callable, Iterable, Iterator, Mapping
+from collections.abc import Callable, Iterable, Iterator, Mapping, Sequence
 from dataclasses import dataclass
 from itertools import chain
 from typing import NamedTuple
 
+from share.format.chunk import packed, packed_in_parts
 from share.format.entry import HEAD, NO_HASH, Author, Entry, Form, Kind
-from share.format.operation import Message, typed
+from share.format.operation import NoMessage, Operation
+from share.program.process import Program
+from share.text.names import Names
 
 LEAP = 1 << 20
 INSERT, DELETE, CHANGE_LOOKS, RESTORE = 1, 2, 3, 4
@@ -97,8 +100,8 @@ class Answer:
     # The entries of each site that hold, its claim first.
     chains: dict[int, list[Entry]]
     # The messages of each site that are let through, and those that are next.
-    through: dict[int, list[Message]]
-    following: dict[int, list[Message]]
+    through: dict[int, list[Operation]]
+    following: dict[int, list[Operation]]
     # The stamp of the Insert of each character that is there, and the hash of its entry.
     stamps: dict[Name, int]
     inserted_by: dict[Name, bytes]
@@ -110,16 +113,16 @@ class Answer:
 
     def length(self, site: int) -> int:
         """How many characters of a site are there."""
-        return sum(reading(one.data).length for one in self.through.get(site, []))
+        return sum(reading(spelled(one)).length for one in self.through.get(site, []))
 
-    def is_let_through(self, message: Message) -> bool:
+    def is_let_through(self, message: Operation) -> bool:
         """Whether a message is among those that are let through."""
         return message in self.through.get(message.site, [])
 
-    def is_wrong(self, message: Message) -> bool:
+    def is_wrong(self, message: Operation) -> bool:
         """Whether a message that is next at its site can never be let through. As where a message is taken
         in, its place is looked at first, then whether all that it mentions is there, then its stamp."""
-        read, before = reading(message.data), self.through[message.site]
+        read, before = reading(spelled(message)), self.through[message.site]
         if before and message.stamp <= before[-1].stamp:
             return True
         if read.kind == INSERT and read.at != self.length(message.site):
@@ -133,30 +136,30 @@ class Answer:
             return any(site == message.site for site, _ in lacking)
         return self._sees_the_same(message) and any(self.stamps[name] >= message.stamp for name in spoken_of)
 
-    def is_right(self, message: Message) -> bool:
+    def is_right(self, message: Operation) -> bool:
         """Whether the message that is next at its site is let through."""
         return (not self.is_wrong(message) and message.stamp <= self.greatest + LEAP
                 and all(name in self.stamps for name in self._spoken_of(message)) and self._sees_the_same(message))
 
-    def entry_of(self, message: Message) -> Entry:
+    def entry_of(self, message: Operation) -> Entry:
         """The entry of the message that is next at its site."""
         return next(entry for entry in self.chains[message.site] if message in entry.messages)
 
-    def _spoken_of(self, message: Message) -> set[Name]:
+    def _spoken_of(self, message: Operation) -> set[Name]:
         """The characters that have to be there before the message that is next at its site."""
-        names = set(reading(message.data).mentioned())
+        names = set(reading(spelled(message)).mentioned())
         entry = self.entry_of(message)
         if entry.on and message == entry.messages[0]:
-            names |= {name for one in entry.messages for name in reading(one.data).mentioned() if name[0] != entry.site}
+            names |= {name for one in entry.messages for name in reading(spelled(one)).mentioned() if name[0] != entry.site}
         return names
 
-    def _sees_the_same(self, message: Message) -> bool:
+    def _sees_the_same(self, message: Operation) -> bool:
         """Whether the characters that the entry of a message mentions are those that its author saw. They are
         there."""
         entry = self.entry_of(message)
         return not entry.on or message != entry.messages[0] or entry.on == built_on(entry.messages, self.inserted_by)
 
-    def wrong(self) -> list[Message]:
+    def wrong(self) -> list[Operation]:
         """The messages that end their sites' chains."""
         return [messages[0] for messages in self.following.values() if messages and self.is_wrong(messages[0])]
 
@@ -176,7 +179,7 @@ class Answer:
         kept = {entry.hash for entry in [*at_hand, *chain.from_iterable(self.chains.values())]}
         # The characters that were left out, as far as each site has them.
         ends: dict[int, int] = {}
-        for read in (reading(one.data) for entry in entries if entry.hash not in kept for one in entry.messages):
+        for read in (reading(spelled(one)) for entry in entries if entry.hash not in kept for one in entry.messages):
             ends[read.site] = max(ends.get(read.site, 0), read.at + read.length)
         # All that a site would have inserted whose next message is left out is left out with it.
         left_out: set[int] = set()
@@ -197,15 +200,15 @@ class Answer:
         for site in self._blocked_by_what_was_left_out(entries):
             held = self.held_up(site, told)
             lost += [(entry, one) for entry in self.chains[site] for one in entry.messages if one in held]
-        return sorted((one.site, entry.author, one.seq, reading(one.data).length) for entry, one in lost
+        return sorted((one.site, entry.author, one.seq, reading(spelled(one)).length) for entry, one in lost
                       if not self._is_copied(entry, one, known))
 
-    def _has_just(self, messages: tuple[Message, ...]) -> bool:
+    def _has_just(self, messages: tuple[Operation, ...]) -> bool:
         """Whether an entry that counts has the same messages."""
         return any(entry.messages == messages and set(messages) <= set(self.through[messages[0].site])
                    for entry in self.chains.get(messages[0].site, []))
 
-    def _is_copied(self, entry: Entry, message: Message, known: Mapping[bytes, Entry]) -> bool:
+    def _is_copied(self, entry: Entry, message: Operation, known: Mapping[bytes, Entry]) -> bool:
         """Whether a copy of a message of an entry counts: by the word of its author, or since it has all that was typed, as one
         message or as all those of one author and site together."""
         others: dict[tuple[int, bytes], dict[int, bytes]] = {}
@@ -224,21 +227,21 @@ class Answer:
                     if is_authors:
                         return True
                     if found and by:
-                        others.setdefault((found.site, one.copied.by), {})[found.seq] = typed(found)
-        return bool(typed(message)) and any(
-            typed(message) in (b"".join(parts[seq] for seq in sorted(parts)), *parts.values()) for parts in others.values())
+                        others.setdefault((found.site, one.copied.by), {})[found.seq] = found.data
+        return bool(message.data) and any(
+            message.data in (b"".join(parts[seq] for seq in sorted(parts)), *parts.values()) for parts in others.values())
 
     def _hashes(self) -> set[bytes]:
         """The hashes of the entries that hold."""
         return {entry.hash for entry in chain.from_iterable(self.chains.values())}
 
-    def _counting(self, author: bytes, site: int, seq: int) -> Message | None:
+    def _counting(self, author: bytes, site: int, seq: int) -> Operation | None:
         """The message of an author, a site and a seq, if it counts."""
         if site not in self.chains or self.chains[site][0].author != author:
             return None
         return next((one for one in self.through[site] if one.seq == seq), None)
 
-    def held_up(self, site: int, entries: list[Entry]) -> list[Message]:
+    def held_up(self, site: int, entries: list[Entry]) -> list[Operation]:
         """The messages of a site that aren't let through and aren't wrong, but those of which one of these entries says
         that they were made anew."""
         messages, chain = self.following.get(site, []), self.chains.get(site, [])
@@ -249,7 +252,7 @@ class Answer:
         up_to = max([one.messages[-1].seq for one in chain if one.messages and one.hash in said], default=0)
         return [one for one in messages if one.seq > up_to]
 
-    def _builds_on(self, message: Message, ends: dict[int, int], left_out: set[int]) -> bool:
+    def _builds_on(self, message: Operation, ends: dict[int, int], left_out: set[int]) -> bool:
         """Whether a message builds on characters that were left out: it lacks some of a site, of which it mentions what
         was left out, or which is left out from here on; or others are in their place. What is held back for its stamp isn't
         looked at further."""
@@ -275,18 +278,18 @@ def judged(entries: Iterable[Entry], prefers: Rank = rank) -> Answer:
         message = following[site].pop(0)
         entry = answer.entry_of(message)
         answer.through[site].append(message)
-        answer.stamps |= dict.fromkeys(reading(message.data).inserted(), message.stamp)
-        answer.inserted_by |= dict.fromkeys(reading(message.data).inserted(), entry.hash)
+        answer.stamps |= dict.fromkeys(reading(spelled(message)).inserted(), message.stamp)
+        answer.inserted_by |= dict.fromkeys(reading(spelled(message)).inserted(), entry.hash)
     return answer
 
 
-def lasts(messages: Iterable[Message]) -> list[Name]:
+def lasts(messages: Iterable[Operation]) -> list[Name]:
     """The last character of each other site that messages mention, site by site."""
-    names = {name for one in messages for name in reading(one.data).mentioned() if name[0] != one.site}
+    names = {name for one in messages for name in reading(spelled(one)).mentioned() if name[0] != one.site}
     return [max(name for name in names if name[0] == site) for site in sorted({site for site, _ in names})]
 
 
-def built_on(messages: Iterable[Message], inserted_by: Mapping[Name, bytes]) -> bytes:
+def built_on(messages: Iterable[Operation], inserted_by: Mapping[Name, bytes]) -> bytes:
     """What messages build on, as an entry says it."""
     hashes = [inserted_by[name] for name in lasts(messages)]
     return hashlib.blake2b(b"".join(hashes), digest_size=32).digest() if hashes else b""
@@ -379,9 +382,9 @@ class Replica:
         self.lengths: dict[int, int] = {}
         self.stamps: dict[Name, int] = {}
 
-    def take(self, messages: Iterable[Message]) -> list[bytes]:
+    def take(self, messages: Iterable[Operation]) -> list[bytes]:
         """What is answered to messages that are handed in: that each is taken in, and else something else."""
-        return [b"taken 0 0" if self._is_ready(reading(one.data)) else b"not ready" for one in messages]
+        return [b"taken 0 0" if self._is_ready(reading(spelled(one))) else b"not ready" for one in messages]
 
     def close(self) -> None:
         """There is nothing to end."""
@@ -414,18 +417,62 @@ def head(kind: int, site: int, seq: int, stamp: int) -> bytes:
         site.to_bytes(2, "big"), seq.to_bytes(4, "big"), stamp.to_bytes(8, "big")])
 
 
-def inserting(site: int, seq: int, stamp: int, cause: Name | None, at: int, data: bytes) -> Message:
+def spelled(one: Operation) -> bytes:
+    """The message of an operation, as the program spells it."""
+    begin = head(one.kind, one.site, one.seq, one.stamp)
+    if one.kind == INSERT:
+        site, offset, _ = one.mentions[0] if one.mentions else (0, 0, 1)
+        return b"".join([begin, site.to_bytes(2, "big"), offset.to_bytes(4, "big"), one.at.to_bytes(4, "big"), one.looks,
+                         len(one.data).to_bytes(2, "big"), one.data])
+    ranges = [of.to_bytes(2, "big") + at.to_bytes(4, "big") + length.to_bytes(4, "big") for of, at, length in one.mentions]
+    return b"".join([begin, one.looks, len(ranges).to_bytes(2, "big"), *ranges])
+
+
+def is_spelled(data: bytes) -> bool:
+    """Whether bytes are read as a message."""
+    try:
+        Operation.read(data)
+    except NoMessage:
+        return False
+    return True
+
+
+def taking(program: Program, one: Operation) -> bytes:
+    """The event that hands an operation in, as its message."""
+    return program.event("take", spelled(one).hex().encode())
+
+
+def body_of(operations: Iterable[Operation]) -> bytes:
+    """Messages one after the other, each after its length, as entries of the older kinds have them."""
+    return b"".join(len(data).to_bytes(2, "big") + data for data in map(spelled, operations))
+
+
+def chunk_of(operations: Iterable[Operation], length: int = 0) -> bytes | None:
+    """The chunk of operations; None where none has them."""
+    part = packed(operations, length)
+    return part.chunk if part else None
+
+
+def in_entries(operations: Iterable[Operation]) -> list[list[Operation]]:
+    """Operations in parts that fit an entry each, one by one."""
+    return [[each for one in part.operations for each in one.each()] for part in packed_in_parts(operations)]
+
+
+def entry_of(form: Form, before: Entry, operations: Sequence[Operation], author: Author, on: bytes = b"", length: int = 0) -> Entry:
+    """The entry of operations that follow an entry; one of an older kind, where no chunk has them."""
+    if part := packed(operations, length):
+        return form.entry(before, part, author, on)
+    kind = Kind.BUILDING if on else Kind.MESSAGES
+    return form._made(kind, before.site, operations[0].seq, len(operations), before.hash, author, on, body_of(operations))
+
+
+def inserting(site: int, seq: int, stamp: int, cause: Name | None, at: int, data: bytes) -> Operation:
     """An Insert of these bytes in the default looks, after a character or, without one, at the beginning."""
-    cause_site, offset = cause or (0, 0)
-    parts = [head(INSERT, site, seq, stamp), cause_site.to_bytes(2, "big"), offset.to_bytes(4, "big"),
-             at.to_bytes(4, "big"), LOOKS, len(data).to_bytes(2, "big"), data]
-    return Message(site, seq, stamp, INSERT, b"".join(parts))
+    mentions = (Names(*cause, 1),) if cause else ()
+    return Operation(INSERT, site, seq, stamp, 1, mentions, at, data, LOOKS)
 
 
-def about(kind: int, site: int, seq: int, stamp: int, ranges: list[tuple[int, int, int]]) -> Message:
+def about(kind: int, site: int, seq: int, stamp: int, ranges: list[tuple[int, int, int]]) -> Operation:
     """A Delete or a Restore of ranges of names, or a change of their colour."""
-    parts = [head(kind, site, seq, stamp), b"\x02\x07" if kind == CHANGE_LOOKS else b"",
-             len(ranges).to_bytes(2, "big")]
-    parts += [b"".join([of.to_bytes(2, "big"), at.to_bytes(4, "big"), length.to_bytes(4, "big")])
-              for of, at, length in ranges]
-    return Message(site, seq, stamp, kind, b"".join(parts))
+    looks = b"\x02\x07" if kind == CHANGE_LOOKS else b""
+    return Operation(kind, site, seq, stamp, 1, tuple(Names(*one) for one in ranges), looks=looks)

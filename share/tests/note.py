@@ -4,7 +4,7 @@ from collections.abc import Callable
 from dataclasses import dataclass
 from typing import Any
 
-from share.format.operation import DELETE, RESTORE, Message, names_of
+from share.format.operation import DELETE, RESTORE, Operation
 from share.program.site import Edited, Site, Told
 from share.text.change import LINE_END, Change, boundary, change, make
 from share.text.errors import Refused, Trouble
@@ -51,7 +51,7 @@ class Note:
         messages = self._edited(lambda: self.session.cut(begin, end))
         if messages is None:
             return
-        self._done.append(Undo(RESTORE, [names_of(message) for message in reversed(messages)]))
+        self._done.append(Undo(RESTORE, [[*message.names] for message in reversed(messages)]))
         self._shows([Change(begin, end, b"")], follow=True)
 
     def take_back(self) -> bool:
@@ -87,8 +87,8 @@ class Note:
         """The text as a file of this system, with its line ends."""
         return bytes(self.text).replace(LINE_END, b"\n")
 
-    def _typed(self, message: Message) -> None:
-        (names,) = names_of(message)
+    def _typed(self, message: Operation) -> None:
+        (names,) = message.names
         if self._goes_on and self._done and self._done[-1].kind == DELETE:
             ((before,),) = self._done[-1].names
             self._done[-1].names = [[before._replace(length=before.length + names.length)]]
@@ -102,7 +102,7 @@ class Note:
         told.append(changed)
         return edited
 
-    def _edited(self, edit: Callable[[], Edited]) -> list[Message] | None:
+    def _edited(self, edit: Callable[[], Edited]) -> list[Operation] | None:
         """The messages of an edit; None where it was refused or couldn't be kept, or was done in part: the text
         is the program's then."""
         self._forget_names_of_others()

@@ -14,8 +14,9 @@ from collections.abc import Callable, Iterable, Iterator
 
 from share.admission.judge import Judge, rank
 from share.format import link as links
-from share.format.entry import Entry, Form, Kind, Plain, in_entries
-from share.format.operation import Message
+from share.format.chunk import packed_in_parts
+from share.format.entry import Entry, Form, Kind, Plain
+from share.format.operation import Operation
 from share.log.base import START, Log, open_log
 from share.program.process import Program
 from share.program.site import Edited, Site, Told
@@ -23,6 +24,7 @@ from share.store import notes
 from share.store.note_file import Disk
 from share.store.read_only import found_in, shown
 from share.sync.session import Session, Status
+from share.tests.naive import taking
 from share.tests.note import Note
 from share.tests.servers import RedisServer
 from share.tests.waiting import wait_for as wait_for
@@ -164,8 +166,8 @@ class Carried:
         return self._kept(work(self.site))
 
     def _kept(self, edited: Edited) -> Edited:
-        for part in in_entries(edited.messages):
-            self.made.append(self.form.entry(self.made[-1], part, self.author, self.judge.built_on(part)))
+        for part in packed_in_parts(edited.messages):
+            self.made.append(self.form.entry(self.made[-1], part, self.author, self.judge.built_on(part.operations)))
             self.judge.add(self.made[-1])
         own = self.judge.count().messages
         assert own == edited.messages, (own, edited)
@@ -302,11 +304,11 @@ def take(person: Person, site: int) -> None:
         log.append([other.raw])
 
 
-def plain_text(messages: Iterable[Message]) -> bytes:
+def plain_text(messages: Iterable[Operation]) -> bytes:
     """What a plain site shows that takes in messages as they come."""
     program = Program(65_000)
     try:
-        program.ask([program.taking(message.data) for message in messages])
+        program.ask([taking(program, message) for message in messages])
         return program.text()
     finally:
         program.close()

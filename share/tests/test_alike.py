@@ -6,11 +6,11 @@ from collections.abc import Sequence
 
 from share.admission.judge import Judge, rank
 from share.format.entry import Author, Copied, Entry, Form, Plain
-from share.format.operation import Message, typed
+from share.format.operation import Operation, typed
 from share.program import retyping
 from share.program.site import Site
 from share.sync.recovered import Recovered
-from share.tests.naive import Name, inserting
+from share.tests.naive import Name, entry_of, inserting
 from share.tests.support import Person, take
 from share.tests.test_left_out import Three, shown
 
@@ -61,7 +61,7 @@ class Twice:
         # That of the least name has the greatest number.
         self.author, *_ = authors = sorted((form.new_author() for _ in self.SITES), reverse=True)
         claims = [form.claim(site, author) for site, author in zip(self.SITES, authors)]
-        self.word, self.copy, self.other = (form.entry(claim, [inserting(claim.site, 1, 1, after, 0, b"word ")], author)
+        self.word, self.copy, self.other = (entry_of(form, claim, [inserting(claim.site, 1, 1, after, 0, b"word ")], author)
                                             for claim, author in zip(claims, authors))
         said = [self.said(self.word, copy) for copy in (self.copy, self.other)]
         self.entries = [*claims, self.word, self.copy, self.other, *said, *map(self.taken, claims[:2])]
@@ -84,12 +84,12 @@ class Words(unittest.TestCase):
         self.author = Author(bytes(16), b"")
         self.claim = FORM.claim(4, self.author)
 
-    def typed_again(self, entries: Sequence[Entry]) -> tuple[list[Message], list[Entry]]:
+    def typed_again(self, entries: Sequence[Entry]) -> tuple[list[Operation], list[Entry]]:
         """The messages that somebody types again, and the entries that are made of that."""
         judge = Judge(entries)
         with contextlib.closing(Site(4, judge.count().messages)) as site:
             again = retyping.type_again(retyping.lost(judge), entries, judge, site)
-        made = FORM.entry(self.claim, again.edited.messages, self.author)
+        made = entry_of(FORM, self.claim, again.edited.messages, self.author)
         return again.edited.messages, [self.claim, made, *retyping.words_of(again.copies, FORM, self.author, made)]
 
     def is_hidden(self, entries: Sequence[Entry], own: Sequence[Entry]) -> list[bool]:
@@ -118,7 +118,7 @@ class Words(unittest.TestCase):
         another = some.other
         while another.hash >= some.other.hash:
             message = inserting(65_003, 1, another.messages[0].stamp + 1, None, 0, b"else ")
-            another = FORM.entry(some.entries[2], [message], some.authors[2])
+            another = entry_of(FORM, some.entries[2], [message], some.authors[2])
         entries = [*some.entries, another]
         messages, made = self.typed_again(entries)
         self.assertEqual(([one for one in messages if one.kind == 1][1:], self.is_hidden(entries, made)), ([], [False]))
@@ -132,7 +132,7 @@ class Words(unittest.TestCase):
     def test_of_two_histories_of_a_number_all_is_typed(self) -> None:
         author = FORM.new_author()
         claim = FORM.claim(7, author)
-        forks = [FORM.entry(claim, [inserting(7, 1, stamp, None, 0, data)], author)
+        forks = [entry_of(FORM, claim, [inserting(7, 1, stamp, None, 0, data)], author)
                  for stamp, data in enumerate((b"one ", b"two ", b"two ", b"three "), 1)]
         entries = [claim, *forks]
         messages, made = self.typed_again(entries)
@@ -143,7 +143,7 @@ class Words(unittest.TestCase):
         with contextlib.closing(Site(5, judge.count().messages)) as site:
             self.assertEqual(sorted(site.text().decode().split()), ["one", "three", "two", "two"])
         some = Twice(FORM)
-        other = FORM.entry(some.entries[0], [inserting(65_001, 1, 2, None, 0, b"else ")], some.author)
+        other = entry_of(FORM, some.entries[0], [inserting(65_001, 1, 2, None, 0, b"else ")], some.author)
         messages, made = self.typed_again([*some.entries, other])
         self.assertEqual(sorted(typed(one) for one in messages), [b"else ", b"word "])
 

@@ -17,7 +17,7 @@ from share.log.base import Unreachable
 from share.log.sqlite import SqliteLog
 from share.program.process import Ended, Program
 from share.store import read_only
-from share.tests.naive import inserting, newer
+from share.tests.naive import entry_of, inserting, newer
 from share.tests.servers import Hostile
 from share.tests.support import NOTE, TOP, Case, change, python, raws_of, type_at_the_end, wait_for, written
 from share.tests.test_logs import WITHOUT_END
@@ -151,7 +151,7 @@ class BadInput(Case):
                     program.process.send_signal(signal.SIGSTOP)
                 if starves:
                     self.starve(program.process.pid)
-                with mock.patch("share.program.patience.MOST_SECONDS", 1), contextlib.nullcontext() if starves else (
+                with mock.patch("share.program.patience.MOST_WORKING_SECONDS", 1), contextlib.nullcontext() if starves else (
                         self.assertRaises(Ended)):
                     self.assertEqual(program.text(), b"")
 
@@ -254,7 +254,7 @@ class BadInput(Case):
             later = [newer(disk.form, last, client.author, body) for body in (b"", b"new")]
             # What comes after it doesn't count here, and isn't made anew: it counts there.
             follower = [inserting(client.site, last.last + 1, 2**16, None, 14, b"more ")]
-            later.append(disk.form.entry(last._replace(hash=later[0].hash), follower, client.author))
+            later.append(entry_of(disk.form, last._replace(hash=later[0].hash), follower, client.author))
             disk.keep(later, made=True)
         # It may keep it otherwise, too.
         change(self.ann.path(), "UPDATE entry SET sum = 7, body = 'words' WHERE hash = ?", later[1].hash)

@@ -167,7 +167,7 @@ class Parts(unittest.TestCase):
     def test_places_and_positions(self) -> None:
         chance = random.Random(4)
         rubbish = [b"\x80", b"\xc3", b"\xe6\xbc", b"\xf0\x9f", b"\xff"]
-        with mock.patch.object(rope, "PART", 8):
+        with mock.patch.object(rope, "PIECE_SIZE", 8):
             for seed in range(60):
                 text, data = Measured(b""), b""
                 for _ in range(40):

@@ -5,35 +5,35 @@ from collections.abc import Iterable
 from unittest import mock
 
 from share.admission.ledger import Ledger, Line, Row
-from share.format.chunk import BEGIN, MOST_CHUNK, NoChunk, Writer, messages, of_message, packed, runs
+from share.format.chunk import CHUNK_BEGIN, MOST_CHUNK, NoChunk, Writer, unpacked_one_by_one, unpacked
 from share.format.entry import Author, Plain
 from share.format.history import Messages, Part
-from share.format.operation import DELETE, Message
+from share.format.operation import DELETE, Operation
 from share.program.process import Program
-from share.tests.naive import about, inserting
+from share.tests.naive import about, chunk_of, entry_of, inserting, taking
 
 # Site 1 has a file of five characters, types an a after them, and then the byte 15, which is a code in a chunk.
-WORKED = BEGIN + b"\x0f\1\3\x09\5" + b"\5\1\4a" + b"\x0e\x0f"
+WORKED = CHUNK_BEGIN + b"\x0f\1\3\x09\5" + b"\5\1\4a" + b"\x0e\x0f"
 TURNS, TRIES = 60, 300
 
 
-def typed(site: int, seq: int, at: int, data: bytes) -> list[Message]:
+def typed(site: int, seq: int, at: int, data: bytes) -> list[Operation]:
     """Letters that a site types one after the other at the end of its own."""
     return [inserting(site, seq + number, seq + number, (site, at + number - 1) if at + number else None, at + number,
                       bytes([byte])) for number, byte in enumerate(data)]
 
 
-def unpacked(program: Program, chunk: bytes) -> bytes:
+def answered(program: Program, chunk: bytes) -> bytes:
     """What the program answers to a chunk."""
-    return program.ask([program.unpacking(chunk)])[0][-1]
+    return program.ask([program.event("unpack", chunk.hex().encode())])[0][-1]
 
 
 class Chunks(unittest.TestCase):
     """What the program and this package read and write alike."""
 
-    def edits(self, program: Program, chance: random.Random) -> list[Message]:
+    def edits(self, program: Program, chance: random.Random) -> list[Operation]:
         """What some edits at a site send."""
-        sent: list[Message] = []
+        sent: list[Operation] = []
         for _ in range(TURNS):
             length = len(program.text())
             begin, end = sorted(chance.choices(range(length + 1), k=2))
@@ -42,7 +42,7 @@ class Chunks(unittest.TestCase):
                 program.event("type", length, b"x"), program.event("type", begin, b"\\0e\\01\\ff"[:chance.choice([3, 9])]),
                 program.event("cut", begin, min(end, begin + 3)), program.event("restore"),
                 program.event("looks", begin, end, b"font=Syntax12.Scn.Fnt colour=%d" % chance.randrange(16))])
-            sent += [Message.read(bytes.fromhex(line.split()[2].decode())) for line in program.ask([event])[0][:-1]]
+            sent += [Operation.read(bytes.fromhex(line.split()[2].decode())) for line in program.ask([event])[0][:-1]]
         return sent
 
     def packs(self, program: Program, *fronts: int) -> list[bytes]:
@@ -55,60 +55,60 @@ class Chunks(unittest.TestCase):
         self.addCleanup(one.close)
         self.addCleanup(two.close)
         sent = self.edits(one, chance)
-        self.assertEqual(self.packs(one), [packed(sent)])
-        self.assertEqual(messages(packed(sent) or b""), tuple(sent))
-        self.assertLess(len(runs(packed(sent) or b"")), len(sent))
-        self.assertEqual(unpacked(two, packed(sent) or b""), b"unpacked %d 0 0" % len(sent))
+        self.assertEqual(self.packs(one), [chunk_of(sent)])
+        self.assertEqual(unpacked_one_by_one(chunk_of(sent) or b""), tuple(sent))
+        self.assertLess(len(unpacked(chunk_of(sent) or b"")), len(sent))
+        self.assertEqual(answered(two, chunk_of(sent) or b""), b"unpacked %d 0 0" % len(sent))
         self.assertEqual(two.text(), one.text())
         # What comes next of both, in the order in which the second one took it in.
         own = self.edits(two, chance)
-        one.ask([one.taking(message.data) for message in own])
+        one.ask([taking(one, message) for message in own])
         more = self.edits(one, chance)
-        two.ask([two.taking(message.data) for message in more])
+        two.ask([taking(two, message) for message in more])
         self.assertEqual(b"".join(data for data, _ in Messages(own + more).chunks()), self.packs(two, 300, len(sent))[0])
-        length = len(b"".join(run.data for run in runs(packed(sent) or b"")))
-        self.assertEqual(self.packs(one, 300, len(sent), 7, len(own)), [packed(more, length)])
-        self.assertEqual(messages(packed(more, length) or b""), tuple(more))
+        length = len(b"".join(run.data for run in unpacked(chunk_of(sent) or b"")))
+        self.assertEqual(self.packs(one, 300, len(sent), 7, len(own)), [chunk_of(more, length)])
+        self.assertEqual(unpacked_one_by_one(chunk_of(more, length) or b""), tuple(more))
         # One that overlaps what is held is judged operation by operation.
-        self.assertEqual(unpacked(two, packed(sent + more) or b""), b"unpacked 0 %d 0" % len(sent + more))
+        self.assertEqual(answered(two, chunk_of(sent + more) or b""), b"unpacked 0 %d 0" % len(sent + more))
 
     def test_a_chunk_worked_out_by_hand(self) -> None:
         first, second = inserting(1, 3, 9, (1, 4), 5, b"a"), inserting(1, 4, 10, (1, 5), 6, b"\x0f")
-        self.assertEqual(messages(WORKED), (first, second))
-        self.assertEqual(packed([first, second]), WORKED)
-        self.assertEqual([(run.size, run.data, run.mentions) for run in runs(WORKED)], [(2, b"a\x0f", [(1, 4, 1)])])
+        self.assertEqual(unpacked_one_by_one(WORKED), (first, second))
+        self.assertEqual(chunk_of([first, second]), WORKED)
+        self.assertEqual([(run.size, run.data, run.mentions) for run in unpacked(WORKED)], [(2, b"a\x0f", ((1, 4, 1),))])
 
     def test_what_can_not_follow(self) -> None:
         one = typed(7, 1, 0, b"ab")
         for bad in (inserting(7, 4, 4, None, 2, b"c"), inserting(7, 3, 2, None, 2, b"c"), inserting(7, 3, 3, None, 1, b"c")):
-            self.assertIsNone(packed([*one, bad]))
+            self.assertIsNone(chunk_of([*one, bad]))
         writer = Writer()
-        self.assertTrue(all(writer.add(of_message(message)) for message in [*one, *typed(8, 1, 0, b"c"), *typed(7, 3, 2, b"d")]))
+        self.assertTrue(all(writer.add(message) for message in [*one, *typed(8, 1, 0, b"c"), *typed(7, 3, 2, b"d")]))
         with self.assertRaises(NoChunk):
-            runs(bytes(writer.data))
+            unpacked(bytes(writer.data))
 
     def test_the_bound(self) -> None:
-        room = MOST_CHUNK - len(packed(typed(7, 1, 0, b"a")) or b"")
-        right = packed(typed(7, 1, 0, b"a" * (1 + room)))
+        room = MOST_CHUNK - len(chunk_of(typed(7, 1, 0, b"a")) or b"")
+        right = chunk_of(typed(7, 1, 0, b"a" * (1 + room)))
         self.assertEqual(len(right or b""), MOST_CHUNK)
-        self.assertIsNone(packed(typed(7, 1, 0, b"a" * (2 + room))))
-        self.assertEqual(sum(run.size for run in runs(right or b"")), 1 + room)
+        self.assertIsNone(chunk_of(typed(7, 1, 0, b"a" * (2 + room))))
+        self.assertEqual(sum(run.size for run in unpacked(right or b"")), 1 + room)
         with self.assertRaises(NoChunk):
-            runs((right or b"") + b"a")
+            unpacked((right or b"") + b"a")
 
     def test_numbers_at_their_bounds(self) -> None:
         for message in (inserting(65_535, 2**32 - 1, 2**48 - 1, (65_535, 2**24 - 2), 2**24 - 1, b"x"),
                         about(DELETE, 1, 1, 1, [(65_535, 2**24 - 1, 1)])):
-            chunk = packed([message]) or b""
-            self.assertEqual(messages(chunk), (message,))
+            chunk = chunk_of([message]) or b""
+            self.assertEqual(unpacked_one_by_one(chunk), (message,))
             with self.assertRaises(NoChunk):
                 # One more of either is past a bound.
-                runs(chunk + (b"y" if message.kind != DELETE else b"\4\4\x08"))
+                unpacked(chunk + (b"y" if message.kind != DELETE else b"\4\4\x08"))
 
     def test_hostile_bytes(self) -> None:
         chance, program = random.Random(2), Program(9)
         self.addCleanup(program.close)
-        right = packed(self.edits(program, chance)) or b""
+        right = chunk_of(self.edits(program, chance)) or b""
         taker, told = Program(1), {True: 0, False: 0}
         self.addCleanup(taker.close)
         for _ in range(TRIES):
@@ -118,23 +118,23 @@ class Chunks(unittest.TestCase):
                 bad[at:at + chance.randrange(3)] = chance.choices([*range(16), 0x80, 255, chance.randrange(256)],
                                                                   k=chance.randrange(3))
             chunk = bytes(bad[:chance.choice([len(bad), len(bad), chance.randrange(len(bad) + 1)])])
-            answer = unpacked(taker, chunk)
+            answer = answered(taker, chunk)
             try:
-                found = messages(chunk)
+                found = unpacked_one_by_one(chunk)
             except NoChunk:
                 # A note's chunks are of one site, and have messages.
-                self.assertTrue(answer in (b"refused 1", b"refused 2") or chunk in (b"", BEGIN) or {1, 15} & {*chunk[7:]}, chunk)
+                self.assertTrue(answer in (b"refused 1", b"refused 2") or chunk in (b"", CHUNK_BEGIN) or {1, 15} & {*chunk[7:]}, chunk)
                 told[False] += 1
             else:
                 self.assertNotIn(answer, (b"refused 1", b"refused 2"))
-                self.assertEqual(packed(found, length_of(chunk)), chunk)
+                self.assertEqual(chunk_of(found, length_of(chunk)), chunk)
                 told[True] += 1
         self.assertGreater(min(told.values()), 10)
 
 
 def length_of(chunk: bytes) -> int:
     """How many characters a chunk says that its site had."""
-    numbers, at = list[int](), len(BEGIN) + 1
+    numbers, at = list[int](), len(CHUNK_BEGIN) + 1
     while len(numbers) < 4:
         end = next(end for end in range(at, len(chunk)) if chunk[end] < 0x80)
         numbers.append(sum((byte & 0x7F) << 7 * place for place, byte in enumerate(chunk[at:end + 1])))
@@ -142,7 +142,7 @@ def length_of(chunk: bytes) -> int:
     return numbers[-1]
 
 
-def line_of(parts: Iterable[list[Message]]) -> Line:
+def line_of(parts: Iterable[list[Operation]]) -> Line:
     """The chain of the entries that have these messages of a site."""
     form, author = Plain(bytes(16)), Author(b"sixteen bytes of", b"")
     ledger = Ledger(form)
@@ -151,7 +151,7 @@ def line_of(parts: Iterable[list[Message]]) -> Line:
         if line is None:
             line, made = Line(ledger, part[0].site), form.claim(part[0].site, author)
             line.add(ledger.add(Row(0, made, False), 0))
-        made = form.entry(made, part, author)
+        made = entry_of(form, made, part, author)
         line.add(ledger.add(Row(0, made, False), line.numbers[-1]))
     assert line
     return line
@@ -198,7 +198,7 @@ class InARow(unittest.TestCase):
     def test_chunks(self) -> None:
         with mock.patch("share.format.history.FEW", 6):
             whole, both = [*self.row.chunks()], [*self.row[1:].chunks()]
-        self.assertEqual(whole[0], (packed(self.plain[:6]), 6))
+        self.assertEqual(whole[0], (chunk_of(self.plain[:6]), 6))
         self.assertEqual([count for _, count in whole], [6, 4])
         self.assertEqual([count for _, count in both], [9])
         self.assertEqual([*Messages().chunks()], [])
@@ -206,7 +206,7 @@ class InARow(unittest.TestCase):
     def test_few_messages_are_handed_in_with_others(self) -> None:
         plain = typed(7, 1, 0, b"a\x0eb" * 3_000)
         row = Messages(parts=[Part(line_of([message] for message in plain), 0, len(plain))])
-        self.assertEqual([*row.chunks()], [(packed(plain), len(plain))])
+        self.assertEqual([*row.chunks()], [(chunk_of(plain), len(plain))])
 
 
 if __name__ == "__main__":

@@ -10,12 +10,13 @@ from typing import Any
 from unittest import mock
 
 from share.admission.judge import rank
-from share.format.entry import LENGTH, Copy, Entry, Kind
-from share.format.operation import Message
+from share.format.entry import Copy, Entry, Kind
+from share.format.operation import Operation
 from share.store import read_only
 from share.store.note_file import Disk, Unkept
 from share.sync.rebase import Done, rebase
 from share.tests.editors import Editor
+from share.tests.naive import entry_of
 from share.tests.note import Note
 from share.tests.support import Case, Person, are_alike, change, type_at_the_end, wait_for, written
 
@@ -64,14 +65,13 @@ class Copied(Case):
         """A word that makes an entry of a smaller hash than what was typed, where it is typed in its place, or of a greater
         one; and that entry."""
         (message,) = entry.messages
-        head = message.data[:-LENGTH.size - len(typed)]
         with contextlib.closing(person.disk()) as disk:
             (before,) = [row.entry for row in disk.rows() if row.entry.hash == entry.before]
             (author,) = [one.author for one in disk.clients() if one.author.name == entry.author]
             for number in range(100_000):
                 word = f"new-{number} "
-                other = Message.read(head + LENGTH.pack(len(word)) + word.encode())
-                made = disk.form.entry(before, [other], author, entry.on)
+                other = message._replace(data=word.encode())
+                made = entry_of(disk.form, before, [other], author, entry.on)
                 if (made.hash < entry.hash) is holds:
                     return word, made
         raise AssertionError("no word does")

@@ -6,7 +6,7 @@ import unittest
 from share.admission.judge import Judge
 from share.format.entry import Entry, Plain
 from share.format.history import Messages
-from share.format.operation import Message, inserted
+from share.format.operation import Operation
 from share.program.difference import Shown, differences, shown_by
 from share.program.site import Site
 from share.tests.support import Carried
@@ -37,13 +37,13 @@ class Histories(unittest.TestCase):
             entries = entries + one.made[-1:]
         return entries
 
-    def shown(self, judge: Judge) -> tuple[Shown, dict[Name, Message]]:
+    def shown(self, judge: Judge) -> tuple[Shown, dict[Name, Operation]]:
         """What is shown, and the message that inserted each character."""
         with contextlib.closing(Site(9, judge.let_through_in_order())) as site:
             found = shown_by(site)
-        typed: dict[Name, Message] = {}
+        typed: dict[Name, Operation] = {}
         for message in found.messages:
-            of = inserted(message)
+            of = message.new
             typed |= {(of.site, of.at + at): message for at in range(of.length)} if of else {}
         return found, typed
 
@@ -76,7 +76,7 @@ class Histories(unittest.TestCase):
                              len(self.same(was.names, typed_before) & self.same(now.names, typed_now)))
 
     @staticmethod
-    def same(names: list[Names], typed: dict[Name, Message]) -> set[tuple[Name, Message]]:
+    def same(names: list[Names], typed: dict[Name, Operation]) -> set[tuple[Name, Operation]]:
         """The characters that are shown, each with the message that inserted it."""
         return {(name, typed[name]) for one in names for name in ((one.site, one.at + at) for at in range(one.length))}
 

@@ -17,7 +17,7 @@ from share.engine.engine import Engine
 from share.engine.transform import Transformer
 from share.format import link as links
 from share.format.presence import Present, written
-from share.program.process import Ended
+from share.program.process import Ended, Program
 from share.program.replay import Wrote, in_units
 from share.store import notes
 from share.store.note_file import Disk, Unkept
@@ -77,8 +77,7 @@ class Here(Case):
         (_, first, _, _), (_, second, _, _) = self.editors
         first.edit([(0, 0, "base\n")])
         self.meet()
-        site = self.engine.session.site
-        ask, calls = site._program.ask.__func__, []
+        ask, calls = Program.ask, []
 
         def ends(program, events):
             calls.append(b" type " in events[0])

@@ -3,11 +3,11 @@ import hashlib
 import random
 import unittest
 
-from share.format.chunk import BEGIN, MOST_CHUNK, number_of, packed
-from share.format.entry import (GREATEST_SITE, HEAD, LENGTH, MOST_BYTES, NO_HASH, Author, Bad, Copied, Entry, Kind, Plain, body_of,
-                                in_entries)
-from share.format.operation import LONGEST_MESSAGE, MOST_RANGES, Message, is_spelled
-from share.tests.naive import CHANGE_LOOKS, DELETE, about, inserting
+from share.format.chunk import CHUNK_BEGIN, MOST_CHUNK, varint
+from share.format.entry import GREATEST_SITE, HEAD, LENGTH, MOST_BYTES, NO_HASH, Author, Bad, Copied, Entry, Kind, Plain
+from share.format.operation import LONGEST_MESSAGE, MOST_RANGES, Operation
+from share.tests import naive
+from share.tests.naive import CHANGE_LOOKS, DELETE, about, body_of, chunk_of, entry_of, in_entries, inserting, is_spelled
 
 NOTE = bytes(range(100, 116))
 FORM = Plain(NOTE)
@@ -21,7 +21,7 @@ def closed(head: bytes, body: bytes) -> bytes:
 
 
 def spelled(form: int = 1, kind: int = 2, note: bytes = NOTE, site: int = 7, first: int = 1, count: int | None = None,
-            before: bytes = b"b" * 32, author: bytes = ANNE.name, messages: tuple[Message, ...] = (),
+            before: bytes = b"b" * 32, author: bytes = ANNE.name, messages: tuple[Operation, ...] = (),
             body: bytes | None = None) -> bytes:
     """The bytes of an entry of these fields, whose digest is right."""
     head = b"".join([bytes([form, kind]), note, site.to_bytes(2, "big"), first.to_bytes(4, "big"),
@@ -29,27 +29,27 @@ def spelled(form: int = 1, kind: int = 2, note: bytes = NOTE, site: int = 7, fir
     return closed(head, body_of(messages) if body is None else body)
 
 
-def typed(count: int, site: int = 7, first: int = 1, data: bytes = b"x") -> tuple[Message, ...]:
+def typed(count: int, site: int = 7, first: int = 1, data: bytes = b"x") -> tuple[Operation, ...]:
     """Insertions that follow one another."""
     return tuple(inserting(site, first + number, first + number, None, number * len(data), data)
                  for number in range(count))
 
 
-def longest(seq: int) -> Message:
+def longest(seq: int) -> Operation:
     """A message of as many bytes as one may have."""
     plain = about(CHANGE_LOOKS, 7, seq, seq, [(1, 2 * number, 1) for number in range(MOST_RANGES)])
     looks = b"\x07\x1f" + b"F" * 31 + b"\x0f\xff"
-    return Message.read(plain.data[:20] + looks + plain.data[22:])
+    return plain._replace(looks=looks)
 
 
-def chunk(*messages: Message, length: int = 0) -> bytes:
+def chunk(*messages: Operation, length: int = 0) -> bytes:
     """The chunk of messages."""
-    found = packed(messages, length)
+    found = chunk_of(messages, length)
     assert found
     return found
 
 
-def parts() -> list[tuple[Message, ...]]:
+def parts() -> list[tuple[Operation, ...]]:
     """What some entries have, one after the other."""
     return [typed(1), (*typed(2, first=2), about(DELETE, 7, 4, 9, [(1, 0, 3), (1, 5, 1)])),
             (about(DELETE, 7, 5, 10, [(1, 0, 3)]),)]
@@ -66,9 +66,9 @@ def samples() -> list[Entry]:
     entries = [FORM.claim(7, ANNE), FORM.claim(GREATEST_SITE, ANNE)]
     one, two, three = parts()
     # What is typed second begins where what was typed first does.
-    first = FORM.entry(entries[0], one, ANNE)
-    second = FORM.entry(first, two, ANNE, length=0)
-    third = FORM.entry(second, three, ANNE, b"on" * 16, length=2)
+    first = entry_of(FORM, entries[0], one, ANNE)
+    second = entry_of(FORM, first, two, ANNE, length=0)
+    third = entry_of(FORM, second, three, ANNE, b"on" * 16, length=2)
     old = FORM.open(spelled(before=entries[0].hash, messages=one))
     older = FORM.open(spelled(kind=3, first=2, before=old.hash, count=3, body=b"on" * 16 + body_of(two)))
     copies = FORM.copies(COPIED, ANNE, 7, third.hash)
@@ -88,7 +88,7 @@ class Spelling(unittest.TestCase):
                                             body=b"on" * 16 + chunk(*three, length=2)))
         self.assertEqual(anew.raw, spelled(kind=4, first=0, before=third.hash))
         self.assertEqual(copies.raw, spelled(kind=7, first=0, before=third.hash, body=copies_body()))
-        self.assertEqual(old.raw[74:76], len(old.messages[0].data).to_bytes(2, "big"))
+        self.assertEqual(old.raw[74:76], len(naive.spelled(old.messages[0])).to_bytes(2, "big"))
         self.assertEqual(older.raw[74:106], b"on" * 16)
         self.assertEqual(first.raw[74:89], b"OTC1\0\1\x0f\7\1\1\0x" + first.raw[86:89])
         self.assertEqual(first.hash, hashlib.blake2b(first.raw, digest_size=32).digest())
@@ -105,13 +105,13 @@ class Spelling(unittest.TestCase):
         self.assertEqual(samples()[-1].copied, COPIED)
         self.assertEqual({entry.author for entry in samples()}, {ANNE.name})
 
-    def test_what_no_chunk_has_is_spelled_as_before(self) -> None:
+    def test_what_no_chunk_has_is_read_as_older_versions_wrote_it(self) -> None:
         before = FORM.claim(7, ANNE)
         for messages in ((*typed(1), inserting(7, 2, 1, None, 1, b"y")), (*typed(1), inserting(7, 2, 2, None, 5, b"y")),
                          (*typed(1), *typed(1, first=3))):
-            self.assertIsNone(packed(messages))
+            self.assertIsNone(chunk_of(messages))
             for on, kind in (b"", Kind.MESSAGES), (b"on" * 16, Kind.BUILDING):
-                entry = FORM.entry(before, messages, ANNE, on)
+                entry = entry_of(FORM, before, messages, ANNE, on)
                 self.assertEqual((entry.kind, entry.messages), (kind, messages))
 
     def test_each_prefix_and_each_bit(self) -> None:
@@ -192,7 +192,7 @@ class Wrong(unittest.TestCase):
             self.assert_bad("what can't be", spelled(kind=7, first=0, body=copies_body(
                 new=BERTA.name + new.to_bytes(2, "big"))))
         for numbers in (b"", b"\1", b"\1\7", b"\1\7\2\3", b"\1\7\x82", b"\1\7\x82\0", b"\1\7" + b"\xff" * 7 + b"\1",
-                        b"\0\7\2", b"\1\7\0", b"\2\7" + number_of(2**32 - 1)):
+                        b"\0\7\2", b"\1\7\0", b"\2\7" + varint(2**32 - 1)):
             self.assert_bad("say nothing", spelled(kind=7, first=0, body=copies_body(numbers=numbers)))
         for end in range(len(copies_body()) - 10):
             self.assert_bad("say nothing", spelled(kind=7, first=0, body=copies_body()[:end]))
@@ -201,7 +201,7 @@ class Wrong(unittest.TestCase):
         copied = Copied(ANNE.name, 7, bytes(16), 8, ((1, 2, 3), (9, 5, 300)))
         for entry in FORM.copies(copied, ANNE, 7), FORM.copies(copied, Author(bytes(16), b""), 8), FORM.renewed("Ann", 7, ANNE):
             self.assertEqual(FORM.open(entry.raw), entry)
-            self.assertEqual((entry.messages, entry.runs, entry.last), ((), (), 0))
+            self.assertEqual((entry.messages, entry.operations, entry.last), ((), (), 0))
             body = entry.spelled
             for raw in (spelled(kind=entry.kind, first=1, before=NO_HASH, body=body),
                         spelled(kind=entry.kind, first=0, before=NO_HASH, count=1, body=body)):
@@ -234,7 +234,7 @@ class Wrong(unittest.TestCase):
             self.assert_bad("cut short", spelled(kind=3, body=body, count=2))
         empty = body_of(two[:1]) + LENGTH.pack(0)
         self.assert_bad("no message", spelled(body=empty, count=2))
-        self.assert_bad("no message", spelled(body=LENGTH.pack(20) + two[0].data[:20], count=1))
+        self.assert_bad("no message", spelled(body=LENGTH.pack(20) + naive.spelled(two[0])[:20], count=1))
 
     def test_chunks(self) -> None:
         two = typed(2)
@@ -252,8 +252,8 @@ class Wrong(unittest.TestCase):
         self.assert_bad("more in it", spelled(kind=1, first=0, before=NO_HASH, body=right))
         self.assert_bad("says of nothing", spelled(kind=4, first=0, body=right))
         # One of another text, and one with a message of another site after the first one.
-        self.assert_bad("no chunk", spelled(kind=5, body=right.replace(BEGIN, b"OTC1\0\2"), count=2))
-        other = right + b"".join([b"\x0f", *map(number_of, (8, 1, 3, 0)), b"\5\7\0z"])
+        self.assert_bad("no chunk", spelled(kind=5, body=right.replace(CHUNK_BEGIN, b"OTC1\0\2"), count=2))
+        other = right + b"".join([b"\x0f", *map(varint, (8, 1, 3, 0)), b"\5\7\0z"])
         self.assert_bad("no chunk", spelled(kind=5, body=other, count=3))
 
     def test_a_right_digest_over_anything(self) -> None:
@@ -279,9 +279,9 @@ class Wrong(unittest.TestCase):
             self.assertEqual(again, raw)
             if found.kind in (Kind.CHUNK, Kind.CHUNK_BUILDING):
                 # No other bytes are the chunk of these messages, but where the length stands that no insertion says.
-                length = found.runs[0].at or found.chunk[10]
-                self.assertIn(found.chunk, [packed(found.messages, length), packed(found.messages)])
-            self.assertTrue(all(is_spelled(one.data) for one in found.messages))
+                length = found.operations[0].at or found.chunk[10]
+                self.assertIn(found.chunk, [chunk_of(found.messages, length), chunk_of(found.messages)])
+            self.assertTrue(all(is_spelled(naive.spelled(one)) for one in found.messages))
             self.assertEqual([(one.site, one.seq) for one in found.messages],
                              [(found.site, found.first + number) for number in range(len(found.messages))])
             right += 1
@@ -294,13 +294,13 @@ class Sizes(unittest.TestCase):
 
     def test_the_longest(self) -> None:
         message = longest(1)
-        self.assertEqual((len(message.data), is_spelled(message.data)), (LONGEST_MESSAGE, True))
+        self.assertEqual((len(naive.spelled(message)), is_spelled(naive.spelled(message))), (LONGEST_MESSAGE, True))
         far = about(CHANGE_LOOKS, 7, 1, 1, [(60 * number + 200, 2**23 + number, 2**22) for number in range(MOST_RANGES)])
-        far = Message.read(far.data[:20] + b"\x07\x1f" + b"F" * 31 + b"\x0f\xff" + far.data[22:])
+        far = far._replace(looks=b"\x07\x1f" + b"F" * 31 + b"\x0f\xff")
         for one in message, far:
-            self.assertEqual(is_spelled(one.data), True)
+            self.assertEqual(is_spelled(naive.spelled(one)), True)
             self.assertEqual([len(part) for part in in_entries([one])], [1])
-            entry = FORM.entry(FORM.claim(7, ANNE), [one], ANNE)
+            entry = entry_of(FORM, FORM.claim(7, ANNE), [one], ANNE)
             self.assertEqual((FORM.open(entry.raw), entry.kind), (entry, Kind.CHUNK))
 
     def test_bounds(self) -> None:
@@ -312,10 +312,10 @@ class Sizes(unittest.TestCase):
             self.assertEqual([len(part) for part in in_entries(messages)], [1 + room, more][:1 + more])
             if not more:
                 self.assertEqual(len(chunk(*messages)), MOST_CHUNK)
-                entry = FORM.entry(FORM.claim(7, ANNE), messages, ANNE)
+                entry = entry_of(FORM, FORM.claim(7, ANNE), messages, ANNE)
                 self.assertEqual(FORM.open(entry.raw), entry)
                 self.assertEqual(entry.messages, tuple(messages))
-                self.assertEqual([run.size for run in entry.runs], [1 + room])
+                self.assertEqual([run.size for run in entry.operations], [1 + room])
 
     def test_no_entry_is_larger(self) -> None:
         room = MOST_BYTES - HEAD.size - 16 - 16
@@ -344,10 +344,10 @@ class Sizes(unittest.TestCase):
             for part, after in zip(found, [*found[1:], None]):
                 self.assertLessEqual(len(chunk(*part)), MOST_CHUNK)
                 if after:
-                    self.assertIsNone(packed([*part, after[0]]))
+                    self.assertIsNone(chunk_of([*part, after[0]]))
             before = FORM.claim(7, ANNE)
             for part in found:
-                before = FORM.entry(before, part, ANNE)
+                before = entry_of(FORM, before, part, ANNE)
                 self.assertEqual(FORM.open(before.raw), before)
 
 

@@ -7,7 +7,7 @@ from unittest import mock
 from share.format.entry import NOTE_BYTES, Author, Entry, Form
 from share.store.note_file import About, Client, Disk, make
 from share.sync.state import Holdings
-from share.tests.naive import inserting
+from share.tests.naive import entry_of, inserting
 from share.tests.support import Case
 
 URL = "redis://nowhere"
@@ -18,7 +18,7 @@ def chained(form: Form, claim: Entry, author: Author, many: int, size: int) -> l
     found, at = [claim], 0
     for seq in range(1, many + 1):
         message = inserting(claim.site, seq, at + seq, (claim.site, at - 1) if at else None, at, b"x" * size)
-        found.append(form.entry(found[-1], [message], author, length=at))
+        found.append(entry_of(form, found[-1], [message], author, length=at))
         at += size
     return found[1:]
 

@@ -9,11 +9,12 @@ from unittest import mock
 from share.format import link as links
 from share.format.entry import Entry, Form
 from share.format.link import is_network
-from share.format.operation import Message
+from share.format.operation import Operation
 from share.log.base import open_log
 from share.program.process import Program
 from share.store import notes
 from share.sync.session import Session
+from share.tests.naive import entry_of, taking
 from share.tests.note import Note
 from share.tests.support import Case, Person, wait_for
 
@@ -27,15 +28,15 @@ PATIENCE = 300
 ROUND, EACH = 1_000, 1
 
 
-def history(count: int) -> tuple[list[list[Message]], bytes]:
+def history(count: int) -> tuple[list[list[Operation]], bytes]:
     """So many messages of two sites, in rounds of one site each, and the text that they make."""
     sites = Program(1), Program(2)
-    rounds, length = list[list[Message]](), 0
+    rounds, length = list[list[Operation]](), 0
     while length < count:
-        typing, taking = sites if len(rounds) % 2 == 0 else sites[::-1]
+        typing, other = sites if len(rounds) % 2 == 0 else sites[::-1]
         events = [typing.event("type", length + number, b"%d" % (number % 10)) for number in range(ROUND)]
-        made = [Message.read(bytes.fromhex(answer[0].split()[2].decode())) for answer in typing.ask(events)]
-        taking.ask([taking.taking(message.data) for message in made])
+        made = [Operation.read(bytes.fromhex(answer[0].split()[2].decode())) for answer in typing.ask(events)]
+        other.ask([taking(other, message) for message in made])
         rounds.append(made)
         length += ROUND
     text = sites[0].text()
@@ -44,7 +45,7 @@ def history(count: int) -> tuple[list[list[Message]], bytes]:
     return rounds, text
 
 
-def in_entries(form: Form, rounds: list[list[Message]]) -> list[bytes]:
+def in_entries(form: Form, rounds: list[list[Operation]]) -> list[bytes]:
     """The entries of rounds, as who wrote them gave them to a log."""
     authors = {site: form.new_author() for site in (1, 2)}
     last: dict[int, Entry] = {site: form.claim(site, author) for site, author in authors.items()}
@@ -52,7 +53,7 @@ def in_entries(form: Form, rounds: list[list[Message]]) -> list[bytes]:
     for made in rounds:
         for begin in range(0, len(made), EACH):
             part = made[begin:begin + EACH]
-            last[part[0].site] = form.entry(last[part[0].site], part, authors[part[0].site])
+            last[part[0].site] = entry_of(form, last[part[0].site], part, authors[part[0].site])
             raws.append(last[part[0].site].raw)
     return raws
 
@@ -60,7 +61,7 @@ def in_entries(form: Form, rounds: list[list[Message]]) -> list[bytes]:
 class Joining(Case):
     """Joins notes whose logs the test has filled."""
 
-    def fill(self, url: str, rounds: list[list[Message]], backwards: bool = False) -> str:
+    def fill(self, url: str, rounds: list[list[Operation]], backwards: bool = False) -> str:
         """Makes a log with the messages of rounds; the link of its note."""
         about = notes.about_new(url)
         form = about.form()

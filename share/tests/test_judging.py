@@ -18,11 +18,11 @@ from hypothesis import strategies as st
 
 from share.admission.judge import LEAP, Judge, Rank, rank
 from share.format.entry import NO_HASH, Author, Bad, Copied, Entry, Kind, Plain
-from share.format.operation import Message, typed
+from share.format.operation import Operation
 from share.program.process import Program
 from share.sync.backlog import Backlog
 from share.tests import naive
-from share.tests.naive import CHANGE_LOOKS, DELETE, RESTORE, about, inserting
+from share.tests.naive import CHANGE_LOOKS, DELETE, RESTORE, about, entry_of, inserting, taking
 
 
 class Salted(Plain):
@@ -202,9 +202,9 @@ class History:
         self._followed.add(before.hash)
         if on is None:
             on = naive.built_on(messages, self._seen) if self._chance.random() < 0.7 else b""
-        self._add(FORM.entry(before._replace(site=place.site), messages, author, on), end)
+        self._add(entry_of(FORM, before._replace(site=place.site), messages, author, on), end)
 
-    def _said(self, site: int, seq: int, end: End, fault: Fault) -> tuple[Message, End]:
+    def _said(self, site: int, seq: int, end: End, fault: Fault) -> tuple[Operation, End]:
         """A message of a branch, and what this comes to."""
         of, length, stamp = self._spoken_of(site, end)
         stamp = max(stamp, end.stamp)
@@ -239,7 +239,7 @@ class History:
         end, at = self._ends[branch.hash], branch
         seen = {(branch.site, offset): branch.hash for offset in range(end.length + 10)}
         while at.kind not in (Kind.CLAIM, Kind.COPIES):
-            seen |= {name: at.hash for message in at.messages for name in naive.reading(message.data).inserted()}
+            seen |= {name: at.hash for message in at.messages for name in naive.reading(naive.spelled(message)).inserted()}
             at = known[at.before]
         self._seen = seen | self._seen
 
@@ -278,10 +278,10 @@ def damaged(entry: Entry, chance: random.Random) -> bytes:
     elif what == 2:
         raw += bytes(chance.randint(1, 40))
     elif what == 3:
-        return FORM.entry(entry, [inserting(entry.site % 3 + 4, 1, 1, None, 0, b"x")], Author(entry.author, b"")).raw
+        return entry_of(FORM, entry, [inserting(entry.site % 3 + 4, 1, 1, None, 0, b"x")], Author(entry.author, b"")).raw
     else:
         bad = inserting(entry.site, entry.last + 1, 0, None, 0, b"x")
-        return FORM.entry(entry, [bad], Author(entry.author, b"")).raw
+        return entry_of(FORM, entry, [bad], Author(entry.author, b"")).raw
     return bytes(raw)
 
 
@@ -308,9 +308,9 @@ class Taker:
     def __init__(self, site: int = SITES[0]):
         self.program = Program(site)
 
-    def take(self, messages: Sequence[Message]) -> list[bytes]:
+    def take(self, messages: Sequence[Operation]) -> list[bytes]:
         """What it answers to messages that are handed in."""
-        return [answer for [answer] in self.program.ask([self.program.taking(one.data) for one in messages])]
+        return [answer for [answer] in self.program.ask([taking(self.program, one) for one in messages])]
 
     def close(self) -> None:
         """Ends the run."""
@@ -323,7 +323,7 @@ class Follower:
     def __init__(self, case: unittest.TestCase, prefers: Rank = rank, replica: Callable = naive.Replica):
         self.case, self.judge, self._new = case, Judge(prefers=prefers), replica
         self.replica = replica()
-        self.through: list[Message] = []
+        self.through: list[Operation] = []
         self.came: list[Entry] = []
 
     def add(self, entry: Entry) -> None:
@@ -412,7 +412,7 @@ class Editor:
     def edits(self, chance: random.Random) -> Entry:
         """The entry of an edit or two. What the program made counts at once."""
         program, judge = self.program, self.follower.judge
-        sent: list[Message] = []
+        sent: list[Operation] = []
         while not sent:
             length = len(program.text())
             begin, end = sorted(chance.choices(range(length + 1), k=2))
@@ -422,8 +422,8 @@ class Editor:
             for answer in program.ask(chance.choices(events, weights=[6, 2, 1, 1], k=chance.choice([1, 2]))):
                 # The second of two may lie outside what the first left.
                 self.case.assertIn(answer[-1], [b"ok", b"refused 11"])
-                sent += [Message.read(bytes.fromhex(line.split()[2].decode())) for line in answer[:-1]]
-        self.last = FORM.entry(self.last, sent, self.author, judge.built_on(sent))
+                sent += [Operation.read(bytes.fromhex(line.split()[2].decode())) for line in answer[:-1]]
+        self.last = entry_of(FORM, self.last, sent, self.author, judge.built_on(sent))
         judge.add(self.last)
         self.follower.came.append(self.last)
         self.case.assertEqual(judge.count(), (sent, False))
@@ -576,12 +576,12 @@ class MadeAnew(unittest.TestCase):
         FORM.salt = 0
         self.first, self.second, self.third, _ = AUTHORS
         claims = [FORM.claim(site, author) for site, author in zip(SITES, AUTHORS)]
-        self.sent = FORM.entry(claims[0], [inserting(1, 1, 1, None, 0, b"sent")], self.first)
-        self.unsent = FORM.entry(claims[0], [inserting(1, 1, 1, None, 0, b"kept")], self.first)
+        self.sent = entry_of(FORM, claims[0], [inserting(1, 1, 1, None, 0, b"sent")], self.first)
+        self.unsent = entry_of(FORM, claims[0], [inserting(1, 1, 1, None, 0, b"kept")], self.first)
         after = [inserting(2, 1, 2, (1, 3), 0, b"after")]
-        self.typed = FORM.entry(claims[1], after, self.second, naive.built_on(after, {(1, 3): self.unsent.hash}))
-        self.more = FORM.entry(self.typed, [inserting(2, 2, 3, (2, 4), 5, b"more")], self.second)
-        anew = FORM.entry(claims[2], [inserting(3, 1, 2, (1, 3), 0, b"kept after more")], self.third)
+        self.typed = entry_of(FORM, claims[1], after, self.second, naive.built_on(after, {(1, 3): self.unsent.hash}))
+        self.more = entry_of(FORM, self.typed, [inserting(2, 2, 3, (2, 4), 5, b"more")], self.second)
+        anew = entry_of(FORM, claims[2], [inserting(3, 1, 2, (1, 3), 0, b"kept after more")], self.third)
         self.all = [*claims[:3], self.sent, self.typed, self.more, anew]
 
     def incomplete(self, *said: Entry, without: Sequence[Entry] = ()) -> int:

@@ -11,10 +11,10 @@ from unittest import mock
 from share.admission.judge import AHEAD, Judge
 from share.admission.ledger import MOST_TYPED, Row
 from share.format import chunk as chunks
-from share.format.chunk import MOST_CHUNK, Run
+from share.format.chunk import MOST_CHUNK
 from share.format.entry import Bad, Entry, Kind, Plain, check_entry
 from share.format.keystrokes import Keystrokes
-from share.format.operation import DEFAULT_BYTES, DELETE, GREATEST_STAMP, INSERT, MOST_OF_A_SITE
+from share.format.operation import DELETE, GREATEST_STAMP, INSERT, MOST_OF_A_SITE, PLAIN_LOOKS, Operation
 from share.format.sealed import Sealed
 from share.program.site import Site
 from share.store import contents
@@ -39,28 +39,28 @@ class Typist:
         self.seq, self.stamp, self.at = seq, stamp, at
         self.caret: tuple[int, int] | None = (site, at - 1) if at else None
 
-    def insert(self, data: bytes, size: int = 0, looks: bytes = DEFAULT_BYTES) -> Run:
+    def insert(self, data: bytes, size: int = 0, looks: bytes = PLAIN_LOOKS) -> Operation:
         """Letters, each a message, or all in one."""
         size = size or len(data)
-        cause = [Names(*self.caret, 1)] if self.caret else []
-        run = Run(INSERT, self.site, self.seq + 1, self.stamp + 1, size, cause, self.at, data, looks)
+        cause = (Names(*self.caret, 1),) if self.caret else ()
+        run = Operation(INSERT, self.site, self.seq + 1, self.stamp + 1, size, cause, self.at, data, looks)
         self.seq, self.stamp, self.at = self.seq + size, self.stamp + size, self.at + len(data)
         self.caret = self.site, self.at - 1
         return run
 
-    def delete(self) -> Run:
+    def delete(self) -> Operation:
         """The last character."""
         self.seq, self.stamp = self.seq + 1, self.stamp + 1
-        return Run(DELETE, self.site, self.seq, self.stamp, 1, [Names(self.site, self.at - 1, 1)])
+        return Operation(DELETE, self.site, self.seq, self.stamp, 1, (Names(self.site, self.at - 1, 1),))
 
-    def keep(self, *runs: Run) -> Entry:
+    def keep(self, *runs: Operation) -> Entry:
         """An entry of these."""
         self.last = self.form._made(Kind.CHUNK, self.site, runs[0].seq, sum(run.size for run in runs), self.last.hash, self.author, b"",
                                     self.chunk(*runs))
         self.entries.append(self.last)
         return self.last
 
-    def chunk(self, *runs: Run) -> bytes:
+    def chunk(self, *runs: Operation) -> bytes:
         """The chunk of these."""
         writer, length = chunks.Writer(), next((run.at for run in runs if run.data), self.at)
         assert all(writer.add(run, length) for run in runs)
@@ -124,11 +124,11 @@ class Told(unittest.TestCase):
                 entry = typist.at_random(chance)
                 types_on = keystrokes.type_on(entry)
                 if types_on:
-                    run, = entry.runs
+                    run, = entry.operations
                     self.assertEqual(run[:8], (INSERT, typist.site, before.seq + before.size, before.stamp + before.size, len(run.data),
                                                (Names(typist.site, run.at - 1, 1),), before.at + len(before.data), run.data))
                 told[types_on] += 1
-                before = entry.runs[-1]
+                before = entry.operations[-1]
         self.assertGreater(min(told.values()), 500)
 
     def test_what_is_wrong_is_found(self) -> None:
@@ -187,14 +187,14 @@ class Counts(unittest.TestCase):
         for site in range(1, chance.randint(2, 5)):
             typist = Typist(FORM, site, chance.choice([0, 0, 50, 2**20 + 300]))
             if found and chance.random() < 0.5:
-                other = [run for entry in chance.choice(found) if entry.size for run in entry.runs if run.data]
+                other = [run for entry in chance.choice(found) if entry.size for run in entry.operations if run.data]
                 typist.caret, typist.stamp = (other[-1].site, chance.randrange(other[-1].at + 1)), other[-1].stamp + 5
             made = [typist.last, *(typist.at_random(chance) for _ in range(chance.randint(1, 60)))]
             if chance.random() < 0.4:
                 # A copied folder goes on from an older entry.
                 copy = Typist(FORM, site)
                 place = chance.randrange(len(made))
-                runs = [run for entry in made[:place + 1] if entry.size for run in entry.runs]
+                runs = [run for entry in made[:place + 1] if entry.size for run in entry.operations]
                 copy.author, copy.last = typist.author, made[place]
                 copy.seq, copy.stamp = sum(run.size for run in runs), max((run.stamp + run.size - 1 for run in runs), default=0)
                 copy.at = sum(len(run.data) for run in runs)
@@ -247,8 +247,7 @@ class Counts(unittest.TestCase):
                 begin = chance.randint(0, len(found))
                 some = found[begin:chance.randint(begin, len(found))]
                 parts = [one for part in some.parts() for one in part.holder.parts(part.begin, part.end)]
-                unfolded = [[message for run in (chunks.runs(chunk) if chunk else runs) for message in run.messages()]
-                            for chunk, runs, _ in parts]
+                unfolded = [[each for one in known or chunks.unpacked(chunk) for each in one.each()] for chunk, known, _ in parts]
                 self.assertEqual([*chain.from_iterable(unfolded)], [*some])
                 self.assertEqual([len(of_part) for of_part in unfolded], [size for _, _, size in parts])
 
@@ -258,23 +257,22 @@ class Counts(unittest.TestCase):
             typist.keep(typist.insert(b"\r" if number % 7 == 0 else b"x"))
         found = added(typist.entries, True).let_through_in_order()
         self.assertEqual(len([*found.parts()]), 1)
-        sizes = [len(run.data) for part in found.parts() for chunk, runs, _ in part.holder.parts(part.begin, part.end)
-                 for run in (chunks.runs(chunk) if chunk else runs)]
+        sizes = [len(one.data) for part in found.parts() for chunk, known, _ in part.holder.parts(part.begin, part.end)
+                 for one in known or chunks.unpacked(chunk)]
         self.assertLessEqual(max(sizes), MOST_TYPED)
         self.assertLess(len(sizes), 10)
         with contextlib.closing(Site(1, found)) as site:
-            self.assertEqual(site.text(), b"".join(run.data for entry in typist.entries[1:] for run in entry.runs))
+            self.assertEqual(site.text(), b"".join(run.data for entry in typist.entries[1:] for run in entry.operations))
 
     def test_what_came_of_a_stretch_is_told_as_one(self) -> None:
-        # The first letter, and one that is a code, come by themselves.
-        for letters, long in (b"abcdefgh", [Names(9, 1, 7)]), (b"ab\1cdefgh", [Names(9, 3, 6)]):
+        for letters in b"abcdefgh", b"ab\1cdefgh":
             typist = Typist(FORM, 9)
             for letter in letters:
                 typist.keep(typist.insert(bytes([letter])))
             with contextlib.closing(Site(1)) as site:
                 site.insert(0, b"xy")
                 told, text = site.take(added(typist.entries, True).let_through_in_order(), looks=True), bytearray(b"xy")
-                self.assertEqual([one.names for one in told if one.names.length > 1], long)
+                self.assertEqual([one.names for one in told], [Names(9, 0, len(letters))])
                 make_changes(text, told)
                 self.assertEqual(text, site.text())
                 self.assertEqual(len(site.history), 1 + len(letters))
@@ -306,13 +304,13 @@ class Opened(Case):
         make(self.ann.path(), About(True, bytes(range(32)), ""), rows, [Client(17, typist.author, stood=True)])
 
     def test_few_chunks_are_read(self) -> None:
-        with mock.patch.object(chunks, "_typed", wraps=chunks._typed) as read:
+        with mock.patch.object(chunks, "_keystrokes_in", wraps=chunks._keystrokes_in) as read:
             note = self.opened(self.ann)
             self.assertEqual(note.session.text(), self.text)
         self.assertLess(read.call_count, KEYS // 10)
 
     def test_no_message_is_unfolded(self) -> None:
-        with mock.patch.object(chunks, "messages", side_effect=AssertionError):
+        with mock.patch.object(chunks, "unpacked_one_by_one", side_effect=AssertionError):
             note = self.opened(self.ann)
             self.assertEqual(note.session.text(), self.text)
             with self.ann.here():

@@ -12,13 +12,14 @@ import unittest
 from share.admission.judge import Judge, rank
 from share.admission.left_out import LeftOut
 from share.editors.terminal.status_line import state_of_others
-from share.format.entry import Author, Entry, Form, Kind, Plain, in_entries
-from share.format.operation import Message, length_after, typed
+from share.format.entry import Author, Entry, Form, Kind, Plain
+from share.format.operation import Operation, length_after
 from share.program import retyping
 from share.program.site import Site
 from share.store import contents
 from share.sync.session import Status
 from share.tests.editors import Engines
+from share.tests.naive import entry_of, in_entries
 from share.tests.note import Note
 from share.tests.support import NOTE, Carried, Case, Person, edit_at_random, take, type_at_the_end, wait_for, written
 
@@ -152,7 +153,7 @@ class Taken(Three):
         author = form.new_author()
         other = form.claim(site, author)
         with contextlib.closing(self.anna.log()) as log:
-            log.append([other.raw, form.entry(other, typed_at(site, b"Another's. "), author).raw])
+            log.append([other.raw, entry_of(form, other, typed_at(site, b"Another's. "), author).raw])
         self.carol.open().session.close()
         while len({one["own"] for one in left_out(self.carol) if one["site"] == site}) < 1 or len(
                 [one for one in left_out(self.carol) if one["site"] == site]) < 2:
@@ -291,7 +292,7 @@ class AtRandom(unittest.TestCase):
         last, length = FORM.claim(4, author), 0
         judge.add(last)
         for part in in_entries(again.edited.messages):
-            last = FORM.entry(last, part, author, judge.built_on(part), length)
+            last = entry_of(FORM, last, part, author, judge.built_on(part), length)
             length = length_after(part, length)
             judge.add(last)
         for word in retyping.words_of(again.copies, FORM, author, last):
@@ -310,7 +311,7 @@ class Elsewhere(unittest.TestCase):
             last = FORM.claim(7, author)
             entries.append(last)
             for number, part in enumerate(parts):
-                last = FORM.entry(last, part, author, length=3 * number)
+                last = entry_of(FORM, last, part, author, length=3 * number)
                 entries.append(last)
         for order in itertools.permutations(entries):
             judge, found = Judge([]), list[LeftOut]()
@@ -336,7 +337,7 @@ def left_out(person: Person) -> list[dict]:
         return contents.counted("note", contents.found("note", None, None, None)).left_out
 
 
-def typed_at(site: int, data: bytes) -> list[Message]:
+def typed_at(site: int, data: bytes) -> list[Operation]:
     """What a site has typed that had nothing."""
     with contextlib.closing(Site(site)) as at:
         return at.insert(0, data).messages
@@ -345,10 +346,9 @@ def typed_at(site: int, data: bytes) -> list[Message]:
 def smaller(form: Form, before: Entry, author: Author, than: Entry) -> Entry:
     """An entry in the place of another one, which holds against it."""
     first = than.messages[0]
-    head = first.data[:-len(typed(first)) - 2]
     for number in range(100_000):
         data = b"%06d. " % number
-        one = form.entry(before, [first._replace(data=head + len(data).to_bytes(2, "big") + data)], author)
+        one = entry_of(form, before, [first._replace(data=data)], author)
         if one.hash < than.hash:
             return one
     raise AssertionError("none holds")

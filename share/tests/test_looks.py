@@ -5,7 +5,6 @@ import random
 import shutil
 import subprocess
 
-from share.format.operation import may_dress, mentioned
 from share.program.site import Edited, Site
 from share.tests.editors import Editor, Engines
 from share.tests.support import NOTE, Case, alive, wait_for
@@ -33,16 +32,16 @@ class Fonts(Case):
         site = Site(7)
         self.addCleanup(site.close)
         (typed,) = site.insert(0, b"abcdef").messages
-        self.assertFalse(may_dress(typed.data))
+        self.assertFalse(typed.may_dress)
         (deleted,) = site.cut(3, 4).messages
-        self.assertFalse(may_dress(deleted.data))
+        self.assertFalse(deleted.may_dress)
         for looks in Looks("Oberon10b.Scn.Fnt"), Looks(None, 15), Looks(None, None, -128), Looks("A", 0, 127):
             (message,) = site.look(looks, [Names(7, 2, 3)]).messages
-            self.assertEqual(mentioned(message), [Names(7, 2, 1), Names(7, 4, 1)])
-            self.assertTrue(may_dress(message.data))
+            self.assertEqual(message.mentions, (Names(7, 2, 1), Names(7, 4, 1)))
+            self.assertTrue(message.may_dress)
         self.assertEqual(site.runs(), [Run(*DEFAULT, 2), Run("A", 0, 127, 2), Run(*DEFAULT, 1)])
         messages = site.look(Looks(None, 3), [Names(7, 5, 1), Names(7, 0, 2), Names(7, 3, 1)]).messages
-        self.assertEqual([mentioned(one) for one in messages], [[Names(7, 0, 2)], [Names(7, 5, 1)]])
+        self.assertEqual([one.mentions for one in messages], [(Names(7, 0, 2),), (Names(7, 5, 1),)])
         self.assertEqual(site.look(Looks(None, 4), [Names(7, 3, 1)]), Edited([]))
 
     def test_what_is_set(self) -> None:

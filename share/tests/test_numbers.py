@@ -10,8 +10,8 @@ from unittest import mock
 
 from share.admission.judge import rank
 from share.admission.ledger import Row
-from share.format.entry import LENGTH, Entry, Form, Kind
-from share.format.operation import DELETE, Message
+from share.format.entry import Entry, Form, Kind
+from share.format.operation import DELETE, Operation
 from share.log.base import Log
 from share.log.sqlite import SqliteLog
 from share.program.process import Program
@@ -22,7 +22,7 @@ from share.sync.open_file import OpenFile
 from share.sync.rebasing import Rebaser
 from share.sync.replicator import Replicator
 from share.sync.session import Session
-from share.tests.naive import about
+from share.tests.naive import about, entry_of
 from share.tests.note import Note
 from share.tests.servers import RedisServer
 from share.tests.support import Case, Person, type_at_the_end, wait_for, written
@@ -141,14 +141,13 @@ class Numbers(Case):
     def word_that_holds_against(self, entry: Entry, typed: str) -> str:
         """A word that makes an entry of a smaller hash than what was typed, where it is typed in its place."""
         (message,) = entry.messages
-        head = message.data[:-LENGTH.size - len(typed)]
         with contextlib.closing(self.anna.disk()) as disk:
             (before,) = [row.entry for row in disk.rows() if row.entry.hash == entry.before]
             (author,) = [one.author for one in disk.clients() if one.site == entry.site]
             for number in range(100_000):
                 word = f"another-word-{number} "
-                other = Message.read(head + LENGTH.pack(len(word)) + word.encode())
-                if disk.form.entry(before, [other], author, entry.on).hash < entry.hash:
+                other = message._replace(data=word.encode())
+                if entry_of(disk.form, before, [other], author, entry.on).hash < entry.hash:
                     return word
         raise AssertionError("no word does")
 
@@ -313,10 +312,10 @@ class Numbers(Case):
             form, log = disk.form, self.log()
         claim = form.claim(client.site, client.author)
         forged = Program(client.site)
-        made = Message.read(bytes.fromhex(forged.ask([forged.event("type", 0, b"forged\\20")])[0][0].split()[2].decode()))
+        made = Operation.read(bytes.fromhex(forged.ask([forged.event("type", 0, b"forged\\20")])[0][0].split()[2].decode()))
         forged.close()
         stranger = form.new_author()
-        for entry in (form.entry(claim, [made], stranger), form.entry(claim, [made], client.author)):
+        for entry in (entry_of(form, claim, [made], stranger), entry_of(form, claim, [made], client.author)):
             log.append([entry.raw])
         note = self.opened(self.anna)
         for number in range(30):
@@ -398,7 +397,7 @@ class Numbers(Case):
         author = form.new_author()
         claim = form.claim(4_711, author)
         message = about(DELETE, 4_711, 1, 2**48 - 1, [(self.site_of(), 0, 1)])
-        log.append([claim.raw, form.entry(claim, [message], author).raw])
+        log.append([claim.raw, entry_of(form, claim, [message], author).raw])
         note, other = self.opened(self.anna), self.opened(self.person("other"), link=link)
         for one, words in (note, "four "), (other, "five "):
             type_at_the_end(one, words)

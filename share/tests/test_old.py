@@ -13,9 +13,9 @@ import unittest
 import zlib
 from unittest import mock
 
-from share.format.operation import DELETE, Message
+from share.format.operation import DELETE, Operation
 from share.store.old import JOURNAL_BEGIN, RECORD, Old, is_old_note, messages_of_old_note, messages_of_old_server
-from share.tests.naive import about
+from share.tests.naive import about, spelled
 from share.tests.servers import RedisServer
 from share.text.errors import Trouble
 
@@ -23,14 +23,15 @@ FIXTURES = pathlib.Path(__file__).parent / "data" / "old_notes.tar.gz"
 LOCAL, SERVED = "e1dbd51f7c5d1601", "14bb5b4405555f78"
 
 
-def deletion(site: int, seq: int, at: int = 0) -> Message:
+def deletion(site: int, seq: int, at: int = 0) -> Operation:
     """A message of a site."""
     return about(DELETE, site, seq, seq, [(1, at, 1)])
 
 
-def record(message: Message) -> bytes:
+def record(message: Operation) -> bytes:
     """A record of a journal."""
-    return RECORD.pack(len(message.data), zlib.crc32(message.data)) + message.data
+    data = spelled(message)
+    return RECORD.pack(len(data), zlib.crc32(data)) + data
 
 
 def counts(old: Old | None) -> dict[int, int]:
@@ -182,12 +183,12 @@ class Files(OldCase):
         self.with_log("DELETE FROM entry")
         with contextlib.closing(sqlite3.connect(self.log)) as file, file:
             for seq in range(1, 3000):
-                data = deletion(4, seq).data
+                data = spelled(deletion(4, seq))
                 file.execute("INSERT INTO entry (site, seq, message, checksum) VALUES (?, ?, ?, ?)",
                              (4, seq, data, zlib.crc32(data)))
         with contextlib.closing(sqlite3.connect(self.log)) as file:
             file.execute("PRAGMA wal_checkpoint(TRUNCATE)")
-            page = 1 + self.log.read_bytes()[4096:].index(deletion(4, 1500).data) // 4096
+            page = 1 + self.log.read_bytes()[4096:].index(spelled(deletion(4, 1500))) // 4096
         with open(self.log, "r+b") as whole:
             whole.seek(page * 4096)
             whole.write(b"\xff" * 4096)
@@ -289,7 +290,7 @@ class Servers(OldCase):
         self.assertEqual(old.left_out, ["5 entries of the log can't be read, and left out."])
 
     def test_a_large_one(self) -> None:
-        data = about(DELETE, 5, 1, 1, [(1, 2 * at, 1) for at in range(1024)]).data
+        data = spelled(about(DELETE, 5, 1, 1, [(1, 2 * at, 1) for at in range(1024)]))
         value = struct.pack(">I", zlib.crc32(data)) + data
         hexed = "".join(f"\\x{byte:02x}" for byte in value)
         subprocess.run(["redis-cli", "-p", str(self.server.port)], check=True, capture_output=True,

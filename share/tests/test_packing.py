@@ -17,7 +17,7 @@ from share.store import snapshot
 from share.store.note_file import Unkept
 from share.store.snapshot import FRONT, KEPT, LEFT
 from share.sync.session import Session
-from share.tests.naive import inserting
+from share.tests.naive import entry_of, inserting
 from share.tests.note import Note
 from share.tests.support import TOP, Case, change, python, type_at_the_end, wait_for, written
 
@@ -218,7 +218,7 @@ class Packing(Case):
         """The file has one of two entries of a place, and then the other one holds."""
         form, author = Plain(bytes(16)), Author(b"sixteen bytes of", b"")
         claim = form.claim(7, author)
-        branches = sorted((form.entry(claim, [inserting(7, 1, 1, None, 0, data)], author) for data in (b"x", b"y")),
+        branches = sorted((entry_of(form, claim, [inserting(7, 1, 1, None, 0, data)], author) for data in (b"x", b"y")),
                           key=lambda entry: entry.hash)
         judge = Judge([claim, branches[1]])
         self.file().write_bytes(b"packed")

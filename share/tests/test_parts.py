@@ -10,7 +10,8 @@ from types import ModuleType
 from share.editors.terminal import layout
 from share.editors.terminal.layout import (CLUSTER_BYTES, PART_BYTES, Layout, ScreenRow, Text, cluster_after, cluster_before, decoded,
                                            drawn, word_after, word_before)
-from share.program.site import MOST_BYTES, split
+from share.format.operation import MOST_INSERTED
+from share.program.site import split
 from share.tests.support import Case
 from share.text.change import Change, boundary, make
 
@@ -167,7 +168,7 @@ class Characters(Case):
             self.assertEqual(b"".join(parts), data)
             for part in parts:
                 part.decode()
-                self.assertLessEqual(len(part), MOST_BYTES)
+                self.assertLessEqual(len(part), MOST_INSERTED)
         self.assertEqual(b"".join(split(b"\x80" * 9_000)), b"\x80" * 9_000)
 
 

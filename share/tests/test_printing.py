@@ -8,7 +8,7 @@ import unittest
 from contextlib import closing
 
 from share.format.operation import DELETE
-from share.tests.naive import about
+from share.tests.naive import about, entry_of
 from share.tests.support import NOTE, Case, Person, change, type_at_the_end, written
 
 INCOMPLETE = 3
@@ -116,7 +116,7 @@ class Printing(Case):
         with closing(self.ann.disk()) as disk:
             author = disk.form.new_author()
             claim = disk.form.claim(9, author)
-            bad = disk.form.entry(claim, [about(DELETE, 9, 1, 1, [(9, 0, 1)])], author)
+            bad = entry_of(disk.form, claim, [about(DELETE, 9, 1, 1, [(9, 0, 1)])], author)
         with closing(self.ann.log()) as log:
             log.append([claim.raw, bad.raw])
         self.assert_prints(self.printed(self.ann), "one two three ", "Message 1 of site 9 is wrong")

@@ -2,7 +2,6 @@
 import random
 
 from share.format.entry import Entry
-from share.format.operation import inserted
 from share.tests.support import Case, Pair, edit_at_random, plain_text
 from share.text.change import change
 
@@ -44,8 +43,7 @@ class SameText(Pair):
             self.assertEqual(bytes(note.text), text)
             self.assertEqual(note.session.status().waiting, 0)
         for message in counted:
-            if names := inserted(message):
-                message.data[-names.length:].decode()
+            message.data.decode()
 
 
 class TakingBack(Pair):

@@ -9,18 +9,18 @@ from unittest import mock
 import share.format.sealed
 from share.format import link
 from share.format.chunk import MOST_CHUNK
-from share.format.entry import HEAD, MOST_BYTES, Author, Bad, Entry, Form, Plain, in_entries
+from share.format.entry import HEAD, MOST_BYTES, Author, Bad, Entry, Form, Plain
 from share.format.link import Link, url_of
-from share.format.operation import DELETE, Message
+from share.format.operation import DELETE, Operation
 from share.format.presence import MOST_PRESENCE
 from share.format.sealed import KEY_BYTES, SIGNATURE_BYTES, Sealed, identity_of, new_key
-from share.tests.naive import about
+from share.tests.naive import about, entry_of, in_entries, spelled
 from share.text.errors import Trouble
 
 KEY = bytes(range(KEY_BYTES))
 
 
-def deletion(site: int, seq: int, at: int = 0, ranges: int = 1) -> Message:
+def deletion(site: int, seq: int, at: int = 0, ranges: int = 1) -> Operation:
     """A message of a site that deletes some names."""
     return about(DELETE, site, seq, seq, [(1, at + 2 * number, 1) for number in range(ranges)])
 
@@ -29,7 +29,7 @@ def chain(form: Form, author: Author, site: int = 7, entries: int = 3) -> list[E
     """A claim, and entries of a message each."""
     made = [form.claim(site, author)]
     for seq in range(1, entries + 1):
-        made.append(form.entry(made[-1], [deletion(site, seq)], author))
+        made.append(entry_of(form, made[-1], [deletion(site, seq)], author))
     return made
 
 
@@ -56,7 +56,7 @@ class Opened(unittest.TestCase):
     def test_the_longest_entry_fits(self) -> None:
         messages = [deletion(7, seq, ranges=100) for seq in range(1, 100)]
         part = in_entries(messages)[0]
-        entry = self.form.entry(self.made[0], part, self.author)
+        entry = entry_of(self.form, self.made[0], part, self.author)
         self.assertGreater(len(entry.raw), MOST_CHUNK - 1100)
         self.assertLess(HEAD.size + 32 + 24 + MOST_CHUNK + 16 + 64, MOST_BYTES)
         self.assertEqual(self.form.open(entry.raw).messages, tuple(part))
@@ -67,7 +67,7 @@ class Opened(unittest.TestCase):
         self.assertEqual(*anew)
 
     def test_other_messages_for_the_same_place_have_another_nonce(self) -> None:
-        other = self.form.entry(self.made[0], [deletion(7, 1, at=5)], self.author)
+        other = entry_of(self.form, self.made[0], [deletion(7, 1, at=5)], self.author)
         begin = HEAD.size + 32
         self.assertEqual(other.raw[:begin], self.made[1].raw[:begin])
         self.assertNotEqual(other.raw[begin:begin + 24], self.made[1].raw[begin:begin + 24])
@@ -75,7 +75,7 @@ class Opened(unittest.TestCase):
     def test_nothing_of_the_messages_can_be_seen(self) -> None:
         """The same message under two keys has nothing in common after the head, and its bytes aren't there."""
         other = chain(Sealed(new_key()), self.author)[1].raw
-        raw, data = self.made[1].raw, self.made[1].messages[0].data
+        raw, data = self.made[1].raw, spelled(self.made[1].messages[0])
         self.assertNotIn(data, raw)
         self.assertNotIn(self.made[1].chunk, raw)
         self.assertNotEqual(raw[-SIGNATURE_BYTES:], other[-SIGNATURE_BYTES:])
@@ -108,7 +108,7 @@ class Opened(unittest.TestCase):
     def test_who_has_the_key_can_not_write_as_another(self) -> None:
         """Who has the link, and not the author's secret, signs with their own, or moves a signature."""
         other = self.form.new_author()
-        forged = self.form.entry(self.made[0], [deletion(7, 1, at=9)], Author(self.author.name, other.secret))
+        forged = entry_of(self.form, self.made[0], [deletion(7, 1, at=9)], Author(self.author.name, other.secret))
         self.refuses(forged.raw, "isn't signed by its author")
         moved = forged.raw[:-SIGNATURE_BYTES] + self.made[1].raw[-SIGNATURE_BYTES:]
         self.refuses(moved, "isn't signed by its author")

@@ -19,9 +19,9 @@ from share.admission.judge import rank
 from share.format.entry import MOST_BYTES, Author, Entry, Form
 from share.format.heartbeat import OF_BEFORE
 from share.format.link import Link, read
-from share.format.operation import DELETE, Message
+from share.format.operation import DELETE, Operation
 from share.store.note_file import About
-from share.tests.naive import about, inserting
+from share.tests.naive import about, entry_of, inserting
 from share.tests.note import Note
 from share.tests.servers import Hostile
 from share.tests.servers import RedisServer as Server
@@ -88,7 +88,7 @@ class Tapped:
             other.shutdown(socket.SHUT_RDWR)
 
 
-def insertion(site: int, seq: int, stamp: int, at: int, data: bytes) -> Message:
+def insertion(site: int, seq: int, stamp: int, at: int, data: bytes) -> Operation:
     """A message that types at the front of the text."""
     return inserting(site, seq, stamp, None, at, data)
 
@@ -130,12 +130,12 @@ class Shared(Case):
         with contextlib.closing(self.ann.log()) as log:
             return [raw for raw in raws_of(log) if raw is not None]
 
-    def peer(self, site: int, *messages: Message) -> tuple[Author, list[Entry]]:
+    def peer(self, site: int, *messages: Operation) -> tuple[Author, list[Entry]]:
         """Somebody with the link who claims a number and sends messages."""
         author = self.form.new_author()
         made = [self.form.claim(site, author)]
         for message in messages:
-            made.append(self.form.entry(made[-1], [message], author))
+            made.append(entry_of(self.form, made[-1], [message], author))
         return author, made
 
     def assert_others_go_on(self, shows: bytes = b"one two ") -> Note:
@@ -207,7 +207,7 @@ class Operators(Shared):
         forger = About(True, bytes(range(32))).form()
         author = forger.new_author()
         claim = forger.claim(7, author)
-        forged = forger.entry(claim, [insertion(7, 1, 1, 0, b"forged")], author)
+        forged = entry_of(forger, claim, [insertion(7, 1, 1, 0, b"forged")], author)
         for made in claim, forged:
             # With the note's identity in place of the other one's.
             self.add(made.raw[:2] + self.form.note + made.raw[18:])
@@ -270,7 +270,7 @@ class Peers(Shared):
         other = About(True, bytes(32)).form()
         author = other.new_author()
         claim = other.claim(7, author)
-        self.append(claim.raw, other.entry(claim, [insertion(7, 1, 1, 0, b"other")], author).raw)
+        self.append(claim.raw, entry_of(other, claim, [insertion(7, 1, 1, 0, b"other")], author).raw)
         bob = self.assert_others_go_on()
         self.assertRegex(bob.notice, "of another note|left out")
 
@@ -281,14 +281,14 @@ class Peers(Shared):
 
     def test_who_has_the_link_cant_sign_for_another(self) -> None:
         last, author = self.note_of_ann.session.last(), self.form.new_author()
-        forged = self.form.entry(last, [insertion(last.site, 3, 9, 8, b"not Ann's")], Author(last.author, author.secret))
+        forged = entry_of(self.form, last, [insertion(last.site, 3, 9, 8, b"not Ann's")], Author(last.author, author.secret))
         self.append(forged.raw)
         self.assert_others_go_on()
         self.assertEqual(self.note_of_ann.session.number, last.site)
 
     def test_entries_of_anothers_number_are_left_out(self) -> None:
         last, author = self.note_of_ann.session.last(), self.form.new_author()
-        self.append(self.form.entry(last, [insertion(last.site, 3, 9, 8, b"not Ann's")], author).raw)
+        self.append(entry_of(self.form, last, [insertion(last.site, 3, 9, 8, b"not Ann's")], author).raw)
         self.assert_others_go_on()
         self.assertEqual(self.note_of_ann.session.number, last.site)
 
@@ -364,7 +364,7 @@ class Groups(Case):
         # All that it takes is what the log has.
         with contextlib.closing(self.person("bob").log()) as log:
             form = About(False, raws_of(log)[0][2:18]).form()
-            forged = form.entry(last, [insertion(last.site, last.last + 1, 9, 4, b"forged ")], Author(last.author, b""))
+            forged = entry_of(form, last, [insertion(last.site, last.last + 1, 9, 4, b"forged ")], Author(last.author, b""))
             log.append([forged.raw])
         self.assert_comes_to(bob, b"forged one ")
 

@@ -7,11 +7,11 @@ from unittest import mock
 
 from share.admission.ledger import Ledger, Line, Row
 from share.format import chunk as chunks
-from share.format.chunk import MOST_CHUNK, Writer, of_message
+from share.format.chunk import MOST_CHUNK, Writer
 from share.format.entry import Kind, Plain
 from share.format.history import Messages, Part
-from share.format.operation import DELETE, Message
-from share.program.intake import PLACE, Coming
+from share.format.operation import DELETE, Operation
+from share.program.intake import COST_OF_A_PLACE, Coming
 from share.program.site import Site
 from share.tests.attacks import AT_THE_FRONT, LETTERS, Hostile, square
 from share.tests.editors import Engines
@@ -25,7 +25,7 @@ WORDS = "The first words of the note. "
 assert not {*LETTERS} & {*WORDS, "x"}
 
 
-def messages_of(site: int, chance: random.Random) -> list[Message]:
+def messages_of(site: int, chance: random.Random) -> list[Operation]:
     """What somebody types at the end, at the front, and deletes."""
     found, at = [], 0
     for seq in range(1, 1 + chance.randint(1, 60)):
@@ -42,9 +42,9 @@ def messages_of(site: int, chance: random.Random) -> list[Message]:
 class Parts(unittest.TestCase):
     """Messages that come are handed in in parts."""
 
-    def coming(self, chance: random.Random) -> tuple[Coming, list[Message]]:
+    def coming(self, chance: random.Random) -> tuple[Coming, list[Operation]]:
         """Messages of some entries, parts of which came before."""
-        coming, whole = Coming(), list[Message]()
+        coming, whole = Coming(), list[Operation]()
         for site in range(1, 8):
             made = messages_of(site, chance)
             line, middle = line_of([made]), chance.randint(0, len(made))
@@ -57,10 +57,11 @@ class Parts(unittest.TestCase):
         chance = random.Random(4)
         for _ in range(20):
             coming, whole = self.coming(chance)
-            found: list[Message] = []
+            found: list[Operation] = []
             while coming:
-                some, chunk = coming.first()
-                self.assertEqual([*Messages(some).chunks()], [(chunk, len(some))])
+                some = coming.first()
+                self.assertEqual([*Messages(parts=some.parts()).chunks()], [*some.chunks()])
+                self.assertEqual(sum(size for _, size in some.chunks(few=1)), len(some))
                 # What fails is handed in again.
                 done = chance.choice([0, len(some), len(some)])
                 found += [*some][:done]
@@ -72,8 +73,8 @@ class Parts(unittest.TestCase):
         # By itself it would be spelled in more bytes than it has after the letter before it, which are as many as may be.
         form = Plain(bytes(16))
         author, writer = form.new_author(), Writer()
-        self.assertTrue(writer.add(of_message(inserting(9, 1, 1, None, 0, b"a"))))
-        far = of_message(inserting(9, 2, 2**40, (60_000, 2**23), 1, b"\1"))
+        self.assertTrue(writer.add(inserting(9, 1, 1, None, 0, b"a")))
+        far = inserting(9, 2, 2**40, (60_000, 2**23), 1, b"\1")
         room = (MOST_CHUNK - len(writer.data)) // 2 - 8
         self.assertTrue(writer.add(far._replace(size=room, data=b"\1" * room)))
         claim, ledger = form.claim(9, author), Ledger(form)
@@ -81,11 +82,11 @@ class Parts(unittest.TestCase):
         line = Line(ledger, 9)
         for one in claim, entry:
             line.add(ledger.add(Row(0, one, False), 0))
-        coming, found = Coming(), list[Message]()
+        coming, found = Coming(), list[Operation]()
         coming.add(Messages(parts=[Part(line, 0, 1 + room)]))
         while coming:
-            some, chunk = coming.first()
-            self.assertEqual(chunks.messages(chunk), tuple(some))
+            some = coming.first()
+            self.assertEqual([one for chunk, _ in some.chunks() for one in chunks.unpacked_one_by_one(chunk)], [*some])
             found += some
             coming.drop(len(some))
         self.assertEqual(found, [*entry.messages])
@@ -111,7 +112,7 @@ class Meanwhile(Case):
 
     def test_what_is_typed_meanwhile_counts_everywhere(self) -> None:
         chance = random.Random(6)
-        with mock.patch.multiple("share.program.intake", BEGIN=PLACE, MOST=PLACE):
+        with mock.patch.multiple("share.program.intake", FIRST_COST=COST_OF_A_PLACE, MOST_COST=COST_OF_A_PLACE):
             anna, berta = self.together(self.file_log(), "anna", "berta")
         berta.session.turn_seconds, between = 0.0, 0
         for _ in range(3):
@@ -136,7 +137,7 @@ class Meanwhile(Case):
         real, failed = Site._ask, list[bytes]()
 
         def ask(site: Site, events: list[bytes]) -> list[list[bytes]]:
-            if site is berta.session.site and not failed and any(b" take " in event for event in events):
+            if site is berta.session.site and not failed and any(b" unpack " in event for event in events):
                 failed.extend(events)
                 raise Trouble("The program ended, was started again and ended again.")
             return real(site, events)

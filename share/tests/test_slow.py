@@ -7,7 +7,7 @@ from unittest import mock
 from share.format import link as links
 from share.log.base import open_log
 from share.store import notes
-from share.tests.naive import inserting
+from share.tests.naive import entry_of, inserting
 from share.tests.support import Case, raws_of, wait_for, written
 from share.tests.test_joining import history, in_entries
 from share.tests.throttle import Throttle
@@ -104,7 +104,7 @@ class SlowLine(Case):
         with contextlib.closing(open_log(self.server.url, self.form.note)) as log:
             log.append([last.raw])
             while not ends.wait(max(0.0, begin + size / rate - time.monotonic())):
-                last = self.form.entry(last, [inserting(7, seq + 1, seq + 1, None, seq * len(MORE), MORE)], author)
+                last = entry_of(self.form, last, [inserting(7, seq + 1, seq + 1, None, seq * len(MORE), MORE)], author)
                 seq, size = seq + 1, size + len(last.raw)
                 log.append([last.raw])
 

@@ -9,12 +9,10 @@ import pathlib
 import random
 import unittest
 
-from share.format import chunk
 from share.format import operation as messages
-from share.format.operation import (CHANGE_LOOKS, DELETE, INSERT, LONGEST_MESSAGE, RESTORE, Message, inserted,
-                                    is_spelled, mentioned, names_of)
+from share.format.operation import CHANGE_LOOKS, DELETE, INSERT, LONGEST_MESSAGE, RESTORE, Operation
 from share.program.process import Program
-from share.tests.naive import about, head, reading
+from share.tests.naive import about, head, inserting, is_spelled, reading, spelled
 from share.text.names import Names
 
 TIMES = int(os.environ.get("VIALSHOAL_EXAMPLES", "0"))
@@ -139,7 +137,7 @@ def with_bytes(length: int) -> bytes:
 
 def deleting(at: int, length: int) -> bytes:
     """A Delete of one range of another site."""
-    return about(DELETE, 1, 1, 2, [(2, at, length)]).data
+    return spelled(about(DELETE, 1, 1, 2, [(2, at, length)]))
 
 
 # The longest messages and files, and what is longer or shorter than any.
@@ -158,6 +156,11 @@ def made() -> list[bytes]:
     return out
 
 
+def handing(program: Program, raw: bytes) -> bytes:
+    """The event that hands these bytes in."""
+    return program.event("take", raw.hex().encode())
+
+
 class AsTheProgram(unittest.TestCase):
     """What a message is, the program says."""
 
@@ -166,7 +169,7 @@ class AsTheProgram(unittest.TestCase):
         spelled = list(map(is_spelled, tried))
         for begin in range(0, len(tried), RUN):
             program = Program(1)
-            answers = program.ask([program.taking(raw) for raw in tried[begin:begin + RUN]])
+            answers = program.ask([handing(program, raw) for raw in tried[begin:begin + RUN]])
             program.close()
             for raw, right, [answer] in zip(tried[begin:], spelled[begin:], answers):
                 self.assertEqual(right, answer not in (b"refused 1", b"refused 2"), (answer, raw.hex()))
@@ -188,7 +191,7 @@ class AsTheProgram(unittest.TestCase):
             tried = [raw[:at] + bytes([byte]) + raw[at + 1:] for at in range(len(raw)) for byte in range(256)]
             if not TIMES:
                 tried = chance.sample(tried, 1_000)
-            for one, [answer] in zip(tried, program.ask([program.taking(one) for one in tried])):
+            for one, [answer] in zip(tried, program.ask([handing(program, one) for one in tried])):
                 self.assertEqual(is_spelled(one), answer not in (b"refused 1", b"refused 2"), (answer, one.hex()))
         program.close()
 
@@ -198,37 +201,36 @@ class SecondReading(unittest.TestCase):
 
     def test_names(self) -> None:
         for raw in filter(is_spelled, made()):
-            message, read = Message.read(raw), reading(raw)
+            message, read = Operation.read(raw), reading(raw)
             self.assertLessEqual(len(raw), LONGEST_MESSAGE)
-            self.assertEqual((message.site, message.seq, message.stamp, message.kind, message.data),
-                             (read.site, read.seq, read.stamp, read.kind, raw))
-            ranges = [Names(*one) for one in read.ranges]
+            self.assertEqual((message.site, message.seq, message.stamp, message.kind, message.size, spelled(message)),
+                             (read.site, read.seq, read.stamp, read.kind, 1, raw))
+            ranges = tuple(Names(*one) for one in read.ranges)
             new = Names(read.site, read.at, read.length) if read.kind == INSERT else None
-            self.assertEqual((inserted(message), mentioned(message)), (new, ranges))
-            self.assertEqual(names_of(message), [new] if new else ranges if read.kind in (DELETE, RESTORE) else [])
+            self.assertEqual((message.new, message.mentions), (new, ranges))
+            self.assertEqual(message.names, (new,) if new else ranges if read.kind in (DELETE, RESTORE) else ())
 
     def test_what_does_not_begin_as_a_message(self) -> None:
-        raw = head(INSERT, 1, 1, 1)
-        self.assertEqual(Message.read(raw).stamp, 1)
-        for bad in b"", raw[:19], b"OU" + raw[2:]:
-            self.assertRaises(ValueError, Message.read, bad)
+        raw = spelled(inserting(1, 1, 1, None, 0, b"x"))
+        self.assertEqual(Operation.read(raw).stamp, 1)
+        for bad in b"", raw[:19], raw[:20], b"OU" + raw[2:]:
+            self.assertRaises(ValueError, Operation.read, bad)
             self.assertFalse(is_spelled(bad))
 
 
 class TheProgramAlone(unittest.TestCase):
-    """Messages are made by the program, and read here; one file unfolds them from chunks, as the program does."""
+    """Messages are made by the program, and read here, in one file."""
 
     def test_no_file_packs_a_message(self) -> None:
-        reads, unfolds = pathlib.Path(messages.__file__), pathlib.Path(chunk.__file__)
+        reads = pathlib.Path(messages.__file__)
         for path in (path for path in reads.parents[1].rglob("*.py") if path.parent.name != "tests"):
             nodes = [*ast.walk(ast.parse(path.read_bytes()))]
             packs = {ast.unparse(one.value) for one in nodes if isinstance(one, ast.Attribute) and one.attr.startswith("pack")}
             forms = {name.name for one in nodes if isinstance(one, ast.ImportFrom) and one.module == "share.format.operation"
                      for name in one.names}
             tags = [one for one in nodes if isinstance(one, ast.Constant) and one.value == messages.TAG]
-            self.assertEqual(packs if path == reads else packs & forms,
-                             {"HEADER", "INSERTION", "LENGTH", "RANGE"} if path == unfolds else set(), path.name)
-            self.assertEqual(bool(tags or "TAG" in forms), path in (reads, unfolds), path.name)
+            self.assertEqual(packs if path == reads else packs & forms, set(), path.name)
+            self.assertEqual(bool(tags or "TAG" in forms), path == reads, path.name)
 
 
 if __name__ == "__main__":

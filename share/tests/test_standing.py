@@ -5,18 +5,18 @@ import unittest
 
 from share.admission.judge import Judge
 from share.format.entry import Author, Copied, Copy, Entry, Plain
-from share.format.operation import Message
+from share.format.operation import Operation
 from share.admission.ledger import Row
 from share.store.note_file import Client
 from share.sync.recovered import Recovered
 from share.sync.standing import Standing, in_stretches, said_of_copies
-from share.tests.naive import inserting
+from share.tests.naive import entry_of, inserting
 
 FORM = Plain(bytes(16))
 OLD = Author(b"who wrote it all", b"")
 
 
-def typed(site: int, seq: int, data: bytes) -> Message:
+def typed(site: int, seq: int, data: bytes) -> Operation:
     """What a site types as its message of a seq."""
     return inserting(site, seq, seq, None, seq - 1, data)
 
@@ -26,8 +26,8 @@ class Sets(unittest.TestCase):
 
     def setUp(self) -> None:
         claim = FORM.claim(50, OLD)
-        self.first = FORM.entry(claim, [typed(50, 1, b"a")], OLD)
-        self.old = FORM.entry(self.first, [typed(50, 2, b"b")], OLD, length=1)
+        self.first = entry_of(FORM, claim, [typed(50, 1, b"a")], OLD)
+        self.old = entry_of(FORM, self.first, [typed(50, 2, b"b")], OLD, length=1)
         self.rows = {entry.hash: Row(0, entry, True) for entry in (claim, self.first, self.old)}
         self.counts: dict[tuple[int, int], bytes] = {}
 
@@ -39,8 +39,8 @@ class Sets(unittest.TestCase):
         """What says that a message stands for one of an entry, and the entry of that message."""
         author = Author(site.to_bytes(16, "big"), b"")
         claim = FORM.claim(site, author)
-        before = claim if seq == 1 else FORM.entry(claim, [typed(site, 1, b"x")], author)
-        made = FORM.entry(before, [typed(site, seq, data)], author, length=seq - 1)
+        before = claim if seq == 1 else entry_of(FORM, claim, [typed(site, 1, b"x")], author)
+        made = entry_of(FORM, before, [typed(site, seq, data)], author, length=seq - 1)
         said = FORM.copies(Copied(OLD.name, 50, author.name, site, ((old.first, seq, 1),), made.hash), OLD, 50, old.hash)
         self.rows |= {entry.hash: Row(0, entry, own) for entry in (claim, before, made)}
         return Row(0, said, own), made
@@ -76,7 +76,7 @@ class Sets(unittest.TestCase):
             self.assertEqual([*standing.made_here(self.entry_of, self.rows)],
                              [(Copy(made.author, 3, 1), False)] * counts)
         # Nor is another history of the old number spoken of.
-        fork = FORM.entry(self.first, [typed(50, 2, b"c")], OLD, length=1)
+        fork = entry_of(FORM, self.first, [typed(50, 2, b"c")], OLD, length=1)
         self.counts = {(3, 1): made.hash}
         self.assertFalse(standing.is_stood_for(fork, 2, self.entry_of, self.rows))
 
@@ -98,9 +98,9 @@ class Sets(unittest.TestCase):
         self.assertTrue(20 < len(looked_at) <= 50, len(looked_at))
 
     def test_what_was_withdrawn_is_spoken_of_apart(self) -> None:
-        withdrawn = FORM.entry(self.old, [typed(50, 3, b"c")], OLD, length=2)
+        withdrawn = entry_of(FORM, self.old, [typed(50, 3, b"c")], OLD, length=2)
         author = Author(bytes(16), b"")
-        new = FORM.entry(FORM.claim(60, author), [typed(60, 1, b"b"), typed(60, 2, b"c")], author)
+        new = entry_of(FORM, FORM.claim(60, author), [typed(60, 1, b"b"), typed(60, 2, b"c")], author)
         here = self.rows | {withdrawn.hash: Row(0, withdrawn, True)}
         pairs = {self.old.hash: [(2, 1)], withdrawn.hash: [(3, 2)]}
         words = said_of_copies(FORM, {(50, OLD.name): Client(50, OLD)}, here, new, pairs, {withdrawn.hash})
@@ -115,14 +115,14 @@ class Sets(unittest.TestCase):
 
     def test_what_was_typed_again_gives_way_to_a_copy_of_its_own_history(self) -> None:
         # Of three messages of one place one holds, another was typed again, and the third made anew.
-        entries = sorted((FORM.entry(self.first, [typed(50, 2, data)], OLD, length=1) for data in (b"b", b"c", b"d")),
+        entries = sorted((entry_of(FORM, self.first, [typed(50, 2, data)], OLD, length=1) for data in (b"b", b"c", b"d")),
                          key=lambda entry: entry.hash)
         for other, gives_way in (entries[1], True), (entries[2], False):
             judge, recovered, again = Judge([*(row.entry for row in self.rows.values()), *entries]), Recovered(), entries[1]
             for site, old in (60, again), (70, other):
                 author = Author(site.to_bytes(16, "big"), b"")
                 claim, (message,) = FORM.claim(site, author), old.messages
-                made = FORM.entry(claim, [typed(site, 1, message.data[-1:])], author)
+                made = entry_of(FORM, claim, [typed(site, 1, message.data[-1:])], author)
                 said = Copied(OLD.name, 50, author.name, site, ((2, 1, 1),), made.hash)
                 word = FORM.copies(said, author, site) if site == 60 else FORM.copies(said, OLD, 50, old.hash)
                 for entry in claim, made, word:

@@ -5,10 +5,10 @@ import shlex
 import unittest
 from unittest import mock
 
-from share.format.operation import MOST_OF_A_SITE, MOST_RANGES, names_of
+from share.format.operation import MOST_INSERTED, MOST_OF_A_SITE, MOST_RANGES
 from share.program.effects import stretches
 from share.program.process import Program, command
-from share.program.site import MOST_BYTES, MOST_NAMES, TOO_MANY, Edited, Site, Told
+from share.program.site import MOST_NAMES, TOO_MANY, Edited, Site, Told
 from share.tests.note import Note
 from share.tests.support import Pair, edit_at_random
 from share.text.change import boundary, make
@@ -154,7 +154,7 @@ class Tells(Pair):
 
     def test_a_program_that_took_all_its_lines_is_started_again(self) -> None:
         one, two = self.notes
-        with (mock.patch("share.program.site.MOST_LINES", 200),
+        with (mock.patch("share.program.site.MOST_LINES_READ", 100),
               mock.patch("share.program.site.Program", side_effect=Program) as started):
             for number in range(50):
                 one.moved_to(number)
@@ -217,12 +217,12 @@ class Tells(Pair):
         one, _ = self.notes
         one.type("a")
         with mock.patch("share.program.site.MOST_MESSAGES", len(one.session.site.history) + 1):
-            one.type("b" * (MOST_BYTES + 1))
+            one.type("b" * (MOST_INSERTED + 1))
             self.assertRegex(one.notice, r"refused \(21\)")
         one.type("c")
-        self.shows("a" + "b" * MOST_BYTES + "c")
+        self.shows("a" + "b" * MOST_INSERTED + "c")
         one.take_back()
-        self.shows("a" + "b" * MOST_BYTES)
+        self.shows("a" + "b" * MOST_INSERTED)
 
 
 class ByNames(unittest.TestCase):
@@ -245,7 +245,7 @@ class ByNames(unittest.TestCase):
         make(self.text, told)
         self.assertEqual((self.text, edited.refused), (text, None))
         self.assertEqual(self.site.text(), text)
-        return [names_of(message) for message in edited.messages]
+        return [[*message.names] for message in edited.messages]
 
     def test_what_changes_alone_is_named(self) -> None:
         self.typed(b"abcdef")

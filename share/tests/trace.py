@@ -15,7 +15,7 @@ from typing import NamedTuple
 
 from share.admission.judge import Judge
 from share.format.entry import Bad, Entry, Kind
-from share.format.operation import CHANGE_LOOKS, DELETE, INSERT, Message, mentioned, typed
+from share.format.operation import CHANGE_LOOKS, DELETE, INSERT, Operation
 from share.store.note_file import about_of, as_text
 
 ENTRIES = "SELECT hash, raw, made, offered, hash IN (SELECT hash FROM withdrawn) FROM entry ORDER BY place"
@@ -56,11 +56,11 @@ def in_words(entry: Entry) -> str:
     return " ".join(map(of_message, entry.messages)) if entry.size else ""
 
 
-def of_message(one: Message) -> str:
+def of_message(one: Operation) -> str:
     """What a message does."""
-    names = ",".join(f"{name.site}:{name.at}+{name.length}" for name in mentioned(one))
+    names = ",".join(f"{name.site}:{name.at}+{name.length}" for name in one.mentions)
     if one.kind == INSERT:
-        return f"{typed(one).decode(errors='replace')!r} after {names or 'nothing'}"
+        return f"{one.data.decode(errors='replace')!r} after {names or 'nothing'}"
     return f"{'hides' if one.kind == DELETE else 'looks' if one.kind == CHANGE_LOOKS else 'shows'} {names}"
 
 

@@ -7,7 +7,7 @@ from share.text.names import Names
 
 # The line end inside a text.
 LINE_END = b"\r"
-# Bytes are compared so many at a time, and one by one only where these differ.
+# The bytes that are compared at once; only where these differ they are compared one by one.
 BLOCK = 4_096
 
 
@@ -67,7 +67,7 @@ def boundary(text: bytes, position: int) -> int:
 
 
 def _common(equal: Callable[[int, int], bool], most: int) -> int:
-    """How many bytes are equal, from a place on; `equal` compares so many at a place."""
+    """The number of equal bytes from a place on; `equal` compares a place, with a size."""
     done = 0
     while done < most and equal(done, min(BLOCK, most - done)):
         done += min(BLOCK, most - done)

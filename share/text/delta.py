@@ -4,11 +4,11 @@ from collections.abc import Iterable, Iterator, Sequence
 
 from share.text.units import Units
 
-# So many units are kept where it is above 0, and deleted where it is below; bytes of the units' encoding come in.
-Part = int | bytes
+# A number above 0 keeps this many units, one below 0 deletes them; bytes, in the units' encoding, come in.
+Piece = int | bytes
 # A part after the last one is kept. What is inserted stands before what is deleted in the same place, so that what
 # does the same is equal.
-Op = list[Part]
+Op = list[Piece]
 # What is between two positions gives way to some units.
 Replacement = tuple[int, int, bytes]
 NOTHING: Op = []
@@ -69,17 +69,17 @@ class _Reader:
         """Whether a part is left."""
         return self._place < len(self._op)
 
-    def next(self) -> Part:
+    def next(self) -> Piece:
         """What is next; all that is after the last part is kept."""
         return self._op[self._place] if self.has_more() else ENDLESS
 
     def left(self) -> int:
-        """How many units are left of it."""
+        """The units that are left of it."""
         part = self.next()
         return (len(part) // self._size if isinstance(part, bytes) else abs(part)) - self._taken
 
     def take(self, count: int) -> bytes:
-        """Takes so many units of it; what they insert."""
+        """Takes this many units of it; what they insert."""
         part, begin = self.next(), self._taken
         whole = count == self.left()
         if self.has_more():

@@ -47,5 +47,5 @@ def counted(number: int, noun: str) -> str:
 
 
 def entries(number: int) -> str:
-    """So many entries, in words."""
+    """A number of entries, in words."""
     return "1 entry" if number == 1 else f"{number:,} entries"

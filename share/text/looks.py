@@ -10,7 +10,7 @@ COLOURS = ("#000000", "#000000", "#cc2222", "#228822", "#2222cc", "#aa22aa", "#a
            "#555555", "#888888", "#dd6666", "#66aa66", "#6666dd", "#cc66cc", "#ccaa44", "#66aaaa")
 PLAIN_COLOURS = (0, 1)
 LONGEST_FONT, MOST_COLOUR = 31, len(COLOURS) - 1
-LETTERS = "ABCDEFGHIJKLMNOPQRSTUVWXYZabcdefghijklmnopqrstuvwxyz"
+FONT_LETTERS = "ABCDEFGHIJKLMNOPQRSTUVWXYZabcdefghijklmnopqrstuvwxyz"
 
 
 class Looks(NamedTuple):
@@ -26,7 +26,7 @@ class Looks(NamedTuple):
 
 
 class Run(NamedTuple):
-    """A stretch of equal looks: its font, colour and offset, and how many bytes it has."""
+    """A stretch of equal looks: its font, colour and offset, and its length in bytes."""
 
     font: str
     colour: int
@@ -60,30 +60,30 @@ DEFAULT = Looks("Oberon10.Scn.Fnt", 1, 0)
 
 def is_bold(font: str) -> bool:
     """Whether a font is a bold one."""
-    return "b" in _parts(font)[1]
+    return "b" in _font_parts(font)[1]
 
 
 def is_slanted(font: str) -> bool:
     """Whether a font is a slanted one."""
-    return "i" in _parts(font)[1]
+    return "i" in _font_parts(font)[1]
 
 
 def with_weight(font: str, bold: bool) -> str:
     """The font of the same family that is bold, or isn't."""
-    family, ending, rest = _parts(font)
+    family, ending, rest = _font_parts(font)
     made = family + ("b" if bold else "") + ending.replace("b", "") + rest
     return made if is_bold(made) == bold and len(made) <= LONGEST_FONT else with_weight(DEFAULT.font or "", bold)
 
 
-def _parts(font: str) -> tuple[str, str, str]:
+def _font_parts(font: str) -> tuple[str, str, str]:
     """A font's family with its size, whether it is bold or slanted, and the rest. Letters after the size say that."""
     name, dot, rest = font.partition(".")
-    ending = name.lstrip(LETTERS).lstrip("0123456789")
+    ending = name.lstrip(FONT_LETTERS).lstrip("0123456789")
     return (name[:len(name) - len(ending)], ending, dot + rest) if ending in ("b", "i", "bi") else (name, "", dot + rest)
 
 
 def dressed(runs: Sequence[Run], most: int) -> list[Dressed]:
-    """The stretches of a text whose looks aren't plain, so many at most."""
+    """The stretches of a text whose looks aren't plain, the first ones up to a number."""
     found, at = list[Dressed](), 0
     for run in runs:
         if told(run.looks):

@@ -9,10 +9,10 @@ from itertools import accumulate
 from share.text.change import Change
 from share.text.units import UNITS, Units
 
-BYTES = "bytes"
-# A part has so many bytes as it is made, and up to twice as many after changes.
-PART = 4_096
-# A character goes on with so many bytes at most.
+AS_BYTES = "bytes"
+# The bytes of a part as it is made; changes may double them.
+PIECE_SIZE = 4_096
+# A character goes on with no more than this many bytes.
 REACH = 3
 _SWAPPED = bytes.maketrans(b"\r\n", b"\n\r")
 _HALVES = dict.fromkeys(range(0xDC80, 0xDD00), "\ufffd")
@@ -42,7 +42,7 @@ def shown(data: bytes) -> str:
 def _sizes_of(data: bytes) -> dict[str, int]:
     """The size of some bytes, in bytes and in each of the units as they are shown."""
     text = shown(data)
-    return {BYTES: len(data), "utf-8": len(text.encode()), "utf-16": len(text.encode("utf-16-le")) // 2,
+    return {AS_BYTES: len(data), "utf-8": len(text.encode()), "utf-16": len(text.encode("utf-16-le")) // 2,
             "utf-32": len(text)}
 
 
@@ -52,15 +52,15 @@ def _goes_on(byte: int) -> bool:
 
 
 def _going_on(data: bytes) -> int:
-    """How many bytes, from the front on, go on with a character."""
+    """The number of bytes, from the front on, that go on with a character."""
     return next((number for number, byte in enumerate(data) if not _goes_on(byte)), len(data))
 
 
-def _parts(data: bytes) -> list[bytes]:
+def _pieces(data: bytes) -> list[bytes]:
     """Bytes in parts, none of which begins inside a character that the one before it begins."""
     parts, begin = [], 0
     while begin < len(data):
-        end = len(data) if len(data) - begin <= 2 * PART else begin + PART
+        end = len(data) if len(data) - begin <= 2 * PIECE_SIZE else begin + PIECE_SIZE
         end += _going_on(data[end:end + REACH])
         parts.append(data[begin:end])
         begin = end
@@ -73,14 +73,14 @@ class Measured:
     def __init__(self, data: bytes):
         self._parts: list[bytes] = []
         # The sizes of the parts, and where each ends, which is counted where it is asked for.
-        self._sizes: dict[str, list[int]] = {unit: [] for unit in (BYTES, *UNITS)}
+        self._sizes: dict[str, list[int]] = {unit: [] for unit in (AS_BYTES, *UNITS)}
         self._ends: dict[str, list[int]] = {}
-        self._set(0, 0, _parts(swapped(data)))
+        self._set(0, 0, _pieces(swapped(data)))
 
     @property
     def size(self) -> int:
-        """How many bytes it has."""
-        return self._end(BYTES)
+        """Its length in bytes."""
+        return self._end(AS_BYTES)
 
     def as_note(self) -> bytes:
         """The note's bytes."""
@@ -95,7 +95,7 @@ class Measured:
         return shown(self.as_file())
 
     def length(self, units: Units) -> int:
-        """How many units it has."""
+        """Its length in units."""
         return self._end(units.name)
 
     def slice(self, begin: int, end: int) -> bytes:
@@ -103,19 +103,19 @@ class Measured:
         return swapped(self._slice(begin, end))
 
     def position(self, place: int, units: Units) -> int:
-        """How many units are before a byte."""
+        """The number of units before a byte."""
         number, begin = self._find(place)
         before = self._parts[number][:place - begin] if number < len(self._parts) else b""
         return self._begin(number, units.name) + (
             len(before) if before.isascii() else units.count(units.encode(shown(before))))
 
     def place(self, position: int, units: Units) -> int:
-        """How many bytes are before a position in units; Split where it is inside a character."""
+        """The number of bytes before a position in units; Split where it is inside a character."""
         if not 0 <= position <= self.length(units):
             raise Outside(f"Position {position} is outside the text.")
         number = bisect_right(self._ends_of(units.name), position)
         left = position - self._begin(number, units.name)
-        return self._begin(number, BYTES) + (_bytes_of(self._parts[number], left, units, position) if left else 0)
+        return self._begin(number, AS_BYTES) + (_bytes_of(self._parts[number], left, units, position) if left else 0)
 
     def is_whole(self, change: Change) -> bool:
         """Whether a change cuts no character, and joins none of what is beside it."""
@@ -143,7 +143,7 @@ class Measured:
             low -= 1
             before -= len(self._parts[low])
         head = self._parts[low][:change.begin - before] if self._parts else b""
-        self._set(low, high + 1, _parts(head + swapped(change.new) + tail))
+        self._set(low, high + 1, _pieces(head + swapped(change.new) + tail))
 
     def _set(self, begin: int, end: int, parts: list[bytes]) -> None:
         """Puts parts in the place of others."""
@@ -168,8 +168,8 @@ class Measured:
 
     def _find(self, place: int) -> tuple[int, int]:
         """The part that has a byte, and where it begins."""
-        number = bisect_right(self._ends_of(BYTES), place)
-        return number, self._begin(number, BYTES)
+        number = bisect_right(self._ends_of(AS_BYTES), place)
+        return number, self._begin(number, AS_BYTES)
 
     def _byte(self, place: int) -> int:
         """A byte; none goes on after the last one."""
@@ -185,12 +185,12 @@ class Measured:
 
 
 def _bytes_of(data: bytes, position: int, units: Units, told: int) -> int:
-    """How many bytes are before a position in a part."""
+    """The number of bytes before a position in a part."""
     if data.isascii():
         return position
     text = shown(data)
     before = units.decode(units.encode(text)[:units.size * position])
-    # What was cut isn't a begin of the text any more, or isn't so long.
+    # What was cut isn't a begin of the text any more, or is too long.
     if not text.startswith(before) or units.count(units.encode(before)) != position:
         raise Split(f"Position {told} is inside a character.")
     return len(data.decode("utf-8", "surrogateescape")[:len(before)].encode("utf-8", "surrogateescape"))

@@ -1,5 +1,5 @@
 """The units in which positions are counted: bytes of UTF-8, halves of UTF-16, code points. A text in units is its
-bytes in an encoding of so many bytes each, so that positions are found by multiplying."""
+bytes in an encoding that has the same number for each, so that positions are found by multiplying."""
 from dataclasses import dataclass
 
 
@@ -9,7 +9,7 @@ class Units:
 
     name: str
     encoding: str
-    # How many bytes a unit has.
+    # The bytes of a unit.
     size: int
 
     def encode(self, text: str) -> bytes:
@@ -21,7 +21,7 @@ class Units:
         return data.decode(self.encoding, "replace")
 
     def count(self, data: bytes) -> int:
-        """How many units there are."""
+        """The number of units."""
         return len(data) // self.size
 
 

@@ -1,0 +1,227 @@
+"""What comes in is read once: counted at the engine of who types a letter, and at that of who gets it; and what the program is
+handed is what came."""
+import contextlib
+import json
+from collections.abc import Callable, Iterator
+from typing import TypeVar
+from unittest import mock
+
+from share.admission.judge import Judge
+from share.editors.mirror import Mirror
+from share.engine.engine import Engine
+from share.format import chunk as chunks
+from share.format import entry as entries
+from share.format import link as links
+from share.format.chunk import unpacked
+from share.format.entry import Author, Entry, Kind, Plain
+from share.format.operation import DELETE, Operation
+from share.program.process import Program
+from share.program.site import Site
+from share.store import notes
+from share.sync.session import Session
+from share.tests import naive
+from share.tests.editors import Engines
+from share.tests.naive import about, chunk_of, entry_of, inserting
+from share.tests.support import Case, Person
+from share.tests.waiting import wait_for
+
+WORDS = "Some words. "
+Result = TypeVar("Result")
+FORM = Plain(bytes(range(16)))
+
+
+class Counts:
+    """How often messages are read, chunks packed and unpacked, and entries hashed; and what the program was handed of them, in its
+    events' order."""
+
+    def __init__(self) -> None:
+        self.read = self.packed = self.unpacked = self.hashed = 0
+        self.events: list[bytes] = []
+
+    @contextlib.contextmanager
+    def counting(self) -> Iterator["Counts"]:
+        """Counts what is done meanwhile."""
+        read, add, typed, ask = Operation.read, chunks.Writer.add, chunks._keystrokes_in, Program.ask
+
+        def count(name: str, call: Callable[..., Result]) -> Callable[..., Result]:
+            def counted(*words: object, **more: object) -> Result:
+                setattr(self, name, getattr(self, name) + 1)
+                return call(*words, **more)
+            return counted
+
+        def asked(program: Program, events: list[bytes]) -> list[list[bytes]]:
+            self.events += [event for event in events if event.split()[1] in (b"take", b"unpack", b"where")]
+            return ask(program, events)
+
+        with (mock.patch.object(Operation, "read", count("read", read)), mock.patch.object(chunks.Writer, "add", count("packed", add)),
+              mock.patch.object(chunks, "_keystrokes_in", count("unpacked", typed)), mock.patch.object(Program, "ask", asked),
+              mock.patch.object(entries, "_hashed", count("hashed", entries._hashed))):
+            yield self
+
+    def verbs(self) -> list[bytes]:
+        """The verbs of the events."""
+        return [event.split()[1] for event in self.events]
+
+
+class Here:
+    """An engine in this process, and one editor at it."""
+
+    def __init__(self, person: Person, url: str | None = None, link: str | None = None):
+        self._person = person
+        with person.here():
+            self.engine = Engine("note", lambda: Session(notes.opened("note", url, links.read(link) if link else None)), lambda: None)
+            self._sent: list[bytes] = []
+            self._peer = self.engine.joined(self._sent.append, lambda: 0)
+            self.engine.take(self._peer, [json.dumps({"do": "open", "protocol": 1, "units": ["utf-8"], "looks": True}).encode()])
+        self._asked: list[bytes | None] = []
+        self.mirror = Mirror(json.loads(self._sent.pop(0)), lambda line: self._asked.append(json.dumps(line).encode()))
+
+    def turn(self) -> None:
+        """Has what is asked be done, and what came be taken in."""
+        with self._person.here():
+            while self._asked:
+                self.engine.take(self._peer, self._asked)
+            self.engine.turn()
+        for line in map(json.loads, self._sent):
+            self.mirror.take(line)
+        self._sent.clear()
+
+    def until(self, condition: Callable[[], bool], what: str) -> None:
+        """Turns until something is so."""
+        def is_so() -> bool:
+            self.turn()
+            return condition()
+
+        wait_for(is_so, what)
+
+    def is_sent(self) -> bool:
+        """Whether the log has all, and was read again since."""
+        session = self.engine.session
+        assert session
+        return session.status().can_type and session.has_sent(session.last()) and not session.status().unsent
+
+
+class Letters(Engines):
+    """A letter is typed, beside others."""
+
+    def test_who_types_it_reads_and_packs_it_once(self) -> None:
+        author = Here(self.person("anna"), url=self.file_log())
+        self.addCleanup(author.engine.close)
+        author.until(author.is_sent, "a number")
+        author.mirror.edit([(0, 0, WORDS)])
+        author.until(author.is_sent, "words to be sent")
+        for at in 4, 5, len(WORDS) + 2:
+            # After a jump, after the letter before it, and at the end.
+            with Counts().counting() as counts:
+                author.mirror.edit([(at, at, "x")])
+                author.until(author.is_sent, "the letter to be sent")
+                for _ in range(20):
+                    author.turn()
+            self.assertEqual((counts.read, counts.packed, counts.unpacked, counts.hashed), (1, 1, 0, 1))
+            self.assertEqual(counts.events, [])
+
+    def test_who_gets_it_unpacks_it_once(self) -> None:
+        (author,) = self.others("anna")
+        author.type(WORDS)
+        author.settle()
+        receiver = Here(self.person("berta"), link=self.person("anna").link())
+        self.addCleanup(receiver.engine.close)
+        receiver.until(lambda: receiver.mirror.text == WORDS, "the words")
+        for text in "x", "y":
+            with Counts().counting() as counts:
+                author.type(text)
+                author.settle()
+                receiver.until(lambda: receiver.mirror.text == author.text, "the letter")
+                for _ in range(20):
+                    receiver.turn()
+            self.assertEqual((counts.read, counts.packed, counts.unpacked, counts.hashed), (0, 0, 1, 1))
+            self.assertEqual(counts.verbs(), [b"unpack", b"where"])
+
+
+class HandedIn(Case):
+    """What counts of entries is handed to the program."""
+
+    def setUp(self) -> None:
+        super().setUp()
+        self.author = Author(b"sixteen bytes of", b"")
+        self.claim = FORM.claim(7, self.author)
+        self.judge = Judge([self.claim])
+        self.site = Site(1)
+        self.addCleanup(self.site.close)
+        self.site.insert(0, b"before ")
+
+    def taken(self, *entries: Entry, told: bool = True) -> Counts:
+        """What the site was handed of these."""
+        for entry in entries:
+            self.judge.add(entry)
+        messages = self.judge.count().messages
+        with Counts().counting() as counts:
+            changes = self.site.take(messages, looks=told)
+        if told:
+            self.assertIsInstance(changes, list)
+        return counts
+
+    def handed(self, counts: Counts) -> list[bytes]:
+        """The chunks that the program was handed, which are all that it was."""
+        self.assertNotIn(b"take", counts.verbs())
+        return [bytes.fromhex(event.split()[3].decode()) for event in counts.events if event.split()[1] == b"unpack"]
+
+    def test_chunks_that_count_as_a_whole_are_handed_in_as_they_came(self) -> None:
+        first = entry_of(FORM, self.claim, [inserting(7, 1, 1, None, 0, b"ab"), inserting(7, 2, 2, (7, 1), 2, b"c")], self.author)
+        second = entry_of(FORM, first, [about(DELETE, 7, 3, 3, [(7, 0, 1)])], self.author, length=3)
+        counts = self.taken(first, second)
+        self.assertEqual(self.handed(counts), [first.spelled, second.spelled])
+        self.assertEqual((counts.read, counts.packed), (0, 0))
+        self.assertEqual(self.site.text(), b"bcbefore ")
+        # What is inserted was nowhere, and what is deleted of that neither.
+        self.assertEqual(counts.verbs(), [b"unpack", b"unpack", b"where"])
+
+    def test_where_is_asked_once_before_and_once_after(self) -> None:
+        first = entry_of(FORM, self.claim, [inserting(7, 1, 1, None, 0, b"abcdef")], self.author)
+        self.taken(first)
+        second = entry_of(FORM, first, [about(DELETE, 7, 2, 2, [(7, 1, 1), (7, 4, 1)])], self.author, length=6)
+        third = entry_of(FORM, second, [inserting(7, 3, 3, (7, 0), 6, b"x"), about(DELETE, 7, 4, 4, [(7, 0, 2)])], self.author, length=6)
+        counts = self.taken(second, third)
+        where = [b"1 where 1 %d %d %d" % names for names in ((7, 0, 2), (7, 4, 1))]
+        self.assertEqual([event for event in counts.events if b"where" in event], [*where, *where, b"1 where 1 7 6 1"])
+        self.assertEqual(self.site.text(), b"xcdfbefore ")
+
+    def test_a_part_is_handed_in_as_a_chunk_of_its_own(self) -> None:
+        letters = [inserting(7, 1 + number, 1 + number, (7, number - 1) if number else None, number, b"%c" % letter)
+                   for number, letter in enumerate(b"abcdefgh")]
+        # The last one waits for what it was typed after.
+        entry = entry_of(FORM, self.claim, [*letters, inserting(7, 9, 9, (50, 0), 8, b"z")], self.author)
+        self.assertEqual(sum(one.size for one in unpacked(entry.spelled)), 9)
+        judge = Judge([self.claim, entry])
+        messages = judge.count().messages
+        for begin, end in (0, 3), (3, 8):
+            with Counts().counting() as counts:
+                self.site.take(messages[begin:end], looks=True)
+            self.assertEqual(self.handed(counts), [chunk_of(letters[begin:end])])
+            self.assertEqual(counts.read, 0)
+        self.assertEqual(self.site.text(), b"abcdefghbefore ")
+
+    def test_entries_of_the_older_kinds(self) -> None:
+        operations = [inserting(7, 1, 1, None, 0, b"ab"), about(DELETE, 7, 2, 2, [(7, 0, 1)]), inserting(7, 3, 3, (7, 1), 2, b"c")]
+        for kind, on in (Kind.MESSAGES, b""), (Kind.BUILDING, bytes(32)):
+            old = FORM._made(kind, 7, 1, 3, self.claim.hash, self.author, on, naive.body_of(operations))
+            entry = FORM.open(old.raw)
+            self.assertEqual((entry.kind, entry.messages), (kind, tuple(operations)))
+        for told in True, False:
+            site = Site(2)
+            self.addCleanup(site.close)
+            old = FORM.open(FORM._made(Kind.MESSAGES, 7, 1, 3, self.claim.hash, self.author, b"", naive.body_of(operations)).raw)
+            messages = Judge([self.claim, old]).count().messages
+            with Counts().counting() as counts:
+                site.take(messages, looks=told)
+            self.assertEqual(self.handed(counts), [chunk_of(operations)])
+            self.assertEqual(site.text(), b"bc")
+
+    def test_much_is_handed_in_with_few_events(self) -> None:
+        made, last = [], self.claim
+        for number in range(2_500):
+            last = entry_of(FORM, last, [inserting(7, 1 + number, 1 + number, None, number, b"x")], self.author)
+            made.append(last)
+        counts = self.taken(*made, told=False)
+        self.assertLess(len(counts.events), 10)
+        self.assertEqual(self.site.text(), b"x" * 2_500 + b"before ")
