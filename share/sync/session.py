@@ -1,7 +1,7 @@
 """A note that is open for one editor."""
 import math
 import time
-from collections.abc import Callable, Sequence, Set
+from collections.abc import Callable, Set
 from contextlib import suppress
 
 from share.admission.copies import Who
