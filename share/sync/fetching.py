@@ -16,7 +16,7 @@ from share.sync.threads import Ends, Task, Threads
 from share.text.errors import entries
 
 # The longest that a log is watched before it is seen whether it still is the one that was read.
-WATCH_SECONDS = 0.5
+LOG_WATCH_SECONDS = 0.5
 # After a reading from the front the next one begins only once this many times as long has passed, up to a most.
 RESTS, MOST_REST_SECONDS = 5, 30
 # The most of what a log has that is no entry that are remembered, so that each is told once.
@@ -59,7 +59,7 @@ class Fetcher:
                     # Something was taken out of the log, or put back.
                     self._known.reads_from_front = True
                 elif not has_more and not self._known.reads_from_front:
-                    log.watch(self._after, WATCH_SECONDS)
+                    log.watch(self._after, LOG_WATCH_SECONDS)
 
     def _begin_reading(self, log: Log, carried: Carried) -> None:
         """Goes back to the front of the log. A reading that the log's absence has cut off goes on where it was."""

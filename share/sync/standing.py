@@ -207,7 +207,7 @@ def in_stretches(pairs: Sequence[tuple[int, int]]) -> list[Replaced]:
 
 
 def said_of_copies(form: Form, keys: Mapping[Who, Client], rows: RowsByHash, new: Entry,
-         pairs: Mapping[bytes, Sequence[tuple[int, int]]], withdrawn: Container[bytes] = ()) -> list[Entry]:
+                   pairs: Mapping[bytes, Sequence[tuple[int, int]]], withdrawn: Container[bytes] = ()) -> list[Entry]:
     """The entries that say which messages, of those up to a new entry, stand for those of old entries: pairs of seqs, by the
     old entries' hashes. Nobody else may have what was withdrawn, so that what is before it is spoken of apart."""
     left, found = set(pairs), list[Entry]()

@@ -191,13 +191,14 @@ class Holdings:
                  and any(one.first <= row.entry.last and row.entry.first <= one.last for one in ones)]
         left = {(entry.hash, message.seq) for entry, messages in found for message in messages}
         found = [ToRebase(entry, [message for message in messages
-                              if left.isdisjoint(self.standing.copies(entry, message.seq, self.rows))]) for entry, messages in found]
+                                  if left.isdisjoint(self.standing.copies(entry, message.seq, self.rows))])
+                 for entry, messages in found]
         return [one for one in found if one.messages]
 
     def _lost_of(self, row: Row) -> ToRebase:
         """The messages of an entry that don't count, and that nothing stands for."""
         return ToRebase(row.entry, [message for message in row.entry.messages if not self.judge.is_let_through(message)
-                                and not self._is_made_anew(row, message)])
+                                    and not self._is_made_anew(row, message)])
 
     def _is_made_anew(self, row: Row, message: Message) -> bool:
         """Whether a message was rebased here, or by another disk with its key, or typed again by somebody."""

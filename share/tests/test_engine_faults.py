@@ -111,7 +111,7 @@ class Here(Case):
 
     def test_an_edit_that_is_refused_before_it_begins_is_answered(self) -> None:
         (_, first, _, _), _ = self.editors
-        with mock.patch.object(self.engine.session, "_is_stale", True), mock.patch.object(
+        with mock.patch.object(self.engine.session._replica, "is_stale", True), mock.patch.object(
                 self.engine.session, "arrived", lambda: []):
             first.edit([(0, 0, "x")])
             got = self.meet()

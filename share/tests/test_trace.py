@@ -29,11 +29,12 @@ class Kept:
 
     def lines(self) -> list[re.Match[str]]:
         """Its lines, each of which has the form of one."""
-        return [found for line in self.path.read_text().rpartition("\n")[0].splitlines() if (found := LINE.fullmatch(line)) or self.fail(line)]
-
-    def fail(self, line: str) -> bool:
-        """Ends a test for a line of another form."""
-        raise AssertionError(f"{line!r} is no line of a trace")
+        found = []
+        for line in self.path.read_text().rpartition("\n")[0].splitlines():
+            match = LINE.fullmatch(line)
+            assert match, line
+            found.append(match)
+        return found
 
     def events(self) -> list[Traced]:
         """What happened, in order."""
