@@ -28,7 +28,8 @@ from share.format.chunk import packed
 from share.format.entry import Author, Kind, digest
 from share.log.sqlite import SqliteLog
 from share.store import notes
-from share.store.note_file import About, Client, make
+from share.store.note_file import About, make
+from share.store.own import Client
 from share.sync.session import Session
 from share.tests.attacks import Attack, Hostile, typed
 from share.tests.editors import Editor

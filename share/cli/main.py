@@ -24,7 +24,7 @@ from share.format.link import Link
 from share.program import retyping
 from share.program.process import TOP, make_ready
 from share.store import contents, nicknames, notes, renewal
-from share.store.note_file import Unkept
+from share.store.guarded import Unkept
 from share.sync.session import Bar, Session
 from share.text.errors import Refused, Trouble, counted
 from share.text.rope import swapped

@@ -25,7 +25,7 @@ from share.program.replay import Past, Replays, Wrote
 from share.program.site import SLICE, Edited, Site, Told
 from share.program.undo import Step, do, looks_of
 from share.store import atomic, nicknames
-from share.store.note_file import Damaged, Unkept
+from share.store.guarded import Damaged, Unkept
 from share.store.renewal import telling
 from share.sync.session import Session, Status
 from share.text.change import Change, change

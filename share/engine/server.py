@@ -20,8 +20,8 @@ from share.engine.editor import Peer
 from share.engine.engine import Engine
 from share.engine.protocol import MOST_LINE
 from share.format.link import Link
+from share.log.folder import make_folder
 from share.store import notes, read_only
-from share.store.note_file import make_folder
 from share.sync.session import Bar, Session
 from share.text.errors import Trouble
 

@@ -4,12 +4,9 @@ what it has is judged before it counts.
 A log has two back ends behind one interface: a file of SQLite, and a stream of a Redis server. Both carry bytes
 that they don't open.
 """
-import pathlib
 from abc import ABC, abstractmethod
 from collections.abc import Sequence
 from typing import NamedTuple
-
-from share.format.link import is_network
 
 # The place before all entries.
 START = ""
@@ -17,6 +14,8 @@ START = ""
 PAGE = 2_000
 # An editor counts as on for so many seconds after it has last said so.
 ON_SECONDS = 15
+# Of no more than this many is said that they are on.
+MOST_ON = 1_000
 
 
 class Unreachable(Exception):
@@ -75,13 +74,3 @@ class Log(ABC):
     @abstractmethod
     def close(self) -> None:
         """Lets go of the log."""
-
-
-def open_log(url: str, note: bytes, password: str | None = None) -> Log:
-    """The log of the note of this identity: that of a Redis server, or a file, which is made where it isn't
-    there."""
-    if not is_network(url):
-        from share.log.sqlite import SqliteLog
-        return SqliteLog(pathlib.Path(url), note)
-    from share.log.redis import RedisLog
-    return RedisLog(url, note, password)

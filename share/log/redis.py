@@ -9,7 +9,7 @@ from collections.abc import Iterator, Sequence
 
 from share.format.entry import MOST_BYTES, Kind
 from share.format.presence import MOST_PRESENCE
-from share.log.base import ON_SECONDS, PAGE, START, Carried, Log, Lost
+from share.log.base import MOST_ON, ON_SECONDS, PAGE, START, Carried, Log, Lost
 from share.log.resp import Answer, TooLong, Wire
 
 # An append has so many bytes, and a reading, and each entry in it so many beside its own.
@@ -21,7 +21,6 @@ LEAST_ROOM, QUICK_SECONDS, SLOW_SECONDS = 2**14, 0.3, 1.0
 MOST_READ = ROOM + 20 * (MOST_BYTES + BESIDE) + PAGE * BESIDE
 # What a watch lets through: a longer entry is known by its size alone.
 MOST_WATCHED = MOST_BYTES + 1_024
-MOST_ON = 1_000
 # Claims are looked for in so many entries at once, and in so many parts of the stream at most.
 PART, MOST_PARTS = 5_000, 1_000
 # An entry has one field alone, called e. The server hashes the bytes, so nobody can have another entry stand for one

@@ -20,8 +20,10 @@ from share.log.base import Unreachable
 from share.program import retyping
 from share.program.site import is_full
 from share.store import old, read_only
-from share.store.note_file import About, Client, Damaged, Disk, make
+from share.store.guarded import Damaged
+from share.store.note_file import About, Disk, make
 from share.store.old import Old
+from share.store.own import Client
 from share.store.renewal import say_so
 from share.store.with_log import with_log
 from share.text.errors import Trouble
@@ -290,9 +292,9 @@ def _brought_back(name: str, about: About, entries: list[Entry], log: str | None
                     continue
                 disk.check()
                 log = None if disk.about.url else log
-                gone = {of for _, of in disk.withdrawn()}
+                gone = {of for _, of in disk.entries.withdrawn()}
                 disk.keep([entry for entry in entries if entry.hash not in gone], made=False)
-                judge = Judge(row.entry for row in disk.rows() if row.entry.hash not in gone)
+                judge = Judge(row.entry for row in disk.entries.rows() if row.entry.hash not in gone)
                 break
         except Damaged:
             continue

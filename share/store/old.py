@@ -19,14 +19,12 @@ from typing import NamedTuple
 from share.format.entry import GREATEST_SITE
 from share.format.operation import LONGEST_MESSAGE, Message, is_spelled
 from share.log.base import START, Lost, Unreachable
-from share.log.bounded import Bound
 from share.log.redis import Stream
 from share.log.resp import Wire
+from share.log.sqlite_file import SqliteFile
 from share.text.errors import Trouble, counted, entries
 
 APPLICATION = 0x56534E31
-MAGIC = b"SQLite format 3\0"
-APPLICATION_AT, HEADER_BYTES = 68, 100
 # A name goes into a path and a key, and an identity into a path, though a log says it.
 NAME = re.compile(r"[A-Za-z0-9][A-Za-z0-9._-]{0,63}")
 IDENTITY = re.compile(r"[0-9a-f]{16}")
@@ -194,10 +192,9 @@ def _stats(path: pathlib.Path) -> list[tuple[int, int] | None]:
 
 def _read_log(path: pathlib.Path, copy: pathlib.Path, gathered: _Gathered) -> str | None:
     """Reads the copy of a log, and gives its identity."""
-    with contextlib.closing(sqlite3.connect(copy)) as file:
-        Bound(file)
+    with contextlib.closing(SqliteFile(copy, bounded=True)) as file:
         try:
-            if file.execute("PRAGMA application_id").fetchone()[0] != APPLICATION:
+            if file.application() != APPLICATION:
                 raise Trouble(f"{path} isn't a note's log. Move it away, or choose another name for the note.")
             for order in ("ASC", "DESC"):
                 # Where it is damaged in the middle, both ends of it are read.
@@ -213,7 +210,7 @@ def _read_log(path: pathlib.Path, copy: pathlib.Path, gathered: _Gathered) -> st
     return None
 
 
-def _read_rows(file: sqlite3.Connection, order: str, gathered: _Gathered) -> str:
+def _read_rows(file: SqliteFile, order: str, gathered: _Gathered) -> str:
     """Adds a log's messages; what kept it from going on, if something did."""
     try:
         for place, data, checksum in file.execute(ROWS + order, (LONGEST_MESSAGE,)):

@@ -5,7 +5,6 @@ import gc
 import pathlib
 import sqlite3
 import struct
-import urllib.parse
 import zlib
 from collections.abc import Callable, Iterable, Iterator
 from typing import Any, NamedTuple, TypeVar
@@ -14,10 +13,12 @@ from share.admission.judge import Judge
 from share.admission.ledger import Row
 from share.format.entry import Bad, Entry, Form, digest
 from share.format.keystrokes import Keystrokes
-from share.log.bounded import Bound
+from share.log.sqlite_file import Busy, Malformed, SqliteFile, faults
 from share.program.site import Site
-from share.store.note_file import APPLICATION, COPIED, About, Damaged, about_of, as_text
+from share.store.guarded import Damaged
+from share.store.note_file import APPLICATION, About, about_of
 from share.store.old import copied
+from share.store.own import COPIED
 from share.text.errors import NEWER, Trouble, entries
 
 Result = TypeVar("Result")
@@ -159,13 +160,13 @@ def opened(about_it: About, raws: list[bytes], of: str) -> tuple[list[Entry], li
     return right, faults.words()
 
 
-def _found(file: sqlite3.Connection) -> Found:
+def _found(file: SqliteFile) -> Found:
     about_it, broken = about_of(file), list[str]()
     right, faults = opened(about_it, [raw for raw, in _rows(file, RAW, broken)], "the file")
     return Found(about_it, right, broken + faults)
 
 
-def _judged(file: sqlite3.Connection) -> Judged:
+def _judged(file: SqliteFile) -> Judged:
     about_it, broken, wrong = about_of(file), list[str](), Faults("the file")
     form, keystrokes = about_it.form(), Keystrokes()
     found = Judged(about_it, Judge(form=form), [], set())
@@ -179,7 +180,7 @@ def _judged(file: sqlite3.Connection) -> Judged:
     return found._replace(faults=broken + wrong.words())
 
 
-def _rows(file: sqlite3.Connection, columns: str, broken: list[str]) -> Iterator[Kept]:
+def _rows(file: SqliteFile, columns: str, broken: list[str]) -> Iterator[Kept]:
     """All entries that can be read, from the front; where the file is damaged, which is told, also from the other end."""
     last = 0
     try:
@@ -208,33 +209,27 @@ def _as_kept(form: Form, keystrokes: Keystrokes, row: Kept) -> Row:
     return Row(0, form.open(raw), False)
 
 
-def _with_file(path: pathlib.Path, read: Callable[[sqlite3.Connection], Result]) -> Result:
+def _with_file(path: pathlib.Path, read: Callable[[SqliteFile], Result]) -> Result:
     """What is read of a file. Where no editor has it open it is a copy that is read, since SQLite would leave files
     beside it."""
     if path.with_name(path.name + "-wal").exists() and path.with_name(path.name + "-shm").exists():
-        with contextlib.suppress(sqlite3.OperationalError):
+        with contextlib.suppress(Busy):
             return _read(path, path, read)
     try:
         with copied(path) as copy:
             return _read(path, copy, read)
-    except (sqlite3.OperationalError, OSError) as why:
+    except (Busy, OSError) as why:
         raise Trouble(f"{path} can't be read ({why}).") from why
 
 
-def _read(path: pathlib.Path, copy: pathlib.Path, read: Callable[[sqlite3.Connection], Result]) -> Result:
+def _read(path: pathlib.Path, copy: pathlib.Path, read: Callable[[SqliteFile], Result]) -> Result:
     """What is read of a file by a copy of it, or by itself."""
     try:
-        with contextlib.closing(sqlite3.connect(f"file:{urllib.parse.quote(str(copy))}?mode=ro", uri=True,
-                                                timeout=10)) as file:
-            Bound(file)
-            # What isn't UTF-8 was damaged, and is found to be so.
-            file.text_factory = as_text
-            if file.execute("PRAGMA application_id").fetchone()[0] != APPLICATION:
+        with faults(), contextlib.closing(SqliteFile(copy, writes=False, bounded=True)) as file:
+            if file.application() != APPLICATION:
                 raise Trouble(f"{path} isn't a note's file.")
             return read(file)
-    except sqlite3.OperationalError:
-        raise
-    except sqlite3.DatabaseError as why:
+    except Malformed as why:
         raise Trouble(f"{path} is damaged, or isn't a note's file ({why}).") from why
     except Damaged as why:
         raise Trouble(f"{path} is damaged ({why}).") from why

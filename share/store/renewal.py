@@ -14,9 +14,11 @@ from share.format.chunk import Run as Typing
 from share.format.history import Messages
 from share.format.operation import INSERT, Message
 from share.format.presence import clean_name
-from share.log.base import Lost, Unreachable, open_log
+from share.log.base import Lost, Unreachable
+from share.log.opening import open_log
 from share.program.site import Site, split
-from share.store.note_file import Damaged, Disk, Unkept
+from share.store.guarded import Damaged, Unkept
+from share.store.note_file import Disk
 from share.text.errors import Trouble, counted
 from share.text.line import Line
 from share.text.looks import Run
@@ -68,7 +70,7 @@ def in_words(one: Fresh, names: Mapping[int, str]) -> str:
 def say_so(path: pathlib.Path, name: str, password: str | None) -> None:
     """Has those who have the old note, whose file this is, hear from somebody of this name that it was renewed."""
     with suppress(Unkept, Damaged, Trouble, Unreachable, Lost), closing(Disk(path)) as disk:
-        clients = sorted((one for one in disk.clients() if not one.retired), key=lambda one: not one.stood)
+        clients = sorted((one for one in disk.own.clients() if not one.retired), key=lambda one: not one.stood)
         if not clients:
             return
         said = disk.form.renewed(name, clients[0].site, clients[0].author)

@@ -14,9 +14,10 @@ from share.admission.judge import Judge
 from share.admission.ledger import Line
 from share.format.entry import digest
 from share.format.history import Messages, Part
+from share.log.folder import make_folder
 from share.program.site import KEPT, Site
 from share.store.atomic import PRIVATE
-from share.store.note_file import Disk, make_folder
+from share.store.note_file import Disk
 
 # It is written where so many messages came that it doesn't have, and a part of those that it has; and as the note is
 # closed where so many did.
@@ -50,7 +51,7 @@ def leave(disk: Disk, site: int) -> None:
 
 def fronts_of(disk: Disk, judge: Judge, site: int, folder: pathlib.Path | None) -> dict[int, int]:
     """How far a site's packed file goes, where it can be gone on from; else nothing."""
-    noted = disk.packed(site)
+    noted = disk.own.packed(site)
     try:
         if not (folder and noted and digest((folder / KEPT).read_bytes()) == noted[0]):
             return {}
@@ -70,7 +71,7 @@ def keep(disk: Disk, judge: Judge, site: Site) -> None:
         found = [(of, seq, judge.entry_of(of, seq)) for of, seq in fronts.items()]
         if found and all(by for _, _, by in found):
             (folder / KEPT).chmod(PRIVATE)
-            disk.note_packed(site.number, digest((folder / KEPT).read_bytes()),
+            disk.own.note_packed(site.number, digest((folder / KEPT).read_bytes()),
                              b"".join(FRONT.pack(of, seq, by or b"") for of, seq, by in found))
 
 

@@ -6,7 +6,8 @@ from contextlib import ExitStack, closing, contextmanager
 from share.admission.ledger import Row
 from share.format.entry import Bad, digest
 from share.format.link import is_network
-from share.log.base import START, Carried, Log, Lost, Unreachable, open_log
+from share.log.base import START, Carried, Log, Lost, Unreachable
+from share.log.opening import open_log
 from share.store.old import copied
 from share.store.read_only import Faults, Judged
 from share.text.errors import Trouble, entries

@@ -14,17 +14,19 @@ from share.format.entry import Copy, Entry, Kind, in_entries
 from share.format.history import Messages, Part
 from share.format.link import is_network
 from share.format.operation import Message, length_after
-from share.log.base import open_log
+from share.log.folder import inode_of
+from share.log.opening import open_log
 from share.program import retyping
 from share.program.difference import Shown, differences, shown_by
 from share.program.intake import Coming, Pace
 from share.program.retyping import Lost
 from share.program.site import SLICE, Edited, Progress, Site, Told, is_nearly_full
 from share.store import snapshot
-from share.store.note_file import Anew, Changed, Client, Damaged, Disk, Overtaken, Unkept, make
+from share.store.guarded import Changed, Damaged, Unkept
+from share.store.note_file import Disk, make
+from share.store.own import Anew, Client, Overtaken
 from share.store.read_only import found_in, uncollected
 from share.store.renewal import renewed_by
-from share.store.unchanged import inode_of
 from share.sync.backoff import Turns, seconds_for_others, told_of_edits, told_of_numbers
 from share.sync.hiding import said, wanted
 from share.sync.numbers import FULL, READING, Numbers
@@ -457,7 +459,7 @@ class Session:
             new = self._holdings.read(self._disk, self._most)
             if time.monotonic() - self._looked > LOOK_SECONDS:
                 self._looked = time.monotonic()
-                if self._disk.size() < len(self._holdings.rows) + self._holdings.waiting_for_room():
+                if self._disk.entries.size() < len(self._holdings.rows) + self._holdings.waiting_for_room():
                     raise Damaged(f"{self._disk.path} lacks entries that it had")
             return new
 
@@ -470,10 +472,10 @@ class Session:
         if not self._told_newer and any(row.entry.kind is Kind.NEWER for row in new):
             self._told_newer = True
             self._notices.append(NEWER)
-        if self._disk.damaged:
-            self._notices.append(f"The disk has damaged {entries(self._disk.damaged)} of the note's file. They are "
+        if self._disk.entries.damaged:
+            self._notices.append(f"The disk has damaged {entries(self._disk.entries.damaged)} of the note's file. They are "
                                  "taken from whoever has them.")
-            self._disk.damaged, self._lacks = 0, True
+            self._disk.entries.damaged, self._lacks = 0, True
         return new
 
     def _mended(self, call: Callable[[], Result]) -> Result:

@@ -15,7 +15,8 @@ from collections.abc import Callable
 from share.admission.judge import Judge, rank
 from share.format import link as links
 from share.format.entry import Form, Kind, Plain, in_entries
-from share.log.base import START, Log, open_log
+from share.log.base import START, Log
+from share.log.opening import open_log
 from share.program.process import Program
 from share.program.site import Edited, Site, Told
 from share.store import notes
@@ -293,7 +294,7 @@ def take(person: Person, site: int) -> None:
     """Has somebody with the link claim a number that another one has, so that the claim holds."""
     with contextlib.closing(person.disk()) as disk:
         form = disk.form
-        own = next(row.entry for row in disk.rows() if row.entry.kind is Kind.CLAIM and row.entry.site == site)
+        own = next(row.entry for row in disk.entries.rows() if row.entry.kind is Kind.CLAIM and row.entry.site == site)
     other = own
     while not rank(other) < rank(own):
         other = form.claim(site, form.new_author())

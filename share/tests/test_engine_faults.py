@@ -20,7 +20,8 @@ from share.format.presence import Present, written
 from share.program.process import Ended
 from share.program.replay import Wrote, in_units
 from share.store import notes
-from share.store.note_file import Disk, Unkept
+from share.store.guarded import Unkept
+from share.store.note_file import Disk
 from share.sync.session import Session
 from share.tests.editors import Engines
 from share.tests.support import NOTE, Case, type_at_the_end

@@ -5,7 +5,8 @@ import unittest
 from unittest import mock
 
 from share.format.entry import NOTE_BYTES, Author, Entry, Form
-from share.store.note_file import About, Client, Disk, make
+from share.store.note_file import About, Disk, make
+from share.store.own import Client
 from share.sync.state import Holdings
 from share.tests.naive import inserting
 from share.tests.support import Case
@@ -50,7 +51,7 @@ class Read(Case):
     def test_what_was_withdrawn_further_on_is_left_out(self) -> None:
         self.disk.keep([self.others_claim, *self.others], False)
         self.disk.keep(self.mine, True)
-        self.disk.withdraw([self.mine[1].hash])
+        self.disk.entries.withdraw([self.mine[1].hash])
         for most in math.inf, 2**14:
             holdings = self.read(Holdings(self.disk.form), most)
             self.assertEqual((holdings.judge.front(1), holdings.judge.front(2)), (1, 100))
@@ -63,7 +64,7 @@ class Read(Case):
             holdings = self.read(Holdings(self.disk.form))
             self.assertGreater(holdings.waiting_for_room(), 0)
             self.assertEqual(holdings.judge.front(2), 0)
-            self.disk.withdraw([self.mine[1].hash])
+            self.disk.entries.withdraw([self.mine[1].hash])
             self.read(holdings)
             self.disk.keep([self.others[0]], False)
             for found in self.read(holdings), self.read(Holdings(self.disk.form)):
@@ -76,7 +77,7 @@ class Read(Case):
         for entry in self.claim, self.others_claim, *self.others:
             self.assertEqual(holdings.rows[entry.hash].entry, entry)
         with contextlib.closing(self.disk.again()) as again:
-            self.assertEqual({row.entry for row in again.rows()}, {row.entry for row in holdings.rows.values()})
+            self.assertEqual({row.entry for row in again.entries.rows()}, {row.entry for row in holdings.rows.values()})
 
 
 if __name__ == "__main__":

@@ -9,7 +9,7 @@ from share.format import link as links
 from share.format.entry import Entry, Form
 from share.format.link import is_network
 from share.format.operation import Message
-from share.log.base import open_log
+from share.log.opening import open_log
 from share.program.process import Program
 from share.store import notes
 from share.sync.session import Session

@@ -18,7 +18,8 @@ from share.format.operation import DEFAULT_BYTES, DELETE, GREATEST_STAMP, INSERT
 from share.format.sealed import Sealed
 from share.program.site import Site
 from share.store import contents
-from share.store.note_file import About, Client, make
+from share.store.note_file import About, make
+from share.store.own import Client
 from share.tests.support import Case
 from share.text.change import make as make_changes
 from share.text.names import Names

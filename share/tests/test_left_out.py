@@ -163,9 +163,9 @@ class Taken(Case):
         site = self.begun()
         with contextlib.closing(self.anna.disk()) as disk:
             form = disk.form
-            (author,) = [one.author for one in disk.clients() if one.site == site]
-            line = next(row.entry for row in disk.rows() if row.entry.site == site and row.entry.size)
-            before = next(row.entry for row in disk.rows() if row.entry.hash == line.before)
+            (author,) = [one.author for one in disk.own.clients() if one.site == site]
+            line = next(row.entry for row in disk.entries.rows() if row.entry.site == site and row.entry.size)
+            before = next(row.entry for row in disk.entries.rows() if row.entry.hash == line.before)
         with contextlib.closing(self.anna.log()) as log:
             log.append([smaller(form, before, author, line).raw])
         self.assertEqual([(one["site"] == site, one["text"]) for one in left_out(self.carol)].count((True, SENTENCE)), 1)

@@ -22,7 +22,8 @@ from unittest import mock
 
 from share.format.entry import MOST_BYTES, Plain
 from share.format.presence import MOST_PRESENCE
-from share.log.base import PAGE, START, Log, Lost, Unreachable, open_log
+from share.log.base import PAGE, START, Log, Lost, Unreachable
+from share.log.opening import open_log
 from share.log.sqlite import SqliteLog
 from share.tests.servers import RedisServer, free_port
 from share.text.errors import Trouble
@@ -411,7 +412,7 @@ class Files(Shared.Both):
 
     def test_views_without_end_end(self) -> None:
         self.closed_with(raw(1))
-        with closing(self.opened()) as log, mock.patch("share.log.bounded.MOST_TIMES", 1):
+        with closing(self.opened()) as log, mock.patch("share.log.sqlite_file.MOST_TIMES", 1):
             self.file().executescript(f"ALTER TABLE entry RENAME TO before; {WITHOUT_END}")
             for call in (lambda: raws(log), lambda: log.watch(START, 0), log.size):
                 with self.assertRaisesRegex(Unreachable, "interrupted"):
@@ -465,7 +466,7 @@ class Files(Shared.Both):
     def test_a_locked_file_is_unreachable(self) -> None:
         log = self.log()
         assert isinstance(log, SqliteLog)
-        log._one("PRAGMA busy_timeout = 50")
+        log._file.one("PRAGMA busy_timeout = 50")
         other = self.file()
         other.execute("BEGIN IMMEDIATE")
         with self.assertRaisesRegex(Unreachable, "locked"):
@@ -481,7 +482,7 @@ class Files(Shared.Both):
 
     def test_kept_files_of_those_who_die(self) -> None:
         """What was appended stands, whenever who appended was killed."""
-        code = ("import sys\nfrom share.log.base import open_log\nlog = open_log(sys.argv[1], bytes(range(16)))\n"
+        code = ("import sys\nfrom share.log.opening import open_log\nlog = open_log(sys.argv[1], bytes(range(16)))\n"
                 "for number in range(10 ** 6):\n"
                 "    log.append([b'%06d' % number]); print(number, flush=True)")
         for turn in range(5):

@@ -12,7 +12,7 @@ import unittest
 
 from share.format.link import read
 from share.store import notes
-from share.store.note_file import Unkept
+from share.store.guarded import Unkept
 from share.sync.session import Session
 from share.tests.note import Note
 from share.tests.servers import RedisServer
@@ -343,7 +343,7 @@ class Recovered(Opening):
         shutil.rmtree(self.folder / "shared")
         people = [self.person(name) for name in ("ann", "bob", "carol")]
         with contextlib.closing(people[0].disk()) as disk:
-            hashes = chance.sample(sorted(row.entry.hash for row in disk.rows()), 15)
+            hashes = chance.sample(sorted(row.entry.hash for row in disk.entries.rows()), 15)
         for number, person in enumerate(people):
             # Each entry is damaged in one file.
             for of in hashes[number::3]:

@@ -14,7 +14,7 @@ from share.format.entry import Author, Plain, digest
 from share.program.process import Ended, Program
 from share.program.site import Site
 from share.store import snapshot
-from share.store.note_file import Unkept
+from share.store.guarded import Unkept
 from share.store.snapshot import FRONT, KEPT, LEFT
 from share.sync.session import Session
 from share.tests.naive import inserting
@@ -28,12 +28,12 @@ from unittest import mock
 from share.program.process import Program
 from share.program.site import Site
 from share.store import notes, snapshot
-from share.store.note_file import Disk
+from share.store.own import Own
 from share.sync.session import Session
 from share.tests.note import Note
 
 point = sys.argv[1]
-keep, noted, ask = Site.keep, Disk.note_packed, Program.ask
+keep, noted, ask = Site.keep, Own.note_packed, Program.ask
 
 def dies(*_):
     os.kill(os.getpid(), 9)
@@ -52,14 +52,14 @@ def keeps(site):
 
 def notes(*words):
     if point == "transaction":
-        with words[0]._words(), words[0]._transaction():
-            words[0]._file.execute("INSERT OR REPLACE INTO packed VALUES (?, x'00', x'00')", words[1:2])
+        with words[0]._file.writing():
+            words[0]._sql.execute("INSERT OR REPLACE INTO packed VALUES (?, x'00', x'00')", words[1:2])
             dies()
     noted(*words)
     dies()
 
 snapshot.AT_END = 1
-Site.keep, Disk.note_packed, Program.ask = keeps, notes, asks
+Site.keep, Own.note_packed, Program.ask = keeps, notes, asks
 note = Note(Session(notes.opened("note", None, None)))
 note.moved_to(len(note.text))
 note.type(f"{point} ")
@@ -222,7 +222,7 @@ class Packing(Case):
                           key=lambda entry: entry.hash)
         judge = Judge([claim, branches[1]])
         self.file().write_bytes(b"packed")
-        disk = mock.Mock(packed=lambda _: (digest(b"packed"), FRONT.pack(7, 1, branches[1].hash)))
+        disk = mock.Mock(own=mock.Mock(packed=lambda _: (digest(b"packed"), FRONT.pack(7, 1, branches[1].hash))))
         self.assertEqual(snapshot.fronts_of(disk, judge, 7, self.file().parent), {7: 1})
         for judge in Judge([claim, *branches]), Judge([claim]), Judge():
             self.assertEqual(snapshot.fronts_of(disk, judge, 7, self.file().parent), {})
@@ -234,7 +234,7 @@ class Packing(Case):
         self.closed("and more ")
         self.shows("begin and more ", False)
         shutil.rmtree(self.file())
-        with mock.patch("share.store.note_file.Disk.note_packed", side_effect=Unkept("database or disk is full")):
+        with mock.patch("share.store.own.Own.note_packed", side_effect=Unkept("database or disk is full")):
             self.closed("still more ")
         self.shows("begin and more still more ", False)
         with mock.patch("share.store.snapshot.make_folder", side_effect=OSError(28, "No space left on device")):
@@ -310,7 +310,7 @@ class Packing(Case):
             wait_for(lambda: (two.take_in(), two.session._packed)[1], "it to be packed")
 
     def test_a_session_whose_file_can_not_be_read(self) -> None:
-        with mock.patch("share.store.note_file.Disk.packed", side_effect=Unkept("busy")):
+        with mock.patch("share.store.own.Own.packed", side_effect=Unkept("busy")):
             note = self.opened(self.ann)
             self.assertEqual(bytes(note.text), b"begin ")
             self.assertIsInstance(note.session, Session)

@@ -11,7 +11,8 @@ from contextlib import closing
 from unittest import mock
 
 from share.format.entry import MOST_BYTES
-from share.log.base import START, Carried, Log, Lost, Unreachable, open_log
+from share.log.base import START, Carried, Log, Lost, Unreachable
+from share.log.opening import open_log
 from share.tests.servers import Hostile, RedisServer, SocketServer, TlsServer
 from share.tests.test_logs import NOTE, Case, raw, raws
 from share.text.errors import Trouble
