@@ -16,7 +16,6 @@ from share.log.base import Log
 from share.log.sqlite import SqliteLog
 from share.program.process import Program
 from share.program.site import Edited, Site
-from share.store.note_file import Disk
 from share.store.own import Client, Own
 from share.sync.replicator import Courier
 from share.sync.session import Session

@@ -50,7 +50,7 @@ def keeps(site):
     fronts = keep(site)
     return dies() if point == "written" else fronts
 
-def notes(*words):
+def noted_then_dies(*words):
     if point == "transaction":
         with words[0]._file.writing():
             words[0]._sql.execute("INSERT OR REPLACE INTO packed VALUES (?, x'00', x'00')", words[1:2])
@@ -59,7 +59,7 @@ def notes(*words):
     dies()
 
 snapshot.AT_END = 1
-Site.keep, Own.note_packed, Program.ask = keeps, notes, asks
+Site.keep, Own.note_packed, Program.ask = keeps, noted_then_dies, asks
 note = Note(Session(notes.opened("note", None, None)))
 note.moved_to(len(note.text))
 note.type(f"{point} ")
