@@ -454,7 +454,7 @@ class Files(Shared.Both):
         log = self.log()
         log.append([raw(1)])
         assert isinstance(log, SqliteLog)
-        pages = log._one("PRAGMA page_count")
+        pages = log._file.one("PRAGMA page_count")
         log._one(f"PRAGMA max_page_count = {pages + 4}")
         with self.assertRaisesRegex(Unreachable, "full"):
             log.append([raw(number) for number in range(2, 500)])
