@@ -15,6 +15,7 @@ from share.admission.judge import Judge, rank
 from share.admission.left_out import LeftOut
 from share.format.entry import Author, Copied, Copy, Entry, Form
 from share.format.operation import Message, inserted, mentioned, typed
+from share.program.alike import Alike
 from share.program.effects import Stretch
 from share.program.site import Edited, Site, one_by_one
 from share.text.errors import Refused, counted
@@ -180,42 +181,16 @@ class Typed(NamedTuple):
 def type_again(found: Iterable[Lost], entries: Sequence[Entry], judge: Judge, site: Site) -> Typed:
     """Types at a site, which has all that counts of these entries, what was left out."""
     left = {message: one.author for one in found for message in one.messages if inserted(message)}
-    made, edits, authors, parts = dict[Message, Message](), list[Edited](), dict(left), _parts(left, judge)
+    made, edits, alike = dict[Message, Message](), list[Edited](), Alike(left, judge)
     for _ in range(MOST_VIEWS):
         view = _View(entries, judge, left)
         # Others may have the same names in each view.
-        edits += _typed_as_seen(view, _Typist(site, made, parts))
+        edits += _typed_as_seen(view, _Typist(site, made, alike.typed_for))
         left = {message: author for message, author in left.items() if message not in view.lost}
         if not (view.lost and left):
             break
-    edits.append(_Typist(site, made, parts).type_in_a_row(left, len(site.text()) if left else 0))
-    return Typed(one_by_one(edits), [(Copy(author, old.site, old.seq), made[part]) for old, author in authors.items()
-                                     for part in parts.get(old, [old]) if part in made])
-
-
-def _parts(left: Mapping[Message, bytes], judge: Judge) -> dict[Message, list[Message]]:
-    """Of messages that were left out those for which others of them stand, as their authors say, and these, in their order: what was
-    made anew was left out in its turn, and is typed once."""
-    known = {Copy(author, message.site, message.seq): message for message, author in left.items()}
-    found: dict[Message, list[Message]] = {}
-    for message, author in left.items():
-        groups: dict[Who, list[Message]] = {}
-        for copy in judge.copies_of(author, message.site, message.seq, typed(message)):
-            if copy in known and known[copy] != message:
-                groups.setdefault((copy.site, copy.author), []).append(known[copy])
-        for parts in groups.values():
-            if b"".join(map(typed, parts)) == typed(message):
-                found[message] = parts
-    # A copy may have copies, too, and those that say so may be anybody.
-    return {message: last for message in found if (last := _last_of(message, found, MOST_VIEWS))}
-
-
-def _last_of(message: Message, found: Mapping[Message, list[Message]], most: int) -> list[Message]:
-    """The messages that stand for one and for which no others do; nothing where they are too many times copied."""
-    if message not in found:
-        return [message]
-    parts = [_last_of(part, found, most - 1) for part in found[message]] if most else []
-    return [one for part in parts for one in part] if parts and all(parts) else []
+    edits.append(_Typist(site, made, alike.typed_for).type_in_a_row(left, len(site.text()) if left else 0))
+    return Typed(one_by_one(edits), [(old, made[part]) for old, parts in alike.stood_for() for part in parts if part in made])
 
 
 def words_of(copies: Iterable[tuple[Copy, Message]], form: Form, author: Author, last: Entry) -> list[Entry]:

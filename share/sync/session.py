@@ -208,6 +208,8 @@ class Session:
         if found:
             # Who has a copy has the word of it, too.
             self._edited(work, lambda last: retyping.words_of(copies, self._form, self._client.author, last))
+            # Something may stand for what was left out that nobody has said of it yet.
+            self._hide_copies()
         return found
 
     def own(self) -> Set[Who]:
