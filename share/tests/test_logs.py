@@ -455,10 +455,10 @@ class Files(Shared.Both):
         log.append([raw(1)])
         assert isinstance(log, SqliteLog)
         pages = log._file.one("PRAGMA page_count")
-        log._one(f"PRAGMA max_page_count = {pages + 4}")
+        log._file.one(f"PRAGMA max_page_count = {pages + 4}")
         with self.assertRaisesRegex(Unreachable, "full"):
             log.append([raw(number) for number in range(2, 500)])
-        log._one("PRAGMA max_page_count = 100000")
+        log._file.one("PRAGMA max_page_count = 100000")
         self.assertEqual(raws(log), [raw(1)])
         log.append([raw(2)])
         self.assertEqual(raws(log), [raw(1), raw(2)])
