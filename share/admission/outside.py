@@ -4,16 +4,15 @@ import heapq
 from collections.abc import Iterator
 from dataclasses import dataclass
 
-from share.admission.ledger import Row
+from share.admission.ledger import Row, Who
 from share.format.entry import Entry
 
-Who = tuple[int, bytes]
 # What an entry that is kept whole costs beside its bytes.
-BESIDE = 1_000
+OVERHEAD = 1_000
 
 
 @dataclass(slots=True)
-class _Kept:
+class _One:
     """An entry, how far its insertions go and how many characters they have, and whether it lacks one before it. What was let
     through once, or was made here, is never dropped."""
 
@@ -24,11 +23,11 @@ class _Kept:
     stays: bool
 
 
-class Outside:
+class Unchained:
     """Entries that are in no chain, by their hashes."""
 
     def __init__(self) -> None:
-        self._kept: dict[bytes, _Kept] = {}
+        self._kept: dict[bytes, _One] = {}
         # Those that follow each entry, whether that one is here or not.
         self._after: dict[bytes, list[bytes]] = {}
         self._of: dict[Who, set[bytes]] = {}
@@ -67,7 +66,7 @@ class Outside:
         entry = row.entry
         typed = [(run.at + len(run.data), len(run.data)) for run in entry.runs if run.data] if entry.size else []
         end = max((last for last, _ in typed), default=0)
-        one = _Kept(row, end, sum(size for _, size in typed), is_loose, stays or row.made)
+        one = _One(row, end, sum(size for _, size in typed), is_loose, stays or row.made)
         self._kept[entry.hash] = one
         self._after.setdefault(entry.before, []).append(entry.hash)
         who = entry.site, entry.author
@@ -164,4 +163,4 @@ class Outside:
 
 def weight(entry: Entry) -> int:
     """How many bytes an entry takes that is kept whole."""
-    return len(entry.raw) + len(entry.spelled) + BESIDE
+    return len(entry.raw) + len(entry.spelled) + OVERHEAD

@@ -11,7 +11,8 @@ from collections.abc import Iterable, Mapping, Sequence, Set
 from contextlib import closing
 from typing import NamedTuple
 
-from share.admission.judge import Judge, rank
+from share.admission.chains import rank
+from share.admission.judge import Judge
 from share.admission.left_out import LeftOut
 from share.format.entry import Author, Copied, Copy, Entry, Form
 from share.format.operation import Message, inserted, mentioned, typed

@@ -11,7 +11,7 @@ import struct
 from collections.abc import Mapping
 
 from share.admission.judge import Judge
-from share.admission.ledger import Line
+from share.admission.ledger import Branch
 from share.format.entry import digest
 from share.format.history import Messages, Part
 from share.log.folder import make_folder
@@ -79,7 +79,7 @@ def parted(messages: Messages, fronts: Mapping[int, int]) -> tuple[Messages, Mes
     """Those of messages that count that a packed file has, and the others."""
     within, beyond = Messages(), Messages()
     for part in messages.parts():
-        assert isinstance(part.holder, Line)
+        assert isinstance(part.holder, Branch)
         middle = min(max(part.begin, fronts.get(part.holder.site, 0)), part.end)
         within.add(Part(part.holder, part.begin, middle))
         beyond.add(Part(part.holder, middle, part.end))

@@ -558,7 +558,7 @@ class Session:
 
     def _is_own_part(self, part: Part) -> bool:
         """Whether messages are of this editor's number."""
-        return isinstance(part.holder, ledger.Line) and part.holder.site == self.number
+        return isinstance(part.holder, ledger.Branch) and part.holder.site == self.number
 
     def _take_in(self) -> Told:
         """Takes in what came, as far as there is time; all of it where some is of this number, since what is typed follows that."""

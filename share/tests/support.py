@@ -12,7 +12,8 @@ import tempfile
 import unittest
 from collections.abc import Callable
 
-from share.admission.judge import Judge, rank
+from share.admission.chains import rank
+from share.admission.judge import Judge
 from share.format import link as links
 from share.format.entry import Form, Kind, Plain, in_entries
 from share.log.base import START, Log

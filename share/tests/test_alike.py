@@ -4,7 +4,8 @@ import shutil
 import unittest
 from collections.abc import Sequence
 
-from share.admission.judge import Judge, rank
+from share.admission.chains import rank
+from share.admission.judge import Judge
 from share.format.entry import Author, Copied, Copy, Entry, Plain
 from share.format.operation import Message
 from share.program import retyping
@@ -47,8 +48,8 @@ class Typed(Three):
     def numbers_that_typed(self, person: Person) -> list[int]:
         """Those of somebody's numbers under which something was typed."""
         with contextlib.closing(person.disk()) as disk:
-            own = {one.site for one in disk.clients()}
-            return sorted({row.entry.site for row in disk.rows() if row.made and row.entry.size and row.entry.site in own})
+            own = {one.site for one in disk.own.clients()}
+            return sorted({row.entry.site for row in disk.entries.rows() if row.made and row.entry.size and row.entry.site in own})
 
 
 class Twice:

@@ -8,7 +8,7 @@ from collections.abc import Sequence
 from typing import Any
 from unittest import mock
 
-from share.admission.judge import rank
+from share.admission.chains import rank
 from share.format.entry import LENGTH, Copy, Entry, Kind
 from share.format.operation import Message
 from share.store import read_only

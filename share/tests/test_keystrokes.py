@@ -8,8 +8,9 @@ from collections.abc import Iterable
 from itertools import chain
 from unittest import mock
 
-from share.admission.judge import AHEAD, Judge
-from share.admission.ledger import MOST_TYPED, Row
+from share.admission.judge import Judge
+from share.admission.ledger import MOST_IN_RUN, Row
+from share.admission.passage import AHEAD
 from share.format import chunk as chunks
 from share.format.chunk import MOST_CHUNK, Run
 from share.format.entry import Bad, Entry, Kind, Plain, check_entry
@@ -213,7 +214,7 @@ class Counts(unittest.TestCase):
             for seq in range(1, one.front(site) + 1):
                 self.assertEqual(one.message(site, seq), other.message(site, seq))
                 self.assertEqual(one.entry_of(site, seq), other.entry_of(site, seq))
-            chains = one._chains[site], other._chains[site]
+            chains = one._chains.by_site[site], other._chains.by_site[site]
             for at in range(one.length(site)):
                 self.assertEqual(*((chain.stamp_of(at), chain.inserter_of(at)) for chain in chains))
             self.assertEqual(*(chain.pending for chain in chains))
@@ -255,13 +256,13 @@ class Counts(unittest.TestCase):
 
     def test_a_long_stretch_fits_into_chunks(self) -> None:
         typist = Typist(FORM, 9)
-        for number in range(3 * MOST_TYPED + 7):
+        for number in range(3 * MOST_IN_RUN + 7):
             typist.keep(typist.insert(b"\r" if number % 7 == 0 else b"x"))
         found = added(typist.entries, True).let_through_in_order()
         self.assertEqual(len([*found.parts()]), 1)
         sizes = [len(run.data) for part in found.parts() for chunk, runs, _ in part.holder.parts(part.begin, part.end)
                  for run in (chunks.runs(chunk) if chunk else runs)]
-        self.assertLessEqual(max(sizes), MOST_TYPED)
+        self.assertLessEqual(max(sizes), MOST_IN_RUN)
         self.assertLess(len(sizes), 10)
         with contextlib.closing(Site(1, found)) as site:
             self.assertEqual(site.text(), b"".join(run.data for entry in typist.entries[1:] for run in entry.runs))

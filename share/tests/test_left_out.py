@@ -9,7 +9,8 @@ import shutil
 import subprocess
 import unittest
 
-from share.admission.judge import Judge, rank
+from share.admission.chains import rank
+from share.admission.judge import Judge
 from share.admission.left_out import LeftOut
 from share.editors.terminal.app import state_of_others
 from share.format.entry import Author, Entry, Form, Kind, Plain, in_entries

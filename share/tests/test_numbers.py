@@ -8,7 +8,7 @@ import time
 from collections.abc import Sequence
 from unittest import mock
 
-from share.admission.judge import rank
+from share.admission.chains import rank
 from share.admission.ledger import Row
 from share.format.entry import LENGTH, Entry, Form, Kind
 from share.format.operation import DELETE, Message

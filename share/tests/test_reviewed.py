@@ -7,7 +7,7 @@ import subprocess
 import time
 from unittest import mock
 
-from share.admission.judge import rank
+from share.admission.chains import rank
 from share.program.site import MOST_BYTES, Edited, Site
 from share.store.entries import Entries
 from share.store.guarded import Unkept

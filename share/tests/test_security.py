@@ -15,7 +15,7 @@ import time
 import unittest
 from unittest import mock
 
-from share.admission.judge import rank
+from share.admission.chains import rank
 from share.format.entry import MOST_BYTES, Author, Entry, Form
 from share.format.heartbeat import OF_BEFORE
 from share.format.link import Link, read
