@@ -152,7 +152,7 @@ def opener(given: argparse.Namespace, name: str, link: Link | None) -> Callable[
 
     def opened(bar: Bar, wake: Callable[[], None]) -> Session:
         told: list[str] = []
-        session = Session(notes.opened(name, url, link, password, told.append), password, bar, wake)
+        session = Session(notes.open_note(name, url, link, password, told.append), password, bar, wake)
         for left_out in told:
             session.tell(left_out)
         return session
@@ -219,7 +219,7 @@ def printed(given: argparse.Namespace, name: str) -> int:
     """Prints the note, and what is missing in it on standard error."""
     url = links.url_of(given.log) if given.log else None
     spelled = secret(given.link_file, "VIALSHOAL_LINK")
-    found = contents.printed(name, url, links.read(spelled) if spelled else None,
+    found = contents.text_of_note(name, url, links.read(spelled) if spelled else None,
                              secret(given.password_file, "VIALSHOAL_PASSWORD"))
     text = swapped(found.text)
     if sys.stdout.isatty():
@@ -273,7 +273,7 @@ def told_of_renewed(name: str, done: notes.Renewed, is_fresh: bool, names: dict[
 def agreed(given: argparse.Namespace, names: dict[int, str], messages: Messages) -> renewal.Fresh:
     """The text as it is, for a note that begins with it, where the user says so who is told what that is."""
     made = renewal.fresh(messages, frozenset(given.without or ()))
-    print(shown(renewal.in_words(made, names)))
+    print(shown(renewal.fresh_in_words(made, names)))
     if not given.yes:
         if not (sys.stdin.isatty() and sys.stdout.isatty()):
             raise Trouble("Nothing was done, since nobody can be asked here whether that is wanted. --yes says so.")
@@ -315,7 +315,7 @@ def done(given: argparse.Namespace) -> int:
         return 0
     (name,) = given.names
     if given.verb == "link":
-        print(notes.link_of(name))
+        print(notes.link_to(name))
     elif given.verb == "engine":
         for_editors(given, name)
     elif given.verb == "web":

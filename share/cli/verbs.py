@@ -23,7 +23,7 @@ from share.program.process import make_ready
 from share.program.replay import Replays, Step, Wrote
 from share.program.site import Site
 from share.store import atomic, contents, nicknames, notes, read_only
-from share.store.contents import Counted
+from share.store.contents import Contents
 from share.sync.session import Bar, Session
 from share.text.errors import Trouble, counted
 from share.text.line import Line
@@ -67,13 +67,13 @@ class Scripts:
         opens = self._opener(given, given.name)
         return lambda wake: opens(lambda done, total: None, wake)
 
-    def _found(self, given: argparse.Namespace) -> Counted:
+    def _found(self, given: argparse.Namespace) -> Contents:
         """The messages of a note, and what is missing of it."""
         spelled = self._secret(given.link_file, "VIALSHOAL_LINK")
-        found = contents.found(given.name, links.url_of(given.log) if given.log else None,
+        found = contents.found_of(given.name, links.url_of(given.log) if given.log else None,
                                links.read(spelled) if spelled else None,
                                self._secret(given.password_file, "VIALSHOAL_PASSWORD"))
-        return contents.counted(given.name, found)
+        return contents.contents_of(given.name, found)
 
     # Reading.
 
@@ -133,9 +133,9 @@ class Scripts:
 
     def _list(self, given: argparse.Namespace) -> int:
         found = []
-        for path in sorted((notes.data_folder() / "notes").glob(f"*{notes.SUFFIX}")):
-            name = path.name[:-len(notes.SUFFIX)]
-            if notes.NAME.fullmatch(name):
+        for path in sorted((notes.data_folder() / "notes").glob(f"*{notes.NOTE_SUFFIX}")):
+            name = path.name[:-len(notes.NOTE_SUFFIX)]
+            if notes.is_name(name):
                 found.append(_listed(name, path))
         if given.json:
             return _json({"notes": found}, [])

@@ -26,7 +26,7 @@ from share.program.site import SLICE, Edited, Site, Told
 from share.program.undo import Step, do, looks_of
 from share.store import atomic, nicknames
 from share.store.guarded import Damaged, Unkept
-from share.store.renewal import telling
+from share.store.renewal import renewed_in_words
 from share.sync.session import Session, Status
 from share.text.change import Change, change
 from share.text.delta import Op, in_text, of_changes
@@ -514,7 +514,7 @@ class Engine:
         self._status = session.status()
         if self._status.renewed and not self._is_renewed:
             self._is_renewed = True
-            self._tell(telling(self._status.renewed))
+            self._tell(renewed_in_words(self._status.renewed))
         self._tell_what_is_left_out(self._status.left_out)
 
     def _tell_what_is_left_out(self, left_out: list[Line]) -> None:

@@ -79,7 +79,7 @@ def agree(name: str, url: str | None, link: Link | None) -> None:
                     raise _silent(name)
                 time.sleep(AGAIN_SECONDS)
         about = read_only.about(path)
-        notes.agree(about, name, url, link)
+        notes.check_agreement(about, name, url, link)
         if url and url != about.url:
             raise Trouble(f"The note {name} is open with another log. Quit its editors first.")
 

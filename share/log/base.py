@@ -11,7 +11,7 @@ from typing import NamedTuple
 # The place before all entries.
 START = ""
 # How many entries a reading gives at most.
-PAGE = 2_000
+READ_AT_ONCE = 2_000
 # An editor counts as on for so many seconds after it has last said so.
 ON_SECONDS = 15
 # Of no more than this many is said that they are on.
@@ -27,7 +27,7 @@ class Lost(Exception):
     be opened and read anew. What was damaged was set aside."""
 
 
-class Carried(NamedTuple):
+class InLog(NamedTuple):
     """What stands at a place of the log: the bytes of an entry, or None where it can't be one (it is too long,
     or something else)."""
 
@@ -44,7 +44,7 @@ class Log(ABC):
         """Appends entries so that they last. One that is held already, byte for byte, is left as it is."""
 
     @abstractmethod
-    def read(self, after: str) -> list[Carried]:
+    def read(self, after: str) -> list[InLog]:
         """What stands after a place, PAGE at most. Nothing that is longer than an entry may be is read."""
 
     @abstractmethod

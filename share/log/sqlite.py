@@ -9,23 +9,23 @@ from collections.abc import Iterator, Sequence
 
 from share.format.entry import HEAD, MOST_BYTES, NOTE_BYTES, digest
 from share.format.presence import MOST_PRESENCE
-from share.log.base import MOST_ON, ON_SECONDS, PAGE, START, Carried, Log, Lost, Unreachable
+from share.log.base import MOST_ON, ON_SECONDS, READ_AT_ONCE, START, InLog, Log, Lost, Unreachable
 from share.log.folder import Inode, held, inode_of, make_folder
 from share.log.sqlite_file import RETRY_SECONDS, SIDE_FILES, Busy, Malformed, SqliteFile, begins_as, beside, set_aside
 from share.text.errors import Trouble
 
 # Tells a log from other files of SQLite, notes' files among them, in its header.
-APPLICATION = 0x56534E4C
+LOG_APPLICATION = 0x56534E4C
 # Above a greater place SQLite would look for a free one below it.
-GREATEST_PLACE = 2**62
+GREATEST_LOG_PLACE = 2**62
 # A mark tells an entry from another one that took its place in a log that was put back.
-SCHEMA = """
+LOG_SCHEMA = """
     CREATE TABLE header (note BLOB NOT NULL);
     CREATE TABLE entry (place INTEGER PRIMARY KEY, hash BLOB UNIQUE, raw BLOB NOT NULL,
                         mark INTEGER NOT NULL DEFAULT (random()));
     CREATE TABLE presence (token BLOB PRIMARY KEY, seen REAL NOT NULL, said BLOB NOT NULL);
 """
-TABLES = "header", "entry", "presence"
+LOG_TABLES = "header", "entry", "presence"
 # All that is read may have been written by another program, so its type and its length are looked at first.
 NOTES = "SELECT note FROM header WHERE typeof(note) = 'blob' AND length(note) = ?"
 OF_OTHERS = ("SELECT EXISTS (SELECT 1 FROM entry WHERE typeof(raw) = 'blob' AND length(raw) BETWEEN ? AND ? AND "
@@ -36,7 +36,7 @@ STANDS = "SELECT EXISTS (SELECT 1 FROM entry WHERE place = ? AND coalesce(CAST(m
 AFTER = ("SELECT place, coalesce(CAST(mark AS INTEGER), 0), CASE WHEN typeof(raw) = 'blob' AND length(raw) <= ? "
           "THEN raw END FROM entry WHERE place > ? ORDER BY place LIMIT ?")
 ON = "SELECT said FROM presence WHERE typeof(said) = 'blob' AND length(said) <= ? ORDER BY seen DESC LIMIT ?"
-PLACE = re.compile(r"([0-9]{1,19})\.(-?[0-9]{1,19})")
+FILE_PLACE = re.compile(r"([0-9]{1,19})\.(-?[0-9]{1,19})")
 
 
 class SqliteLog(Log):
@@ -48,7 +48,7 @@ class SqliteLog(Log):
         self._is_log = False
         self._size = 0
         try:
-            _make(path)
+            _make_log(path)
         except OSError as why:
             raise Unreachable(f"{why.filename or path}: {why.strerror}") from why
         self._inode = inode_of(path)
@@ -67,17 +67,17 @@ class SqliteLog(Log):
             for raw in raws:
                 self._append(raw, digest(raw))
 
-    def read(self, after: str) -> list[Carried]:
+    def read(self, after: str) -> list[InLog]:
         with self._at_file():
             place = self._stands(after)
-            rows = self._file.execute(AFTER, (MOST_BYTES, place, PAGE)).fetchall()
-        if rows and rows[-1][0] > GREATEST_PLACE:
+            rows = self._file.execute(AFTER, (MOST_BYTES, place, READ_AT_ONCE)).fetchall()
+        if rows and rows[-1][0] > GREATEST_LOG_PLACE:
             raise self._set_aside("has a place that can't be")
-        return [Carried(f"{place}.{mark}", raw) for place, mark, raw in rows]
+        return [InLog(f"{place}.{mark}", raw) for place, mark, raw in rows]
 
     def watch(self, after: str, seconds: float) -> None:
         end = time.monotonic() + seconds
-        place = _place(after)[0]
+        place = _place_and_mark(after)[0]
         while True:
             with self._at_file():
                 # Where there are fewer, a reading says what happened.
@@ -110,12 +110,12 @@ class SqliteLog(Log):
         self._file.close()
 
     def _open(self) -> None:
-        if self._file.application() != APPLICATION:
+        if self._file.application() != LOG_APPLICATION:
             self._create()
-        if self._file.application() != APPLICATION:
+        if self._file.application() != LOG_APPLICATION:
             raise self._no_log()
         self._is_log = True
-        if not self._file.has_tables(TABLES):
+        if not self._file.has_tables(LOG_TABLES):
             raise self._set_aside("is damaged (it lacks some of its tables)")
         self._find_note()
         if not self._file.write_ahead():
@@ -130,7 +130,7 @@ class SqliteLog(Log):
         with self._file.transaction():
             # Another process may have been quicker.
             if not self._file.one("SELECT count(*) FROM sqlite_master"):
-                self._file.create(SCHEMA, APPLICATION)
+                self._file.create(LOG_SCHEMA, LOG_APPLICATION)
                 self._file.execute("INSERT INTO header VALUES (?)", (self._note,))
 
     def _find_note(self) -> None:
@@ -156,7 +156,7 @@ class SqliteLog(Log):
     def _stands(self, after: str) -> int:
         """The place after which is read. A log that was put back, or lost its first entries, is seen by what
         is missing of it."""
-        place, mark = _place(after)
+        place, mark = _place_and_mark(after)
         first = self._file.one("SELECT coalesce(min(place), 0) FROM entry")
         if after != START and not self._file.one(STANDS, place, mark) or self._first and first != self._first:
             raise Lost(f"{self.path} has lost entries.")
@@ -217,7 +217,7 @@ class SqliteLog(Log):
         except Busy as why:
             raise Unreachable(f"{self.path}: {why}") from why
         except Malformed as why:
-            if not (self._is_log or begins_as(self.path, APPLICATION)):
+            if not (self._is_log or begins_as(self.path, LOG_APPLICATION)):
                 raise self._no_log() from why
             raise self._set_aside(f"is damaged ({why})") from why
 
@@ -225,16 +225,16 @@ class SqliteLog(Log):
         return Trouble(f"{self.path} isn't a note's log. Move it away, or name another file.")
 
 
-def _place(after: str) -> tuple[int, int]:
+def _place_and_mark(after: str) -> tuple[int, int]:
     """The number and the mark of a place."""
     if after == START:
         return 0, 0
-    if not (found := PLACE.fullmatch(after)):
+    if not (found := FILE_PLACE.fullmatch(after)):
         raise Lost("The place after which was to be read is another log's.")
     return int(found[1]), int(found[2])
 
 
-def _make(path: pathlib.Path) -> None:
+def _make_log(path: pathlib.Path) -> None:
     """Makes the file where it isn't there, so that nobody else reads it: only a folder whose files are a group's
     has its log shared with the group."""
     if os.path.lexists(path):

@@ -17,9 +17,9 @@ SIDE_FILES = WRITTEN_AHEAD, INDEX
 LOCK_SECONDS, RETRY_SECONDS = 10, 0.03
 # The steps of SQLite's that are counted at once, and how often that is done before a reading is stopped. The entries of the longest
 # note take half of that at most.
-STEPS, MOST_TIMES = 1_000_000, 100
+STEPS_A_TICK, MOST_TICKS = 1_000_000, 100
 # How a file begins, and where its header has the number that tells programs' files apart.
-BEGIN, HEADER_SIZE = b"SQLite format 3\0", 100
+SQLITE_BEGIN, HEADER_SIZE = b"SQLite format 3\0", 100
 APPLICATION_ID = slice(68, 72)
 # What SQLite says where a table isn't as it was made. Python 3.10 has no numbers for that.
 OTHER_TABLES = re.compile(r"no such (table|column)|has no column|cannot modify|malformed|may not be modified")
@@ -39,18 +39,18 @@ class SqliteFile:
 
     def __init__(self, path: pathlib.Path, writes: bool = True, bounded: bool = False):
         self.path = path
-        self._times = 0
+        self._ticks = 0
         with faults():
             self._file = sqlite3.connect(f"file:{quote(os.fsencode(path))}?mode={'rw' if writes else 'ro'}", uri=True,
                                          timeout=LOCK_SECONDS, isolation_level=None)
         self._file.text_factory = as_text
         if bounded:
-            self._file.set_progress_handler(self._has_stepped, STEPS)
+            self._file.set_progress_handler(self._ticked, STEPS_A_TICK)
 
     @contextlib.contextmanager
     def used(self) -> Iterator[None]:
         """What is done meanwhile is one reading; where it fails Busy or Malformed says so."""
-        self._times = 0
+        self._ticks = 0
         with faults():
             yield
 
@@ -122,9 +122,9 @@ class SqliteFile:
         """Lets go of the file."""
         self._file.close()
 
-    def _has_stepped(self) -> bool:
-        self._times += 1
-        return self._times > MOST_TIMES
+    def _ticked(self) -> bool:
+        self._ticks += 1
+        return self._ticks > MOST_TICKS
 
 
 @contextlib.contextmanager
@@ -163,7 +163,7 @@ def begins_as(path: pathlib.Path, application: int) -> bool:
     """Whether a file that SQLite doesn't open begins as one of a program, or as one that a crash left in zeros."""
     with contextlib.suppress(OSError), open(path, "rb") as file:
         head = file.read(HEADER_SIZE)
-        return not any(head) or head.startswith(BEGIN) and head[APPLICATION_ID] in (b"", application.to_bytes(4, "big"))
+        return not any(head) or head.startswith(SQLITE_BEGIN) and head[APPLICATION_ID] in (b"", application.to_bytes(4, "big"))
     return False
 
 

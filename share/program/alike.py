@@ -3,6 +3,7 @@ what was made anew twice. It is typed again once, and what is typed stands for a
 from collections.abc import Iterable, Iterator, Mapping, Sequence
 
 from share.admission.judge import Judge
+from share.admission.ledger import Who
 from share.format.entry import NO_HASH, Copy
 from share.format.operation import Message, typed
 
@@ -10,7 +11,6 @@ from share.format.operation import Message, typed
 MOST_TIMES, MOST_ALIKE = 8, 64
 # Anybody with the link can say anything of copies: so often it is looked at what is said.
 MOST_LOOKED_AT = 100_000
-Who = tuple[int, bytes]
 
 
 class Alike:

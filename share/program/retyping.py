@@ -13,6 +13,7 @@ from typing import NamedTuple
 
 from share.admission.chains import rank
 from share.admission.judge import Judge
+from share.admission.ledger import Who
 from share.admission.left_out import LeftOut
 from share.format.entry import Author, Copied, Copy, Entry, Form
 from share.format.operation import Message, inserted, mentioned, typed
@@ -40,9 +41,8 @@ MOST_TOLD, MOST_NAMED = 100, 3
 LOOKING = 1
 # So many characters before what was left out are looked at first.
 LOOKED_AT = 64
-# A message by its author, site and seq; and an author of a site.
+# A message by its author, site and seq.
 Made = tuple[bytes, int, int]
-Who = tuple[int, bytes]
 
 
 class Lost(NamedTuple):

@@ -19,14 +19,14 @@ from share.log.sqlite_file import SIDE_FILES, Busy, Malformed, SqliteFile, besid
 from share.store.entries import ADD_ENTRY, ENTRIES_SCHEMA, Entries, entry_values
 from share.store.guarded import Damaged, GuardedFile, Unkept
 from share.store.locks import Locks
-from share.store.own import ADD_ANEW, ADD_CLIENT, OWN_SCHEMA, Anew, Client, Own
+from share.store.own import ADD_ANEW, ADD_CLIENT, OWN_SCHEMA, Anew, Client, OwnTables
 
 # Tells a note's file from other files of SQLite, in its header.
-APPLICATION = 0x56534E32
-SCHEMA = f"CREATE TABLE about (name TEXT PRIMARY KEY, value BLOB NOT NULL); {ENTRIES_SCHEMA} {OWN_SCHEMA}"
-TABLES = "about", "entry", "withdrawn", "client", "anew"
+NOTE_APPLICATION = 0x56534E32
+NOTE_SCHEMA = f"CREATE TABLE about (name TEXT PRIMARY KEY, value BLOB NOT NULL); {ENTRIES_SCHEMA} {OWN_SCHEMA}"
+NOTE_TABLES = "about", "entry", "withdrawn", "client", "anew"
 # How long a sealed note's key is.
-KEY_BYTES = 32
+SEALED_KEY_BYTES = 32
 
 
 @dataclass(frozen=True)
@@ -51,7 +51,7 @@ class Disk:
 
     def __init__(self, path: pathlib.Path):
         self.path = path
-        self._file = GuardedFile(path, APPLICATION, TABLES)
+        self._file = GuardedFile(path, NOTE_APPLICATION, NOTE_TABLES)
         try:
             with self._file.reading():
                 self.about = about_of(self._file.sql)
@@ -61,7 +61,7 @@ class Disk:
             raise
         self.inode = self._file.inode
         self.entries = Entries(self._file, self.form, self.about.sealed)
-        self.own = Own(self._file)
+        self.own = OwnTables(self._file)
         self._locks = Locks(path)
 
     def again(self) -> "Disk":
@@ -150,13 +150,13 @@ def about_of(file: SqliteFile) -> About:
     if not {"sealed", "secret", "url"} <= found.keys():
         raise Damaged("it doesn't say which note it is of")
     secret, url = found["secret"], found["url"]
-    size = KEY_BYTES if found["sealed"] else NOTE_BYTES
+    size = SEALED_KEY_BYTES if found["sealed"] else NOTE_BYTES
     if not isinstance(secret, bytes) or len(secret) != size or not isinstance(url, str):
         raise Damaged("it doesn't say which note it is of")
     return About(bool(found["sealed"]), secret, url)
 
 
-def make(path: pathlib.Path, about: About, rows: Iterable[Row] = (), clients: Iterable[Client] = (),
+def make_note(path: pathlib.Path, about: About, rows: Iterable[Row] = (), clients: Iterable[Client] = (),
          anew: Iterable[Anew] = (), withdrawn: Iterable[bytes] = (), offered: bool = False,
          damaged: Inode | None = None) -> pathlib.Path | None:
     """Writes a note's file, with these rows, which a log may have been offered. It is made under a name of its own first.
@@ -168,7 +168,7 @@ def make(path: pathlib.Path, about: About, rows: Iterable[Row] = (), clients: It
         with contextlib.closing(SqliteFile(new)) as file:
             file.execute("PRAGMA journal_mode = MEMORY")
             with file.transaction():
-                file.create(SCHEMA, APPLICATION)
+                file.create(NOTE_SCHEMA, NOTE_APPLICATION)
                 file.executemany("INSERT INTO about VALUES (?, ?)", [
                     ("sealed", int(about.sealed)), ("secret", about.secret), ("url", about.url)])
                 file.executemany(f"INSERT {ADD_CLIENT}", (one.values() for one in clients))

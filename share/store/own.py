@@ -53,7 +53,7 @@ class Anew(NamedTuple):
     by_seq: int
 
 
-class Own:
+class OwnTables:
     """The tables of a person's own. What writes is called within a transaction, but for what says that it writes by itself."""
 
     def __init__(self, file: GuardedFile):

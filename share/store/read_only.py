@@ -16,20 +16,20 @@ from share.format.keystrokes import Keystrokes
 from share.log.sqlite_file import Busy, Malformed, SqliteFile, faults
 from share.program.site import Site
 from share.store.guarded import Damaged
-from share.store.note_file import APPLICATION, About, about_of
+from share.store.note_file import NOTE_APPLICATION, About, about_of
 from share.store.old import copied
 from share.store.own import COPIED
 from share.text.errors import NEWER, Trouble, entries
 
-Result = TypeVar("Result")
-RAW, KEPT = "coalesce(CAST(raw AS BLOB), x'')", ", hash, body, sum"
-ROWS = """SELECT place, {} FROM entry WHERE place {} ? AND hash NOT IN (SELECT hash FROM withdrawn) ORDER BY place {}"""
+Read = TypeVar("Read")
+RAW, KEPT_COLUMNS = "coalesce(CAST(raw AS BLOB), x'')", ", hash, body, sum"
+ENTRY_ROWS = """SELECT place, {} FROM entry WHERE place {} ? AND hash NOT IN (SELECT hash FROM withdrawn) ORDER BY place {}"""
 OWN_CLIENTS = "SELECT site, author FROM client WHERE retired != ?"
-GREATEST_PLACE = 2**63 - 1
+LAST_PLACE = 2**63 - 1
 # So many faults of a kind are told one by one.
-MOST_TOLD = 3
+MOST_FAULTS = 3
 # After so many entries what counts of them is let through.
-PAGE = 2_000
+JUDGED_AT_ONCE = 2_000
 
 # The bytes of an entry as a file has them, its hash, its body unsealed, and a sum of that. What the disk damaged may have other types.
 Kept = tuple[Any, ...]
@@ -71,12 +71,12 @@ class Faults:
     def add(self, why: Bad) -> None:
         """One more can't be read."""
         self._many += 1
-        if self._many <= MOST_TOLD:
+        if self._many <= MOST_FAULTS:
             self._first.append(f"An entry of {self._of} {why}.")
 
     def words(self) -> list[str]:
         """What is told."""
-        more = self._many - MOST_TOLD
+        more = self._many - MOST_FAULTS
         return [*self._first, f"{entries(more)} more of {self._of} can't be read."] if more > 0 else self._first
 
 
@@ -88,7 +88,7 @@ class Own(NamedTuple):
     anew: set[tuple[bytes, int, int]] = set()
 
 
-class Shown(NamedTuple):
+class NoteText(NamedTuple):
     """A note's text, and what is missing in it, in words."""
 
     text: bytes
@@ -124,12 +124,12 @@ def judged(path: pathlib.Path) -> Judged:
     return _with_file(path, _judged)
 
 
-def shown(found: Found) -> Shown:
+def text_of(found: Found) -> NoteText:
     """What a note shows that has these entries."""
     judge = Judge(found.entries)
     messages = judge.count().messages
     with contextlib.closing(Site(1, messages)) as site:
-        return Shown(site.text(), missing(judge, found.faults))
+        return NoteText(site.text(), missing(judge, found.faults))
 
 
 def missing(judge: Judge, faults: Iterable[str]) -> list[str]:
@@ -143,13 +143,13 @@ def missing(judge: Judge, faults: Iterable[str]) -> list[str]:
         told.append(f"{lack} in the text.")
     wrong = judge.wrong()
     told += [f"Message {one.seq} of site {one.site} is wrong, and isn't in the text with what builds on it."
-             for one in wrong[:MOST_TOLD]]
-    if len(wrong) > MOST_TOLD:
-        told.append(f"Messages of {len(wrong) - MOST_TOLD:,} more sites are wrong.")
+             for one in wrong[:MOST_FAULTS]]
+    if len(wrong) > MOST_FAULTS:
+        told.append(f"Messages of {len(wrong) - MOST_FAULTS:,} more sites are wrong.")
     return told
 
 
-def opened(about_it: About, raws: list[bytes], of: str) -> tuple[list[Entry], list[str]]:
+def entries_of(about_it: About, raws: list[bytes], of: str) -> tuple[list[Entry], list[str]]:
     """The entries that bytes are, and what is wrong with the others. `of` says where they are."""
     right, faults = list[Entry](), Faults(of)
     for one in about_it.form().open_many(raws):
@@ -162,7 +162,7 @@ def opened(about_it: About, raws: list[bytes], of: str) -> tuple[list[Entry], li
 
 def _found(file: SqliteFile) -> Found:
     about_it, broken = about_of(file), list[str]()
-    right, faults = opened(about_it, [raw for raw, in _rows(file, RAW, broken)], "the file")
+    right, faults = entries_of(about_it, [raw for raw, in _rows_of(file, RAW, broken)], "the file")
     return Found(about_it, right, broken + faults)
 
 
@@ -170,27 +170,27 @@ def _judged(file: SqliteFile) -> Judged:
     about_it, broken, wrong = about_of(file), list[str](), Faults("the file")
     form, keystrokes = about_it.form(), Keystrokes()
     found = Judged(about_it, Judge(form=form), [], set())
-    for number, row in enumerate(_rows(file, RAW + KEPT, broken), 1):
+    for number, row in enumerate(_rows_of(file, RAW + KEPT_COLUMNS, broken), 1):
         try:
             found.add(_as_kept(form, keystrokes, row))
         except Bad as why:
             wrong.add(why)
-        if number % PAGE == 0:
+        if number % JUDGED_AT_ONCE == 0:
             found.judge.let_through()
     return found._replace(faults=broken + wrong.words())
 
 
-def _rows(file: SqliteFile, columns: str, broken: list[str]) -> Iterator[Kept]:
+def _rows_of(file: SqliteFile, columns: str, broken: list[str]) -> Iterator[Kept]:
     """All entries that can be read, from the front; where the file is damaged, which is told, also from the other end."""
     last = 0
     try:
-        for row in file.execute(ROWS.format(columns, ">", "ASC"), (0,)):
+        for row in file.execute(ENTRY_ROWS.format(columns, ">", "ASC"), (0,)):
             yield row[1:]
             last = row[0]
     except sqlite3.DatabaseError as why:
         broken.append(f"The file is damaged ({why}); some of it may be lost.")
         with contextlib.suppress(sqlite3.DatabaseError):
-            for row in file.execute(ROWS.format(columns, "<", "DESC"), (GREATEST_PLACE,)):
+            for row in file.execute(ENTRY_ROWS.format(columns, "<", "DESC"), (LAST_PLACE,)):
                 if row[0] <= last:
                     break
                 yield row[1:]
@@ -209,7 +209,7 @@ def _as_kept(form: Form, keystrokes: Keystrokes, row: Kept) -> Row:
     return Row(0, form.open(raw), False)
 
 
-def _with_file(path: pathlib.Path, read: Callable[[SqliteFile], Result]) -> Result:
+def _with_file(path: pathlib.Path, read: Callable[[SqliteFile], Read]) -> Read:
     """What is read of a file. Where no editor has it open it is a copy that is read, since SQLite would leave files
     beside it."""
     if path.with_name(path.name + "-wal").exists() and path.with_name(path.name + "-shm").exists():
@@ -222,11 +222,11 @@ def _with_file(path: pathlib.Path, read: Callable[[SqliteFile], Result]) -> Resu
         raise Trouble(f"{path} can't be read ({why}).") from why
 
 
-def _read(path: pathlib.Path, copy: pathlib.Path, read: Callable[[SqliteFile], Result]) -> Result:
+def _read(path: pathlib.Path, copy: pathlib.Path, read: Callable[[SqliteFile], Read]) -> Read:
     """What is read of a file by a copy of it, or by itself."""
     try:
         with faults(), contextlib.closing(SqliteFile(copy, writes=False, bounded=True)) as file:
-            if file.application() != APPLICATION:
+            if file.application() != NOTE_APPLICATION:
                 raise Trouble(f"{path} isn't a note's file.")
             return read(file)
     except Malformed as why:

@@ -21,11 +21,11 @@ from share.store.note_file import Disk
 
 # It is written where so many messages came that it doesn't have, and a part of those that it has; and as the note is
 # closed where so many did.
-MANY, AT_END, SHARE = 20_000, 1_000, 4
+MANY_NEW, AT_END, SHARE = 20_000, 1_000, 4
 # What a program that was killed as it wrote leaves in the folder.
 LEFT = ".file-of-a-text-that-is-not-whole-yet-*"
 # Of a site, how many messages the file has, and the hash of the entry that has the last of them.
-FRONT = struct.Struct(">HI32s")
+PACKED_FRONT = struct.Struct(">HI32s")
 
 
 def folder_of(disk: Disk, site: int) -> pathlib.Path | None:
@@ -55,7 +55,7 @@ def fronts_of(disk: Disk, judge: Judge, site: int, folder: pathlib.Path | None) 
     try:
         if not (folder and noted and digest((folder / KEPT).read_bytes()) == noted[0]):
             return {}
-        found = [*FRONT.iter_unpack(noted[1])]
+        found = [*PACKED_FRONT.iter_unpack(noted[1])]
     except (OSError, struct.error):
         return {}
     return {of: seq for of, seq, _ in found} if all(judge.entry_of(of, seq) == by for of, seq, by in found) else {}
@@ -72,7 +72,7 @@ def keep(disk: Disk, judge: Judge, site: Site) -> None:
         if found and all(by for _, _, by in found):
             (folder / KEPT).chmod(PRIVATE)
             disk.own.note_packed(site.number, digest((folder / KEPT).read_bytes()),
-                             b"".join(FRONT.pack(of, seq, by or b"") for of, seq, by in found))
+                             b"".join(PACKED_FRONT.pack(of, seq, by or b"") for of, seq, by in found))
 
 
 def parted(messages: Messages, fronts: Mapping[int, int]) -> tuple[Messages, Messages]:

@@ -105,7 +105,7 @@ def _summed(data: bytes, sums: tuple[int, ...], order: str) -> tuple[int, ...]:
     return one, other
 
 
-class Left:
+class Watch:
     """How a file was left by those who have it open in this process."""
 
     def __init__(self, path: pathlib.Path):
@@ -181,7 +181,7 @@ class Left:
         return FileState(found.st_size, found.st_mtime_ns, log.st_mtime_ns)
 
 
-_known: "weakref.WeakValueDictionary[Inode, Left]" = weakref.WeakValueDictionary()
+_known: "weakref.WeakValueDictionary[Inode, Watch]" = weakref.WeakValueDictionary()
 _knowing = threading.Lock()
 
 
@@ -201,12 +201,12 @@ def doubt(path: pathlib.Path) -> None:
         found.doubts()
 
 
-def left(path: pathlib.Path) -> Left | None:
+def left(path: pathlib.Path) -> Watch | None:
     """How the file of this name was left, which has just been opened and read; None where nothing is beside it, so that one
     process alone can have it open."""
     inode = inode_of(path) or (0, 0)
     with _knowing, contextlib.suppress(OSError):
         if not (found := _known.get(inode)):
-            found = _known[inode] = Left(path)
+            found = _known[inode] = Watch(path)
         return found
     return None

@@ -13,8 +13,7 @@ from share.format import heartbeat, presence
 from share.format.entry import NOT_UNDER_A_NUMBER, SAY_WHAT_BECAME, Bad, Entry, Form, Kind, before_of, digest
 from share.format.heartbeat import MOST_LACKS, OF_BEFORE, Lack, Said, Way, new_token
 from share.format.presence import RANDOM_BYTES
-from share.log.base import ON_SECONDS, START, Log, Lost, Unreachable
-from share.log.base import Carried as InLog
+from share.log.base import ON_SECONDS, START, InLog, Log, Lost, Unreachable
 from share.store.entries import Located
 from share.store.guarded import Damaged, Unkept
 from share.store.note_file import Disk

@@ -23,7 +23,7 @@ from share.program.retyping import Lost
 from share.program.site import SLICE, Edited, Progress, Site, Told, is_nearly_full
 from share.store import snapshot
 from share.store.guarded import Changed, Damaged, Unkept
-from share.store.note_file import Disk, make
+from share.store.note_file import Disk, make_note
 from share.store.own import Anew, Client, Overtaken
 from share.store.read_only import found_in, uncollected
 from share.store.renewal import renewed_by
@@ -274,7 +274,7 @@ class Session:
         self._comes(found.messages)
         told = self._take_in()
         if not self._coming:
-            self._pack(max(snapshot.MANY, self._packed // snapshot.SHARE))
+            self._pack(max(snapshot.MANY_NEW, self._packed // snapshot.SHARE))
         hidden = [] if self.has_more() else self._hide_copies()
         return told + hidden if isinstance(told, list) and isinstance(hidden, list) else self.site.text()
 
@@ -505,7 +505,7 @@ class Session:
                 disk.close()
                 raise
         except Damaged:
-            aside = make(path, self._about, self._rows_and(path), holdings.clients.values(),
+            aside = make_note(path, self._about, self._rows_and(path), holdings.clients.values(),
                          [Anew(*one, 0, 0) for one in holdings.anew], holdings.withdrawn(), offered=True, damaged=inode)
             disk = Disk(path)
             self._notices.append(f"The note's file was gone or damaged ({why}) and was written anew."

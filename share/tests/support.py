@@ -22,7 +22,7 @@ from share.program.process import Program
 from share.program.site import Edited, Site, Told
 from share.store import notes
 from share.store.note_file import Disk
-from share.store.read_only import found_in, shown
+from share.store.read_only import found_in, text_of
 from share.sync.session import Session, Status
 from share.tests.note import Note
 from share.tests.servers import RedisServer
@@ -52,12 +52,12 @@ class Person:
     def open(self, name: str = "note", url: str | None = None, link: str | None = None) -> Note:
         """A note, as an editor has it open."""
         with self.here():
-            return Note(Session(notes.opened(name, url, links.read(link) if link else None)))
+            return Note(Session(notes.open_note(name, url, links.read(link) if link else None)))
 
     def link(self, name: str = "note") -> str:
         """A note's link."""
         with self.here():
-            return notes.link_of(name)
+            return notes.link_to(name)
 
     def path(self, name: str = "note") -> pathlib.Path:
         """A note's file."""
@@ -66,7 +66,7 @@ class Person:
 
     def text(self, name: str = "note") -> bytes:
         """What the file alone shows."""
-        return shown(found_in(self.path(name))).text
+        return text_of(found_in(self.path(name))).text
 
     def disk(self, name: str = "note") -> Disk:
         """The file of a note, which the caller closes."""

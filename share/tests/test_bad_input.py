@@ -32,7 +32,7 @@ import json, resource
 from share.store import notes
 from share.sync.session import Session
 from share.tests.note import Note
-note = Note(Session(notes.opened("note", None, None)))
+note = Note(Session(notes.open_note("note", None, None)))
 resource.setrlimit(resource.RLIMIT_FSIZE, (200_000, 300_000))
 while not note.notice:
     before = len(note.text)
@@ -222,7 +222,7 @@ class BadInput(Case):
                 run = self.note("cat", "note")
                 self.assertEqual((run.returncode, run.stdout), (3, "one two three "))
                 self.assertIn("The log can't be read", run.stderr)
-        with mock.patch("share.log.sqlite_file.MOST_TIMES", 1):
+        with mock.patch("share.log.sqlite_file.MOST_TICKS", 1):
             found = read_only.found_in(self.ann.path())
         self.assertRegex(found.faults[0], "damaged .interrupted.")
 

@@ -201,7 +201,7 @@ class Gaps(Case):
         anna.session.close()
         # One damaged entry, and its author is off.
         self.assertTrue(damage(path, b"007 ", b"00x "))
-        with mock.patch("share.sync.state.ROOM", 40_000), mock.patch("share.log.sqlite.PAGE", 8):
+        with mock.patch("share.sync.state.ROOM", 40_000), mock.patch("share.log.sqlite.READ_AT_ONCE", 8):
             berta = self.opened(self.person("berta"), link=link)
             wait_for(lambda: (berta.take_in(), berta.session._holdings.waiting_for_room())[1], "entries to be dropped")
             self.assertEqual(berta.text.decode(), "".join(words[:7]))

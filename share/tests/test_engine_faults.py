@@ -37,7 +37,7 @@ class Here(Case):
 
     def setUp(self) -> None:
         super().setUp()
-        self.engine = Engine("note", lambda: Session(notes.opened("note", None, None)), lambda: None)
+        self.engine = Engine("note", lambda: Session(notes.open_note("note", None, None)), lambda: None)
         self.addCleanup(self.engine.close)
         self.editors = [self.editor(units) for units in ("utf-16", "utf-8")]
 

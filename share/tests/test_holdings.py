@@ -5,7 +5,7 @@ import unittest
 from unittest import mock
 
 from share.format.entry import NOTE_BYTES, Author, Entry, Form
-from share.store.note_file import About, Disk, make
+from share.store.note_file import About, Disk, make_note
 from share.store.own import Client
 from share.sync.state import Holdings
 from share.tests.naive import inserting
@@ -30,7 +30,7 @@ class Read(Case):
     def setUp(self) -> None:
         super().setUp()
         path = self.folder / "notes" / "n.note"
-        make(path, About(False, bytes(NOTE_BYTES), URL))
+        make_note(path, About(False, bytes(NOTE_BYTES), URL))
         self.disk = Disk(path)
         self.addCleanup(self.disk.close)
         form = self.disk.form

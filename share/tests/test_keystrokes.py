@@ -19,7 +19,7 @@ from share.format.operation import DEFAULT_BYTES, DELETE, GREATEST_STAMP, INSERT
 from share.format.sealed import Sealed
 from share.program.site import Site
 from share.store import contents
-from share.store.note_file import About, make
+from share.store.note_file import About, make_note
 from share.store.own import Client
 from share.tests.support import Case
 from share.text.change import make as make_changes
@@ -305,7 +305,7 @@ class Opened(Case):
             typist.keep(typist.insert(self.text[number:number + 1]))
         self.ann = self.person("ann")
         rows = [Row(0, entry, True) for entry in typist.entries]
-        make(self.ann.path(), About(True, bytes(range(32)), ""), rows, [Client(17, typist.author, stood=True)])
+        make_note(self.ann.path(), About(True, bytes(range(32)), ""), rows, [Client(17, typist.author, stood=True)])
 
     def test_few_chunks_are_read(self) -> None:
         with mock.patch.object(chunks, "_typed", wraps=chunks._typed) as read:
@@ -318,17 +318,17 @@ class Opened(Case):
             note = self.opened(self.ann)
             self.assertEqual(note.session.text(), self.text)
             with self.ann.here():
-                self.assertEqual(contents.printed("note", None, None, None).text, self.text)
+                self.assertEqual(contents.text_of_note("note", None, None, None).text, self.text)
 
     def test_none_is_opened_as_a_strangers(self) -> None:
         with self.ann.here(), mock.patch.object(Sealed, "_opened", side_effect=AssertionError):
-            self.assertEqual(contents.printed("note", None, None, None).text, self.text)
+            self.assertEqual(contents.text_of_note("note", None, None, None).text, self.text)
 
     def test_none_is_kept_whole(self) -> None:
         with self.ann.here():
             tracemalloc.start()
             try:
-                contents.printed("note", None, None, None)
+                contents.text_of_note("note", None, None, None)
                 _, most = tracemalloc.get_traced_memory()
             finally:
                 tracemalloc.stop()

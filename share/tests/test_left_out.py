@@ -327,14 +327,14 @@ FORM = Plain(bytes(16))
 def shown(person: Person) -> tuple[str, list[str]]:
     """What somebody's note and its log show, and what is missing in that."""
     with person.here():
-        found = contents.printed("note", None, None, None)
+        found = contents.text_of_note("note", None, None, None)
     return found.text.decode(), found.missing
 
 
 def left_out(person: Person) -> list[dict]:
     """What is left out of somebody's note."""
     with person.here():
-        return contents.counted("note", contents.found("note", None, None, None)).left_out
+        return contents.contents_of("note", contents.found_of("note", None, None, None)).left_out
 
 
 def typed_at(site: int, data: bytes) -> list[Message]:

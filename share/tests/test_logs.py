@@ -22,7 +22,7 @@ from unittest import mock
 
 from share.format.entry import MOST_BYTES, Plain
 from share.format.presence import MOST_PRESENCE
-from share.log.base import PAGE, START, Log, Lost, Unreachable
+from share.log.base import READ_AT_ONCE, START, Log, Lost, Unreachable
 from share.log.opening import open_log
 from share.log.sqlite import SqliteLog
 from share.tests.servers import RedisServer, free_port
@@ -99,9 +99,9 @@ class Shared:
             self.assertEqual(raws(log, last), [raw(3)])
 
         def test_many_come_in_pages(self) -> None:
-            log, many = self.log(), [raw(number) for number in range(2 * PAGE + 7)]
+            log, many = self.log(), [raw(number) for number in range(2 * READ_AT_ONCE + 7)]
             log.append(many)
-            self.assertLessEqual(len(log.read(START)), PAGE)
+            self.assertLessEqual(len(log.read(START)), READ_AT_ONCE)
             self.assertEqual(raws(log), many)
             self.assertEqual(log.size(), len(many))
 
@@ -171,7 +171,7 @@ class Shared:
             author = form.new_author()
             claims = [form.claim(site, author) for site in (7, 65_000, 7)]
             log.append([b"", b"\1", raw(1), *(one.raw for one in claims), form.made_anew(claims[1], author).raw])
-            with mock.patch("share.log.redis.PART", 2):
+            with mock.patch("share.log.redis.CLAIMS_AT_ONCE", 2):
                 self.assertIn(log.claimed(), ({7, 65_000}, None))
 
         def test_a_place_of_another_log_is_told(self) -> None:
@@ -412,7 +412,7 @@ class Files(Shared.Both):
 
     def test_views_without_end_end(self) -> None:
         self.closed_with(raw(1))
-        with closing(self.opened()) as log, mock.patch("share.log.sqlite_file.MOST_TIMES", 1):
+        with closing(self.opened()) as log, mock.patch("share.log.sqlite_file.MOST_TICKS", 1):
             self.file().executescript(f"ALTER TABLE entry RENAME TO before; {WITHOUT_END}")
             for call in (lambda: raws(log), lambda: log.watch(START, 0), log.size):
                 with self.assertRaisesRegex(Unreachable, "interrupted"):

@@ -16,7 +16,7 @@ from share.log.base import Log
 from share.log.sqlite import SqliteLog
 from share.program.process import Program
 from share.program.site import Edited, Site
-from share.store.own import Client, Own
+from share.store.own import Client, OwnTables
 from share.sync.replicator import Courier
 from share.sync.session import Session
 from share.tests.naive import about
@@ -219,9 +219,9 @@ class Numbers(Case):
 
     def test_a_number_that_is_claimed_while_another_editor_is_opened(self) -> None:
         self.begun()
-        first, ask, asked = self.opened(self.anna), Own.clients, []
+        first, ask, asked = self.opened(self.anna), OwnTables.clients, []
 
-        def clients(own: Own) -> list[Client]:
+        def clients(own: OwnTables) -> list[Client]:
             if threading.current_thread() is threading.main_thread():
                 asked.append(own)
                 if len(asked) == 2:
@@ -231,7 +231,7 @@ class Numbers(Case):
                         other.keep([other.form.claim(client.site, client.author)], True, client=client)
             return ask(own)
 
-        with mock.patch.object(Own, "clients", clients):
+        with mock.patch.object(OwnTables, "clients", clients):
             second = self.opened(self.anna)
         written(second, "four ")
         self.assertEqual(self.assert_meet(first, second), b"one two three four ")

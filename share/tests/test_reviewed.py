@@ -11,8 +11,8 @@ from share.admission.chains import rank
 from share.program.site import MOST_BYTES, Edited, Site
 from share.store.entries import Entries
 from share.store.guarded import Unkept
-from share.store.note_file import Disk, make
-from share.store.own import Anew, Overtaken, Own
+from share.store.note_file import Disk, make_note
+from share.store.own import Anew, Overtaken, OwnTables
 from share.sync.session import Session
 from share.tests import test_numbers
 from share.tests.note import Note
@@ -25,7 +25,7 @@ import sys, time
 from share.store import notes
 from share.sync.session import Session
 from share.tests.note import Note
-note, number = Note(Session(notes.opened("note", None, None))), 0
+note, number = Note(Session(notes.open_note("note", None, None))), 0
 print("open", flush=True)
 sys.stdin.readline()
 end = time.monotonic() + 1
@@ -111,7 +111,7 @@ class UnderSeveral(Case):
             about = disk.about
         wal = person.path().with_name("note.note-wal")
         before = wal.stat().st_ino
-        make(person.path(), about)
+        make_note(person.path(), about)
         self.assertEqual(wal.stat().st_ino, before)
 
 
@@ -181,7 +181,7 @@ class GivenUp(Case):
                         disk.keep([], True, anew=[Anew(*one)])
 
     def test_a_disk_that_is_full_between_two_steps(self) -> None:
-        for number, step in enumerate(((Entries, "withdraw"), (Own, "stands"), (Disk, "keep"))):
+        for number, step in enumerate(((Entries, "withdraw"), (OwnTables, "stands"), (Disk, "keep"))):
             with self.subTest(step=step):
                 if number:
                     self.doCleanups()
