@@ -109,7 +109,7 @@ class Chains:
         return Outcome.NONE
 
     def settle(self, of: bytes) -> None:
-        """Has what follows an entry lack nothing, which came and is in no chain."""
+        """Notes that an entry came that is in no chain: what follows it lacks nothing."""
         self.outside.settle(of)
 
     def follows(self, entry: Entry, number: int) -> bool:
@@ -150,7 +150,7 @@ class Chains:
         return Outcome.LONGER if len(numbers) > before else Outcome.NONE
 
     def _cut(self, chain: Chain, at: int, row: Row) -> Outcome:
-        """Has an entry hold in the place of what is in a chain from some place on."""
+        """Puts an entry into the place of what is in a chain from some place on."""
         front = chain.front
         gone = [(self.ledger.row(number), chain.branch.first(place) <= front)
                 for place, number in enumerate(chain.branch.numbers[at:], at)]

@@ -84,7 +84,7 @@ class Judge:
             self._chains.settle(entry.hash)
 
     def _take(self, site: int, outcome: Outcome) -> None:
-        """Has a chain be looked at that isn't as it was."""
+        """Looks again at a chain that isn't as it was."""
         if outcome is Outcome.NONE:
             return
         if outcome is not Outcome.LONGER:

@@ -106,7 +106,7 @@ class Unchained:
         return one.row
 
     def settle(self, of: bytes, but: bytes | None = None) -> bool:
-        """Has what follows an entry that is here lack nothing, but one that goes on from it in a chain; whether something
+        """Notes that what follows an entry that is here lacks nothing, but for one that goes on from it in a chain; whether something
         did."""
         roots, some = [of], False
         while roots:

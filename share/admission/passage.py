@@ -70,14 +70,14 @@ class Passage:
         self.is_anew = False
 
     def _start(self) -> None:
-        """Has nothing been let through."""
+        """Begins with nothing let through."""
         self.greatest = 0
         self._waiting = Waiting()
         # What was let through since that was last asked for, and all of it, in the order in which it was.
         self._out, self._through = Messages(), Messages()
 
     def stir(self, site: int) -> None:
-        """Has a chain that grew be looked at, unless it waits for something else."""
+        """Notes that a chain grew, which is looked at next, unless it waits for something else."""
         self._room.moved(site)
         if site in self.blocked:
             self.changes += 1
@@ -85,12 +85,12 @@ class Passage:
             self._stirred.add(site)
 
     def forget(self, site: int) -> None:
-        """Has a chain wait for nothing any more, as others took the place of what waited."""
+        """Forgets for what a chain waits, as others took the place of what waited."""
         self.blocked.discard(site)
         self.ended.discard(site)
 
     def begin_anew(self) -> None:
-        """Has all be let through anew."""
+        """Begins anew with all chains."""
         self._start()
         self.is_anew = True
         self.blocked.clear()
@@ -175,7 +175,7 @@ class Passage:
                 self._wake(chain.branch.site, woken)
 
     def _wake(self, site: int, woken: list[int]) -> None:
-        """Has a chain be looked at again that waited."""
+        """Looks again at a chain that waited."""
         if site in self.blocked:
             self.blocked.discard(site)
             self.changes += 1

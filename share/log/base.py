@@ -12,7 +12,7 @@ from typing import NamedTuple
 START = ""
 # How many entries a reading gives at most.
 READ_AT_ONCE = 2_000
-# An editor counts as on for so many seconds after it has last said so.
+# How long an editor counts as on after it has last said so.
 ON_SECONDS = 15
 # Of no more than this many is said that they are on.
 MOST_ON = 1_000
@@ -49,7 +49,7 @@ class Log(ABC):
 
     @abstractmethod
     def watch(self, after: str, seconds: float) -> None:
-        """Returns when something stands after a place, and after so many seconds at the latest."""
+        """Returns when something stands after a place, or when the time is over."""
 
     @abstractmethod
     def size(self) -> int:
@@ -65,7 +65,7 @@ class Log(ABC):
         return None
 
     def quick(self) -> None:
-        """Has what is said last over kills, and not over the loss of power, where that is quicker."""
+        """What is written is to last over kills, and not over the loss of power, where that is quicker."""
 
     @abstractmethod
     def leave(self, token: bytes) -> None:

@@ -12,7 +12,7 @@ from share.format.presence import MOST_PRESENCE
 from share.log.base import MOST_ON, ON_SECONDS, READ_AT_ONCE, START, InLog, Log, Lost
 from share.log.resp import Answer, TooLong, Wire
 
-# An append has so many bytes, and a reading, and each entry in it so many beside its own.
+# The most bytes of an append and of a reading, and what an entry costs beside its own bytes.
 MOST_APPENDED = 2**17
 MOST_ROOM, ENTRY_OVERHEAD = 2**20, 64
 # A reading begins with little, so that something is seen soon where the line is slow. Each next one may have twice as much
@@ -21,7 +21,7 @@ LEAST_ROOM, QUICK_READING_SECONDS, SLOW_READING_SECONDS = 2**14, 0.3, 1.0
 MOST_READ = MOST_ROOM + 20 * (MOST_BYTES + ENTRY_OVERHEAD) + READ_AT_ONCE * ENTRY_OVERHEAD
 # What a watch lets through: a longer entry is known by its size alone.
 MOST_WATCHED = MOST_BYTES + 1_024
-# Claims are looked for in so many entries at once, and in so many parts of the stream at most.
+# How many entries are looked through for claims at once, and how often at most.
 CLAIMS_AT_ONCE, MOST_CLAIM_READINGS = 5_000, 1_000
 # An entry has one field alone, called e. The server hashes the bytes, so nobody can have another entry stand for one
 # that isn't there. One that was trimmed, or stands otherwise, is added anew.
@@ -103,7 +103,7 @@ STREAM_PLACE = re.compile(r"([0-9]{1,20}-[0-9]{1,20})/([0-9]{1,18})")
 
 
 class Stream:
-    """A stream whose entries have one field alone, with so many bytes at most. A place in it has the entry's id
+    """A stream whose entries have one field alone, of no more than `most` bytes. A place in it has the entry's id
     and how many there are up to it, so that a stream that lost entries is seen."""
 
     def __init__(self, wire: Wire, key: str, field: str, most: int):
@@ -140,14 +140,14 @@ class Stream:
         return sites
 
     def _took(self, seconds: float) -> None:
-        """Has the next reading have as much as comes in a short while."""
+        """Adapts the size of the next reading to what comes in a short while."""
         if seconds < QUICK_READING_SECONDS:
             self._room = min(2 * self._room, MOST_ROOM)
         elif seconds > SLOW_READING_SECONDS:
             self._room = max(self._room // 2, LEAST_ROOM)
 
     def watch(self, after: str, seconds: float) -> None:
-        """Returns when there is an entry after a place, and after so many seconds at the latest."""
+        """Returns when there is an entry after a place, or when the time is over."""
         last, _ = _stream_place(after)
         milliseconds = max(1, int(seconds * 1000))
         try:

@@ -20,9 +20,9 @@ Word = Union[bytes, str, int]
 Answer = Union[bytes, int, None, list["Answer"]]
 
 CONNECT_SECONDS, REPLY_SECONDS = 5, 10
-# What is long is given more time, at so many bytes a second.
+# What is long is given more time: a second for this many bytes.
 SLOWEST = 2**12
-# An answer has so many bytes at most, where nothing else is said, and is nested no deeper.
+# The most bytes of an answer, where nothing else is said, and how deep it may be nested.
 MOST_ANSWER = 2**20
 DEEPEST = 6
 RECEIVED_AT_ONCE = 2**16
@@ -62,7 +62,7 @@ class Wire:
         self._end = 0.0
 
     def ask(self, *words: Word, waits: float = 0, most: int = MOST_ANSWER) -> Answer:
-        """The answer to a command, with which the server waits so many seconds."""
+        """The answer to a command, before which the server may wait."""
         with self._told():
             return self._asked(words, waits, most)
 

@@ -79,7 +79,7 @@ def _refuse_odd_files(path: pathlib.Path, target: pathlib.Path, old: os.stat_res
 
 
 def _replace(target: pathlib.Path, old: os.stat_result | None, data: bytes) -> None:
-    """Writes a file beside, has it on the disk, and then gives it the name."""
+    """Writes a file beside, brings it to the disk, and then gives it the name."""
     beside = target.with_name(NAME_BEGIN + secrets.token_hex(8))
     # Nobody may read what is written who may not read the old file.
     file = os.open(beside, os.O_WRONLY | os.O_CREAT | os.O_EXCL | os.O_CLOEXEC, PRIVATE if old else READABLE)
@@ -117,7 +117,7 @@ def _keep_rights(file: int, old: os.stat_result) -> None:
 
 
 def _sync_folder(folder: pathlib.Path) -> None:
-    """Has a folder's names on the disk, where its file system and its rights let us."""
+    """Brings a folder's names to the disk, where its file system and its rights let us."""
     try:
         handle = os.open(folder, os.O_RDONLY | os.O_DIRECTORY | os.O_CLOEXEC)
     except PermissionError:

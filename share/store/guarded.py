@@ -71,7 +71,7 @@ class GuardedFile:
 
     @contextlib.contextmanager
     def transaction(self) -> Iterator[None]:
-        """Within `reading`, has something be written as a whole or not at all."""
+        """The same within `reading`."""
         with self._left.written() if self._left else contextlib.nullcontext(), self.sql.transaction():
             yield
 

@@ -17,7 +17,7 @@ class Locks:
         self._file: int | None = None
 
     def lock(self, site: int) -> bool:
-        """Has nobody else write under a number; whether nobody did."""
+        """Keeps others from writing under a number; whether nobody did."""
         try:
             self._asked(fcntl.F_OFD_SETLK, site)
             return True

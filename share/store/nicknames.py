@@ -13,7 +13,7 @@ from share.format.presence import clean_name
 from share.store import notes
 
 NICKNAMES_SUFFIX = ".people"
-# So many are kept at most: who has the note's link could name thousands.
+# The most that are kept: who has the note's link could name thousands.
 MOST_NICKNAMES = 1_000
 LONGEST_FILE = 1 << 20
 

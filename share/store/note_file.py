@@ -100,7 +100,7 @@ class Disk:
             self.entries.restore(rows, withdrawn)
 
     def point_to(self, url: str) -> None:
-        """Has the note's log be at another place."""
+        """Notes that the log is at another place."""
         with self._file.writing():
             self._file.sql.execute("UPDATE about SET value = ? WHERE name = 'url'", (url,))
         self.about = replace(self.about, url=url)
@@ -121,7 +121,7 @@ class Disk:
             return self.entries.last_place()
 
     def lock(self, site: int) -> bool:
-        """Has nobody else write under a number as long as this file is open; whether nobody did."""
+        """Keeps others from writing under a number as long as this file is open; whether nobody did."""
         return self._locks.lock(site)
 
     def locked(self) -> int:
@@ -135,7 +135,7 @@ class Disk:
             self._locks.close()
 
     def quick(self) -> None:
-        """Has what is written last over kills, and not over the loss of power."""
+        """What is written from now on lasts over kills, and not over the loss of power."""
         self._file.sql.quick()
 
     def close(self) -> None:

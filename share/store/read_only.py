@@ -26,9 +26,9 @@ RAW, KEPT_COLUMNS = "coalesce(CAST(raw AS BLOB), x'')", ", hash, body, sum"
 ENTRY_ROWS = """SELECT place, {} FROM entry WHERE place {} ? AND hash NOT IN (SELECT hash FROM withdrawn) ORDER BY place {}"""
 OWN_CLIENTS = "SELECT site, author FROM client WHERE retired != ?"
 LAST_PLACE = 2**63 - 1
-# So many faults of a kind are told one by one.
+# The most faults of a kind that are told one by one.
 MOST_FAULTS = 3
-# After so many entries what counts of them is let through.
+# How many entries are read before what counts of them is let through.
 JUDGED_AT_ONCE = 2_000
 
 # The bytes of an entry as a file has them, its hash, its body unsealed, and a sum of that. What the disk damaged may have other types.
@@ -237,7 +237,7 @@ def _read(path: pathlib.Path, copy: pathlib.Path, read: Callable[[SqliteFile], R
 
 @contextlib.contextmanager
 def uncollected() -> Iterator[None]:
-    """Has Python look for no garbage meanwhile, which takes as long as all the rest where a long history is read, nor
+    """Keeps Python from looking for garbage meanwhile, which takes as long as all the rest where a long history is read, nor
     later in what was read, which stays."""
     gc.disable()
     try:

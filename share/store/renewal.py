@@ -68,7 +68,7 @@ def fresh_in_words(one: Fresh, names: Mapping[int, str]) -> str:
 
 
 def say_so(path: pathlib.Path, name: str, password: str | None) -> None:
-    """Has those who have the old note, whose file this is, hear from somebody of this name that it was renewed."""
+    """Tells those who have the old note, whose file this is, that somebody of this name renewed it."""
     with suppress(Unkept, Damaged, Trouble, Unreachable, Lost), closing(Disk(path)) as disk:
         clients = sorted((one for one in disk.own.clients() if not one.retired), key=lambda one: not one.stood)
         if not clients:

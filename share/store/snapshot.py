@@ -19,8 +19,8 @@ from share.program.site import KEPT, Site
 from share.store.atomic import PRIVATE
 from share.store.note_file import Disk
 
-# It is written where so many messages came that it doesn't have, and a part of those that it has; and as the note is
-# closed where so many did.
+# It is written once this many messages came that it doesn't have, and a part of those that it has; as the note is closed
+# once the second number did.
 MANY_NEW, AT_END, SHARE = 20_000, 1_000, 4
 # What a program that was killed as it wrote leaves in the folder.
 LEFT = ".file-of-a-text-that-is-not-whole-yet-*"
@@ -62,7 +62,7 @@ def fronts_of(disk: Disk, judge: Judge, site: int, folder: pathlib.Path | None) 
 
 
 def keep(disk: Disk, judge: Judge, site: Site) -> None:
-    """Has a site's packed file be of all that it has taken in, as far as there is room."""
+    """Writes a site's packed file anew, with all that the site has taken in, as far as there is room."""
     folder = _folder(disk, site.number)
     with contextlib.suppress(OSError):
         for left in folder.glob(LEFT):

@@ -136,7 +136,7 @@ class Watch:
 
     @contextlib.contextmanager
     def written(self) -> Iterator[None]:
-        """Has what is written meanwhile be known. Only one thread writes at a time."""
+        """Takes note of what is written meanwhile. Only one thread writes at a time."""
         with self._writing:
             is_known = self._state == self._now()
             try:
@@ -170,7 +170,7 @@ class Watch:
         self._state = state
 
     def doubts(self) -> None:
-        """Has the file be unknown."""
+        """Forgets how the file was left."""
         self._state = UNKNOWN
 
     def _now(self) -> FileState:
