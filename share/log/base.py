@@ -22,7 +22,7 @@ class Unreachable(Exception):
     """The log can't be had now, and may be later."""
 
 
-class Lost(Exception):
+class LogLost(Exception):
     """The log isn't the one that was opened any more: it was removed, emptied, replaced or damaged, and has to
     be opened and read anew. What was damaged was set aside."""
 
@@ -37,7 +37,7 @@ class InLog(NamedTuple):
 
 class Log(ABC):
     """A log of one note that one thread has opened. What can't be reached raises Unreachable, what has to be
-    opened again Lost, and what is no log, or another note's, Trouble."""
+    opened again LogLost, and what is no log, or another note's, Trouble."""
 
     @abstractmethod
     def append(self, raws: Sequence[bytes]) -> None:

@@ -9,7 +9,7 @@ from collections.abc import Iterator, Sequence
 
 from share.format.entry import MOST_BYTES, Kind
 from share.format.presence import MOST_PRESENCE
-from share.log.base import MOST_ON, ON_SECONDS, READ_AT_ONCE, START, InLog, Log, Lost
+from share.log.base import MOST_ON, ON_SECONDS, READ_AT_ONCE, START, InLog, Log, LogLost
 from share.log.resp import Answer, TooLong, Wire
 
 # The most bytes of an append and of a reading, and what an entry costs beside its own bytes.
@@ -164,8 +164,8 @@ class Stream:
             raise self._wire.strange()
         return size
 
-    def _lost(self) -> Lost:
-        return Lost(f"{self._wire.url} has lost entries.")
+    def _lost(self) -> LogLost:
+        return LogLost(f"{self._wire.url} has lost entries.")
 
     def _page(self, answer: Answer, last: str, count: int) -> tuple[list[InLog], int | None]:
         """What a reading gives, and how many entries there are, where it came to their end."""
@@ -241,7 +241,7 @@ def _stream_place(after: str) -> tuple[str, int]:
     if after == START:
         return "0-0", 0
     if not (found := STREAM_PLACE.fullmatch(after)):
-        raise Lost("The place after which was to be read is another log's.")
+        raise LogLost("The place after which was to be read is another log's.")
     return found[1], int(found[2])
 
 

@@ -9,7 +9,7 @@ from collections.abc import Iterator, Sequence
 
 from share.format.entry import HEAD, MOST_BYTES, NOTE_BYTES, digest
 from share.format.presence import MOST_PRESENCE
-from share.log.base import MOST_ON, ON_SECONDS, READ_AT_ONCE, START, InLog, Log, Lost, Unreachable
+from share.log.base import MOST_ON, ON_SECONDS, READ_AT_ONCE, START, InLog, Log, LogLost, Unreachable
 from share.log.folder import Inode, held, inode_of, make_folder
 from share.log.sqlite_file import RETRY_SECONDS, SIDE_FILES, Busy, Malformed, SqliteFile, begins_as, beside, set_aside
 from share.text.errors import Trouble
@@ -124,7 +124,7 @@ class SqliteLog(Log):
         self._first = self._file.one("SELECT coalesce(min(place), 0) FROM entry")
         self._helpers = self._helping()
         if None in self._helpers:
-            raise Lost(f"{self.path} was changed by another program.")
+            raise LogLost(f"{self.path} was changed by another program.")
 
     def _create(self) -> None:
         with self._file.transaction():
@@ -159,13 +159,13 @@ class SqliteLog(Log):
         place, mark = _place_and_mark(after)
         first = self._file.one("SELECT coalesce(min(place), 0) FROM entry")
         if after != START and not self._file.one(STANDS, place, mark) or self._first and first != self._first:
-            raise Lost(f"{self.path} has lost entries.")
+            raise LogLost(f"{self.path} has lost entries.")
         self._first = first
         return place
 
     @contextlib.contextmanager
     def _at_file(self) -> Iterator[None]:
-        """What is done is done to the file that is at the path, or else it raises Lost: SQLite goes on with a
+        """What is done is done to the file that is at the path, or else it raises LogLost: SQLite goes on with a
         file that was removed, and what it commits there nobody reads."""
         self._check()
         with self._told(), self._file.used():
@@ -176,7 +176,7 @@ class SqliteLog(Log):
         with self._file_words():
             now = os.stat(self.path)
         if (now.st_dev, now.st_ino) != self._inode:
-            raise Lost(f"{self.path} was replaced.")
+            raise LogLost(f"{self.path} was replaced.")
         if not now.st_size:
             raise self._set_aside("was emptied")
         if now.st_size < self._size or self._helping() != self._helpers:
@@ -195,18 +195,18 @@ class SqliteLog(Log):
         try:
             with held(self.path.parent):
                 if inode_of(self.path) != self._inode:
-                    return Lost(f"{self.path} was replaced.")
+                    return LogLost(f"{self.path} was replaced.")
                 aside = set_aside(self.path)
         except OSError as why:
             return Unreachable(f"{self.path} {what}, and can't be set aside: {why.strerror}")
-        return Lost(f"{self.path} {what}; it is kept as {aside.name}.")
+        return LogLost(f"{self.path} {what}; it is kept as {aside.name}.")
 
     @contextlib.contextmanager
     def _file_words(self) -> Iterator[None]:
         try:
             yield
         except FileNotFoundError as why:
-            raise Lost(f"{why.filename} was removed.") from why
+            raise LogLost(f"{why.filename} was removed.") from why
         except OSError as why:
             raise Unreachable(f"{why.filename or self.path}: {why.strerror}") from why
 
@@ -230,7 +230,7 @@ def _place_and_mark(after: str) -> tuple[int, int]:
     if after == START:
         return 0, 0
     if not (found := FILE_PLACE.fullmatch(after)):
-        raise Lost("The place after which was to be read is another log's.")
+        raise LogLost("The place after which was to be read is another log's.")
     return int(found[1]), int(found[2])
 
 

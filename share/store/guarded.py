@@ -32,7 +32,7 @@ class GuardedFile:
         if not path.exists() or not path.stat().st_size:
             raise Damaged(f"{path} isn't there" if not path.exists() else f"{path} is empty")
         # How those left it who have it open in this process.
-        self._left: unchanged.Watch | None = None
+        self._left: unchanged.FileWatch | None = None
         if fault := unchanged.fault(path):
             raise Changed(fault)
         self._version = 0

@@ -18,7 +18,7 @@ from typing import NamedTuple
 
 from share.format.entry import GREATEST_SITE
 from share.format.operation import LONGEST_MESSAGE, Message, is_spelled
-from share.log.base import START, Lost, Unreachable
+from share.log.base import START, LogLost, Unreachable
 from share.log.redis import Stream
 from share.log.resp import Wire
 from share.log.sqlite_file import SqliteFile
@@ -231,7 +231,7 @@ def _read_stream(wire: Wire, key: str) -> _Gathered | None:
                     checksum, data = (raw[:CHECKSUM_BYTES], raw[CHECKSUM_BYTES:]) if raw else (b"", None)
                     gathered.add(place, data, int.from_bytes(checksum, "big"))
                 after = page[-1].place
-        except Lost:
+        except LogLost:
             continue
         return gathered if after != START else None
     raise Unreachable(f"{wire.url} loses entries as they are read.")

@@ -35,7 +35,7 @@ JUDGED_AT_ONCE = 2_000
 Kept = tuple[Any, ...]
 
 
-class Found(NamedTuple):
+class FoundEntries(NamedTuple):
     """What a note's file has, and what was wrong with it, in words."""
 
     about: About
@@ -113,7 +113,7 @@ def own(path: pathlib.Path) -> Own:
     return Own()
 
 
-def found_in(path: pathlib.Path) -> Found:
+def found_in(path: pathlib.Path) -> FoundEntries:
     """What a file has, as far as it can be read. Each entry is judged as one that came from a stranger."""
     return _with_file(path, _found)
 
@@ -124,7 +124,7 @@ def judged(path: pathlib.Path) -> Judged:
     return _with_file(path, _judged)
 
 
-def text_of(found: Found) -> NoteText:
+def text_of(found: FoundEntries) -> NoteText:
     """What a note shows that has these entries."""
     judge = Judge(found.entries)
     messages = judge.count().messages
@@ -160,10 +160,10 @@ def entries_of(about_it: About, raws: list[bytes], of: str) -> tuple[list[Entry]
     return right, faults.words()
 
 
-def _found(file: SqliteFile) -> Found:
+def _found(file: SqliteFile) -> FoundEntries:
     about_it, broken = about_of(file), list[str]()
     right, faults = entries_of(about_it, [raw for raw, in _rows_of(file, RAW, broken)], "the file")
-    return Found(about_it, right, broken + faults)
+    return FoundEntries(about_it, right, broken + faults)
 
 
 def _judged(file: SqliteFile) -> Judged:

@@ -14,7 +14,7 @@ from share.format.chunk import Run as Typing
 from share.format.history import Messages
 from share.format.operation import INSERT, Message
 from share.format.presence import clean_name
-from share.log.base import Lost, Unreachable
+from share.log.base import LogLost, Unreachable
 from share.log.opening import open_log
 from share.program.site import Site, split
 from share.store.guarded import Damaged, Unkept
@@ -69,7 +69,7 @@ def fresh_in_words(one: Fresh, names: Mapping[int, str]) -> str:
 
 def say_so(path: pathlib.Path, name: str, password: str | None) -> None:
     """Tells those who have the old note, whose file this is, that somebody of this name renewed it."""
-    with suppress(Unkept, Damaged, Trouble, Unreachable, Lost), closing(Disk(path)) as disk:
+    with suppress(Unkept, Damaged, Trouble, Unreachable, LogLost), closing(Disk(path)) as disk:
         clients = sorted((one for one in disk.own.clients() if not one.retired), key=lambda one: not one.stood)
         if not clients:
             return

@@ -105,7 +105,7 @@ def _summed(data: bytes, sums: tuple[int, ...], order: str) -> tuple[int, ...]:
     return one, other
 
 
-class Watch:
+class FileWatch:
     """How a file was left by those who have it open in this process."""
 
     def __init__(self, path: pathlib.Path):
@@ -181,7 +181,7 @@ class Watch:
         return FileState(found.st_size, found.st_mtime_ns, log.st_mtime_ns)
 
 
-_known: "weakref.WeakValueDictionary[Inode, Watch]" = weakref.WeakValueDictionary()
+_known: "weakref.WeakValueDictionary[Inode, FileWatch]" = weakref.WeakValueDictionary()
 _knowing = threading.Lock()
 
 
@@ -201,12 +201,12 @@ def doubt(path: pathlib.Path) -> None:
         found.doubts()
 
 
-def left(path: pathlib.Path) -> Watch | None:
+def left(path: pathlib.Path) -> FileWatch | None:
     """How the file of this name was left, which has just been opened and read; None where nothing is beside it, so that one
     process alone can have it open."""
     inode = inode_of(path) or (0, 0)
     with _knowing, contextlib.suppress(OSError):
         if not (found := _known.get(inode)):
-            found = _known[inode] = Watch(path)
+            found = _known[inode] = FileWatch(path)
         return found
     return None

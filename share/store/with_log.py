@@ -6,7 +6,7 @@ from contextlib import ExitStack, closing, contextmanager
 from share.admission.ledger import Row
 from share.format.entry import Bad, digest
 from share.format.link import is_network
-from share.log.base import START, InLog, Log, Lost, Unreachable
+from share.log.base import START, InLog, Log, LogLost, Unreachable
 from share.log.opening import open_log
 from share.store.old import copied
 from share.store.read_only import Faults, Judged
@@ -49,7 +49,7 @@ def _pages(url: str, note: bytes, password: str | None) -> Iterator[list[InLog]]
                     yield page
                     after = page[-1].place
             return
-        except Lost:
+        except LogLost:
             continue
     raise Unreachable(f"{url} is damaged, or loses entries as it is read")
 

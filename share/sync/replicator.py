@@ -13,7 +13,7 @@ from share.format import heartbeat, presence
 from share.format.entry import NOT_UNDER_A_NUMBER, SAY_WHAT_BECAME, Bad, Entry, Form, Kind, before_of, digest
 from share.format.heartbeat import MOST_LACKS, OF_BEFORE, Lack, Said, Way, new_token
 from share.format.presence import RANDOM_BYTES
-from share.log.base import ON_SECONDS, START, InLog, Log, Lost, Unreachable
+from share.log.base import ON_SECONDS, START, InLog, Log, LogLost, Unreachable
 from share.store.entries import Located
 from share.store.guarded import Damaged, Unkept
 from share.store.note_file import Disk
@@ -213,7 +213,7 @@ class Courier:
             why = ""
             try:
                 part()
-            except Lost as lost:
+            except LogLost as lost:
                 self._tell(str(lost))
                 self._anew = True
             except (Unreachable, Unkept, Damaged, Trouble) as known:

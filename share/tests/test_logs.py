@@ -22,7 +22,7 @@ from unittest import mock
 
 from share.format.entry import MOST_BYTES, Plain
 from share.format.presence import MOST_PRESENCE
-from share.log.base import READ_AT_ONCE, START, Log, Lost, Unreachable
+from share.log.base import READ_AT_ONCE, START, Log, LogLost, Unreachable
 from share.log.opening import open_log
 from share.log.sqlite import SqliteLog
 from share.tests.servers import RedisServer, free_port
@@ -178,7 +178,7 @@ class Shared:
             log = self.log()
             log.append([raw(1)])
             for place in ("x", "1", "7-1", "1.1", "7-1/3", "99999999999999999999.1"):
-                with self.assertRaises(Lost, msg=place):
+                with self.assertRaises(LogLost, msg=place):
                     log.watch(place, 0.1)
                     log.read(place)
 
@@ -280,7 +280,7 @@ class Files(Shared.Both):
     def lost(self, log: Log, *why: str) -> None:
         """That each call at a log says that it is lost."""
         for call in self.calls(log):
-            with self.assertRaises(Lost) as told:
+            with self.assertRaises(LogLost) as told:
                 call()
         for part in why:
             self.assertIn(part, str(told.exception))
@@ -326,7 +326,7 @@ class Files(Shared.Both):
             with closing(self.opened()) as log, closing(self.opened()) as other:
                 log.append([raw(1), raw(2)])
                 os.truncate(self.path, 0)
-                with self.assertRaisesRegex(Lost, f"was emptied; it is kept as log.db.damaged-{which}"):
+                with self.assertRaisesRegex(LogLost, f"was emptied; it is kept as log.db.damaged-{which}"):
                     log.append([raw(3)])
                 self.lost(other, "was removed")
             with closing(self.opened()) as log:
@@ -342,7 +342,7 @@ class Files(Shared.Both):
         self.file().execute("DELETE FROM entry")
         log.watch(place, 0)
         for after in (place, START):
-            with self.assertRaisesRegex(Lost, "has lost entries"):
+            with self.assertRaisesRegex(LogLost, "has lost entries"):
                 log.read(after)
         with closing(self.opened()) as again:
             again.append([raw(1)])
@@ -358,7 +358,7 @@ class Files(Shared.Both):
                 with closing(self.opened()) as other:
                     other.append([take] * 3)
                     other.append([raw(7)])
-                with self.assertRaisesRegex(Lost, "has lost entries"):
+                with self.assertRaisesRegex(LogLost, "has lost entries"):
                     log.read(place)
 
     def test_a_damaged_file_is_set_aside(self) -> None:
@@ -369,7 +369,7 @@ class Files(Shared.Both):
             with open(self.path, "r+b") as file:
                 file.seek(size // 4)
                 file.write(random.Random(5).randbytes(size // 2))
-            with self.assertRaisesRegex(Lost, f"is damaged .*kept as log.db.damaged-{number}"):
+            with self.assertRaisesRegex(LogLost, f"is damaged .*kept as log.db.damaged-{number}"):
                 with closing(self.opened()) as log:
                     raws(log)
             with closing(self.opened()) as log:
@@ -383,10 +383,10 @@ class Files(Shared.Both):
         size = self.path.stat().st_size
         with open(self.path, "r+b") as file:
             file.write(bytes(size))
-        with self.assertRaises(Lost):
+        with self.assertRaises(LogLost):
             raws(log)
         self.lost(log)
-        with contextlib.suppress(Lost):
+        with contextlib.suppress(LogLost):
             self.opened().close()
         with closing(self.opened()) as again:
             again.append([raw(1)])
@@ -396,7 +396,7 @@ class Files(Shared.Both):
         self.closed_with(raw(1))
         with open(self.path, "r+b") as file:
             file.write(bytes(4096))
-        with self.assertRaisesRegex(Lost, "kept as"):
+        with self.assertRaisesRegex(LogLost, "kept as"):
             self.opened()
         self.closed_with(raw(1))
 
@@ -404,7 +404,7 @@ class Files(Shared.Both):
         for table in ("entry", "header", "presence"):
             with self.subTest(table), closing(self.opened()) as log:
                 self.file().execute(f"DROP TABLE {table}")
-                with self.assertRaisesRegex(Lost, "is damaged"):
+                with self.assertRaisesRegex(LogLost, "is damaged"):
                     with closing(self.opened()) as other:
                         other.meet(b"x", b"")
                 self.lost(log)
@@ -418,14 +418,14 @@ class Files(Shared.Both):
                 with self.assertRaisesRegex(Unreachable, "interrupted"):
                     call()
         # Who opens it sees at once that it is no log.
-        with self.assertRaisesRegex(Lost, "lacks some of its tables.*kept as"):
+        with self.assertRaisesRegex(LogLost, "lacks some of its tables.*kept as"):
             self.opened()
         self.closed_with(raw(1))
 
     def test_places_without_room_above_are_set_aside(self) -> None:
         self.closed_with(raw(1))
         self.file().execute("INSERT INTO entry (place, raw) VALUES (9223372036854775807, x'00')")
-        with self.assertRaisesRegex(Lost, "kept as"), closing(self.opened()) as log:
+        with self.assertRaisesRegex(LogLost, "kept as"), closing(self.opened()) as log:
             log.append([raw(2)])
             raws(log)
         self.closed_with(raw(1))
@@ -543,7 +543,7 @@ class Servers(Shared.Both):
             page = log.read(START)
             self.script(lose, page[2].place.split("/")[0])
             for more in range(2):
-                with self.subTest(which), self.assertRaisesRegex(Lost, "has lost entries"):
+                with self.subTest(which), self.assertRaisesRegex(LogLost, "has lost entries"):
                     log.read(page[-1].place)
                 self.log().append([raw(9)])
             self.assertIn(raw(9), raws(log))
@@ -560,10 +560,10 @@ class Servers(Shared.Both):
         self.server.start()
         with self.assertRaises(Unreachable):
             log.read(place)
-        with self.assertRaises(Lost):
+        with self.assertRaises(LogLost):
             log.read(place)
         log.append([raw(4), raw(5), raw(6)])
-        with self.assertRaises(Lost):
+        with self.assertRaises(LogLost):
             log.read(place)
         log.append([raw(number) for number in range(1, 4)])
         self.assertEqual(raws(log), [raw(number) for number in (1, 4, 5, 6, 2, 3)])

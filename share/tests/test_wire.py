@@ -11,7 +11,7 @@ from contextlib import closing
 from unittest import mock
 
 from share.format.entry import MOST_BYTES
-from share.log.base import START, InLog, Log, Lost, Unreachable
+from share.log.base import START, InLog, Log, LogLost, Unreachable
 from share.log.opening import open_log
 from share.tests.servers import Hostile, RedisServer, SocketServer, TlsServer
 from share.tests.test_logs import NOTE, Case, raw, raws
@@ -128,7 +128,7 @@ class HostileServers(Case):
         """What a call tells, nothing where its value is of its type."""
         try:
             self.assert_is_right(number, call())
-        except (Unreachable, Trouble, Lost) as why:
+        except (Unreachable, Trouble, LogLost) as why:
             told = str(why)
             self.assertTrue(told.isprintable(), told)
             self.assertLess(len(told), 500)
