@@ -78,18 +78,16 @@ class Uncounted:
     def _look_again(self) -> None:
         """Forgets what was told, where it may be so no more."""
         changes = self._statements.changes, self._chains.changes, self._passage.changes
-        if changes != self._changes or self._has_come_to_what_was_told():
+        passed = self._passage.first_passed()
+        if changes != self._changes or any(self._hangs_on(site, first) for site, first in passed.items()):
             self._changes, self._incomplete, self._left_out = changes, None, None
 
-    def _has_come_to_what_was_told(self) -> bool:
-        """Whether copies were let through, or the place of what lost its."""
-        return any(first <= self._copies.sites.get(site, 0) or self._is_end_of_lost(site, first)
-                   for site, first in self._passage.first_passed().items())
-
-    def _is_end_of_lost(self, site: int, first: int) -> bool:
-        """Whether something that lost its place ends from a seq on to the last one that is let through."""
+    def _hangs_on(self, site: int, first: int) -> bool:
+        """Whether what was told hangs on a site's messages from one on, as far as they are let through: copies are among them, or
+        something that lost its place ends there."""
         ends = self._ends_of_lost.get(site, ())
-        return bisect_left(ends, first) < bisect_right(ends, self._chains.by_site[site].front)
+        return first <= self._copies.sites.get(site, 0) or (
+            bisect_left(ends, first) < bisect_right(ends, self._chains.by_site[site].front))
 
     def _held_up(self, site: int, is_told: bool = False) -> tuple[int, int]:
         """The messages of a site that aren't let through, but those of which it is said that they were made anew: after

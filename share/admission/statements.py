@@ -62,7 +62,7 @@ class Statements:
             self._made_anew.setdefault(who, set()).add(entry.before)
         elif entry.kind is Kind.COPIES:
             self.copies.add(entry)
-        else:
+        elif entry.kind is Kind.RENEWED:
             self._renewed.setdefault(who, entry.spelled)
         return True
 

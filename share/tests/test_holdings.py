@@ -1,10 +1,12 @@
 """What is read of a note's file: in parts, with what was withdrawn left out, and with what has no room read again in its turn."""
 import contextlib
 import math
+import sqlite3
 import unittest
 from unittest import mock
 
 from share.format.entry import NOTE_BYTES, Author, Entry, Form
+from share.store.guarded import Damaged
 from share.store.note_file import About, Disk, make_note
 from share.store.own import Client
 from share.sync.state import Holdings
@@ -78,6 +80,18 @@ class Read(Case):
             self.assertEqual(holdings.rows[entry.hash].entry, entry)
         with contextlib.closing(self.disk.again()) as again:
             self.assertEqual({row.entry for row in again.entries.rows()}, {row.entry for row in holdings.rows.values()})
+
+    def test_tables_that_another_program_made_are_damage(self) -> None:
+        client = self.disk.own.clients()[0]
+        with contextlib.closing(sqlite3.connect(self.disk.path)) as file:
+            file.execute("ALTER TABLE client RENAME COLUMN stood TO other")
+            with self.assertRaisesRegex(Damaged, "stood"):
+                self.disk.own.stands(client)
+            file.execute("ALTER TABLE client RENAME COLUMN other TO stood")
+            self.disk.own.stands(client)
+            file.executescript("ALTER TABLE anew RENAME TO before; CREATE VIEW anew AS SELECT * FROM before")
+        with self.assertRaisesRegex(Damaged, "lacks some of its tables"):
+            self.disk.again()
 
 
 if __name__ == "__main__":
