@@ -268,9 +268,7 @@ class Judge:
         isn't said which."""
         if last == NO_HASH:
             return self.front_of(author, site)
-        while last in self._outside:
-            last = self._outside.row(last).entry.before
-        number = self._ledger.number(last)
+        number = self._ledger.number(self._outside.branches().before(last))
         if number is None or self._ledger.client(number) != (site, author):
             return 0
         line = self._chains[site].line
@@ -283,12 +281,11 @@ class Judge:
 
     def is_chained(self, of: bytes, last: bytes) -> bool:
         """Whether an entry is the last of some, or one to which that is chained."""
-        while last in self._outside:
-            if last == of:
-                return True
-            last = self._outside.row(last).entry.before
-        number, end = self._ledger.number(of), self._ledger.number(last)
-        if of in self._outside or number is None or end is None or self._ledger.client(number) != self._ledger.client(end):
+        branches = self._outside.branches()
+        if of in self._outside:
+            return branches.is_chained(of, last)
+        number, end = self._ledger.number(of), self._ledger.number(branches.before(last))
+        if number is None or end is None or self._ledger.client(number) != self._ledger.client(end):
             return False
         line = self._chains[self._ledger.client(end)[0]].line
         at, last_at = line.at(number), line.at(end)
@@ -325,26 +322,24 @@ class Judge:
         """The same, without those that lack one before them."""
         return (row.entry for row in self.not_through(site, author) if not self.is_loose(row.entry.hash))
 
-    def copies_of(self, author: bytes, site: int, seq: int, data: bytes) -> list[Copy]:
-        """The messages that stand for one that inserts this, as its author says, whether they count or not; that of the least
+    def copies_of(self, author: bytes, site: int, seq: int, suits: Callable[[Message], bool]) -> list[Copy]:
+        """The messages that stand for one of these that suits, as its author says, whether they count or not; that of the least
         number first. Another history of the number has another message of this seq."""
-        return [copy for copy, _ in self._made_for(author, site, seq, data)]
+        return [copy for copy, _ in self._made_for(author, site, seq, suits)]
 
-    def is_made_anew(self, author: bytes, site: int, seq: int, data: bytes) -> bool:
+    def is_made_anew(self, author: bytes, site: int, seq: int, suits: Callable[[Message], bool]) -> bool:
         """Whether one of these counts."""
-        return any(copy.seq <= self.front_up_to(copy.author, copy.site, last) for copy, last in self._made_for(author, site, seq, data))
+        return any(copy.seq <= self.front_up_to(*copy[:2], last) for copy, last in self._made_for(author, site, seq, suits))
 
-    def _made_for(self, author: bytes, site: int, seq: int, data: bytes) -> list[tuple[Copy, bytes]]:
-        return self.copies.of(author, site, seq, lambda last: (of := self.message_in(last, seq)) is not None and typed(of) == data)
+    def _made_for(self, author: bytes, site: int, seq: int, suits: Callable[[Message], bool]) -> list[tuple[Copy, bytes]]:
+        return self.copies.of(author, site, seq, lambda last: (found := self.message_in(last, seq)) is not None and suits(found))
 
     def message_in(self, last: bytes, seq: int) -> Message | None:
         """The message of a seq, of those of an entry or of those to which it is chained; None where it isn't here."""
-        while last in self._outside:
-            entry = self._outside.row(last).entry
-            if entry.first <= seq:
-                return entry.messages[seq - entry.first] if seq <= entry.last else None
-            last = entry.before
-        number = self._ledger.number(last)
+        branches = self._outside.branches()
+        if found := branches.message(last, seq):
+            return found
+        number = self._ledger.number(branches.before(last))
         line = self._chains[self._ledger.client(number)[0]].line if number is not None else None
         at = line.at(number) if line and number is not None else None
         return line.message(seq) if line and at is not None and 0 < seq <= line.lasts[at] else None
