@@ -20,8 +20,8 @@ messages through, in an order in which each is after its causes:
 - **Made anew.** An author who knows that his messages will never count, since what they build on was never sent,
   makes them anew under another number, and says so of the first ones: of those up to an entry of his. They aren't
   waited for then. It is nothing but a word: where they do count they go on counting.
-- **Copies.** An entry says which messages stand for which, so that nobody makes them anew twice, and what stands for
-  something that was left out isn't missed. It takes no text away, and gives none.
+- **Copies.** An entry says which messages of which history stand for which, so that nobody makes them anew twice, and what stands
+  for something that was left out isn't missed. It takes no text away, and gives none.
 - **Left out.** What a smaller hash keeps from counting, and what builds on that, is told, unless a copy of it counts, or its
   author, who says of nothing what stands for it, says that it was made anew.
 
