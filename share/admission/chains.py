@@ -196,7 +196,7 @@ class Chains:
         isn't said which."""
         if last == NO_HASH:
             return self.front_of(author, site)
-        number = self.ledger.number(self._begin_outside(last))
+        number = self.ledger.number(self.outside.branches().before(last))
         if number is None or self.ledger.client(number) != (site, author):
             return 0
         chain = self.by_site[site]
@@ -209,31 +209,22 @@ class Chains:
 
     def message_in(self, last: bytes, seq: int) -> Message | None:
         """The message of a seq, of those of an entry or of those to which it is chained; None where it isn't here."""
-        while last in self.outside:
-            entry = self.outside.row(last).entry
-            if entry.first <= seq:
-                return entry.messages[seq - entry.first] if seq <= entry.last else None
-            last = entry.before
-        number = self.ledger.number(last)
+        branches = self.outside.branches()
+        if found := branches.message(last, seq):
+            return found
+        number = self.ledger.number(branches.before(last))
         branch = self.by_site[self.ledger.client(number)[0]].branch if number is not None else None
         at = branch.at(number) if branch and number is not None else None
         return branch.message(seq) if branch and at is not None and 0 < seq <= branch.lasts[at] else None
 
     def is_chained(self, of: bytes, last: bytes) -> bool:
         """Whether an entry is the last of some, or one to which that is chained."""
-        while last in self.outside:
-            if last == of:
-                return True
-            last = self.outside.row(last).entry.before
-        number, end = self.ledger.number(of), self.ledger.number(last)
-        if of in self.outside or number is None or end is None or self.ledger.client(number) != self.ledger.client(end):
+        branches = self.outside.branches()
+        if of in self.outside:
+            return branches.is_chained(of, last)
+        number, end = self.ledger.number(of), self.ledger.number(branches.before(last))
+        if number is None or end is None or self.ledger.client(number) != self.ledger.client(end):
             return False
         branch = self.by_site[self.ledger.client(end)[0]].branch
         at, last_at = branch.at(number), branch.at(end)
         return at is not None and last_at is not None and at <= last_at
-
-    def _begin_outside(self, last: bytes) -> bytes:
-        """The entry to which what is outside is chained that ends with one; that one itself where it isn't outside."""
-        while last in self.outside:
-            last = self.outside.row(last).entry.before
-        return last

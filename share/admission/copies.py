@@ -103,6 +103,8 @@ class Copies:
         found: dict[tuple[int, int, bytes], dict[int, bytes]] = {}
         for one in self._by_others.get(who, ()):
             first, last = max(entry.first, one.seq), min(entry.last, one.end(counting) - 1)
+            if first > last or one.last != NO_HASH and not counting.is_chained(entry.hash, one.last):
+                continue
             for seq in range(first, min(last, first + MOST_COPIES_BY_OTHERS) + 1) if one.by.seq else ():
                 by = one.by.seq + seq - one.seq
                 found.setdefault((seq, one.by.site, one.by.author), {})[by] = typed(counting.message(one.by.site, by))

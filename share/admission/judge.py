@@ -5,14 +5,14 @@ messages through, in an order in which each is after its causes. Each rule has a
 
 - `chains`: which of two claims of a number holds, and which of two entries that follow the same one.
 - `causes`: what becomes of the message that is next in a chain; `passage`: letting messages through, and waiting.
-- `statements` and `copies`: what entries say of messages. It takes no text away, and gives none.
+- `statements` and `copies`: what entries say of messages of a history. It takes no text away, and gives none.
 - `left_out`: what is told of what doesn't count.
 - `room`: how much of that is in memory.
 
 More entries can end the count of a message only where a smaller hash came: of a claim, or of two entries of one
 place. Then all is let through anew. What was left out for a smaller hash stays so.
 """
-from collections.abc import Iterable, Iterator, Sequence
+from collections.abc import Callable, Iterable, Iterator, Sequence
 from typing import NamedTuple
 
 from share.admission.chains import Chains, Outcome, Rank, rank
@@ -23,7 +23,7 @@ from share.admission.statements import Statements
 from share.format.chunk import of_message
 from share.format.entry import CHUNKS, ONE_BY_ONE, Copy, Entry, Form, Kind
 from share.format.history import Messages
-from share.format.operation import Message, typed
+from share.format.operation import Message
 
 
 class Counted(NamedTuple):
@@ -219,17 +219,17 @@ class Judge:
 
     # What is told of copies.
 
-    def copies_of(self, author: bytes, site: int, seq: int, data: bytes) -> list[Copy]:
-        """The messages that stand for one that inserts this, as its author says, whether they count or not; that of the least
+    def copies_of(self, author: bytes, site: int, seq: int, suits: Callable[[Message], bool]) -> list[Copy]:
+        """The messages that stand for one of these that suits, as its author says, whether they count or not; that of the least
         number first. Another history of the number has another message of this seq."""
-        return [copy for copy, _ in self._made_for(author, site, seq, data)]
+        return [copy for copy, _ in self._made_for(author, site, seq, suits)]
 
-    def is_made_anew(self, author: bytes, site: int, seq: int, data: bytes) -> bool:
+    def is_made_anew(self, author: bytes, site: int, seq: int, suits: Callable[[Message], bool]) -> bool:
         """Whether one of these counts."""
-        return any(copy.seq <= self.front_up_to(copy.author, copy.site, last) for copy, last in self._made_for(author, site, seq, data))
+        return any(copy.seq <= self.front_up_to(*copy[:2], last) for copy, last in self._made_for(author, site, seq, suits))
 
-    def _made_for(self, author: bytes, site: int, seq: int, data: bytes) -> list[tuple[Copy, bytes]]:
-        return self.copies.of(author, site, seq, lambda last: (of := self.message_in(last, seq)) is not None and typed(of) == data)
+    def _made_for(self, author: bytes, site: int, seq: int, suits: Callable[[Message], bool]) -> list[tuple[Copy, bytes]]:
+        return self.copies.of(author, site, seq, lambda last: (found := self.message_in(last, seq)) is not None and suits(found))
 
     def is_copied(self, entry: Entry, seq: int) -> bool:
         """Whether something stands for a message of an entry that counts."""

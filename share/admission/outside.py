@@ -4,6 +4,7 @@ import heapq
 from collections.abc import Iterator
 from dataclasses import dataclass
 
+from share.admission.branches import Branches
 from share.admission.ledger import Row, Who
 from share.format.entry import Entry
 
@@ -39,6 +40,7 @@ class Unchained:
         self.loose_messages = self.loose_entries = 0
         # How far the insertions of each site go that were left out.
         self.ends: dict[int, int] = {}
+        self._branches: Branches | None = None
 
     def __contains__(self, of: bytes) -> bool:
         return of in self._kept
@@ -57,6 +59,12 @@ class Unchained:
         """Whether an entry lacks one before it."""
         return self._kept[of].is_loose
 
+    def branches(self) -> Branches:
+        """Which entries each is chained to."""
+        if self._branches is None:
+            self._branches = Branches({of: one.row.entry for of, one in self._kept.items()}, self._after)
+        return self._branches
+
     def of(self, who: Who) -> list[Row]:
         """The entries of a site and author."""
         return [self._kept[one].row for one in self._of.get(who, ())]
@@ -68,6 +76,7 @@ class Unchained:
         end = max((last for last, _ in typed), default=0)
         one = _One(row, end, sum(size for _, size in typed), is_loose, stays or row.made)
         self._kept[entry.hash] = one
+        self._branches = None
         self._after.setdefault(entry.before, []).append(entry.hash)
         who = entry.site, entry.author
         self._of.setdefault(who, set()).add(entry.hash)
@@ -86,6 +95,7 @@ class Unchained:
     def remove(self, of: bytes) -> Row:
         """Takes an entry out, which has its place in a chain now, or is dropped."""
         one = self._kept.pop(of)
+        self._branches = None
         entry = one.row.entry
         who = entry.site, entry.author
         after = self._after[entry.before]

@@ -17,6 +17,7 @@ from share.format.operation import Message, length_after
 from share.log.folder import inode_of
 from share.log.opening import open_log
 from share.program import retyping
+from share.program.alike import One
 from share.program.difference import Shown, differences, shown_by
 from share.program.intake import Coming, Pace
 from share.program.retyping import Lost
@@ -195,7 +196,7 @@ class Session:
 
     def recover(self) -> list[Lost]:
         """Types again what was left out, and says so of it; what that was."""
-        found, holdings, copies = self.lost(), self._holdings, list[tuple[Copy, Message]]()
+        found, holdings, copies = self.lost(), self._holdings, list[tuple[One, Message]]()
         self._was = shown_by(self.site)
 
         def work() -> Edited:

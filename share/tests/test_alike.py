@@ -6,12 +6,12 @@ from collections.abc import Sequence
 
 from share.admission.chains import rank
 from share.admission.judge import Judge
-from share.format.entry import Author, Copied, Copy, Entry, Plain
-from share.format.operation import Message
+from share.format.entry import Author, Copied, Entry, Form, Plain
+from share.format.operation import Message, typed
 from share.program import retyping
 from share.program.site import Site
 from share.sync.recovered import Recovered
-from share.tests.naive import inserting
+from share.tests.naive import Name, inserting
 from share.tests.support import Person, take
 from share.tests.test_left_out import Three, shown
 
@@ -45,6 +45,24 @@ class Typed(Three):
         self.assertIn("Typed again: 5 characters", self.run_as(self.carol, "recover", "--lost", "note"))
         self.assertEqual(shown(self.carol), (text, []))
 
+    def test_letters_that_two_histories_have_at_one_place_are_not_one(self) -> None:
+        self.begun()
+        with contextlib.closing(self.carol.disk()) as disk:
+            form = disk.form
+        author = form.new_author()
+        claim = form.claim(65_001, author)
+        forks = [form.entry(claim, [inserting(65_001, 1, stamp, None, 0, b"Q")], author) for stamp in (1, 2, 3)]
+        with contextlib.closing(self.carol.log()) as log:
+            log.append([one.raw for one in [claim, *forks[:2]]])
+        self.carol.open().session.close()
+        self.run_as(self.carol, "recover", "--lost", "note")
+        self.assertEqual(shown(self.carol), ("QQDear all of you, we meet at ten. Bob. ", []))
+        with contextlib.closing(self.carol.log()) as log:
+            log.append([forks[2].raw])
+        self.carol.open().session.close()
+        self.run_as(self.carol, "recover", "--lost", "note")
+        self.assertEqual(shown(self.carol), ("QQQDear all of you, we meet at ten. Bob. ", []))
+
     def numbers_that_typed(self, person: Person) -> list[int]:
         """Those of somebody's numbers under which something was typed."""
         with contextlib.closing(person.disk()) as disk:
@@ -53,20 +71,23 @@ class Typed(Three):
 
 
 class Twice:
-    """A word was left out and made anew twice, by two disks with one key; then one of these copies was left out, too."""
+    """A word was left out and made anew twice, by two disks that have its key; then one of these copies was left out, too."""
 
     SITES = (65_001, 65_002, 65_003)
 
-    def __init__(self, form: Plain):
-        self.form, self.author = form, form.new_author()
-        claims = [form.claim(site, self.author) for site in self.SITES]
-        self.word, self.copy, self.other = (form.entry(claim, [inserting(claim.site, 1, 1, None, 0, b"word ")], self.author)
-                                            for claim in claims)
+    def __init__(self, form: Form, after: Name | None = None):
+        self.form = form
+        # That of the least name has the greatest number.
+        self.author, *_ = authors = sorted((form.new_author() for _ in self.SITES), reverse=True)
+        claims = [form.claim(site, author) for site, author in zip(self.SITES, authors)]
+        self.word, self.copy, self.other = (form.entry(claim, [inserting(claim.site, 1, 1, after, 0, b"word ")], author)
+                                            for claim, author in zip(claims, authors))
         said = [self.said(self.word, copy) for copy in (self.copy, self.other)]
         self.entries = [*claims, self.word, self.copy, self.other, *said, *map(self.taken, claims[:2])]
+        self.authors = authors
 
     def said(self, of: Entry, by: Entry) -> Entry:
-        """The author's word that what he typed stands for other messages of his."""
+        """The word of who wrote something that another one's message stands for it."""
         copied = Copied(of.author, of.site, by.author, by.site, ((1, 1, 1),), by.hash)
         return self.form.copies(copied, self.author, of.site, of.hash)
 
@@ -113,12 +134,37 @@ class Words(unittest.TestCase):
 
     def test_not_to_another_text_under_the_number_of_that_copy(self) -> None:
         some = Twice(FORM)
-        another = FORM.entry(some.entries[2], [inserting(65_003, 1, 1, None, 0, b"else ")], some.author)
-        while another.hash > some.other.hash:
-            another = FORM.entry(some.entries[2], [inserting(65_003, 1, another.messages[0].stamp + 1, None, 0, b"else ")], some.author)
+        another = some.other
+        while another.hash >= some.other.hash:
+            message = inserting(65_003, 1, another.messages[0].stamp + 1, None, 0, b"else ")
+            another = FORM.entry(some.entries[2], [message], some.authors[2])
         entries = [*some.entries, another]
         messages, made = self.typed_again(entries)
         self.assertEqual(([one for one in messages if one.kind == 1][1:], self.is_hidden(entries, made)), ([], [False]))
+
+    def test_what_is_typed_at_the_end_is_typed_once_too(self) -> None:
+        some = Twice(FORM, (60_000, 0))
+        entries = [one for one in [*some.entries, some.taken(some.entries[2])] if one != some.copy]
+        messages, _ = self.typed_again(entries)
+        self.assertEqual(len(messages), 1)
+
+    def test_of_two_histories_of_a_number_all_is_typed(self) -> None:
+        author = FORM.new_author()
+        claim = FORM.claim(7, author)
+        forks = [FORM.entry(claim, [inserting(7, 1, stamp, None, 0, data)], author)
+                 for stamp, data in enumerate((b"one ", b"two ", b"two ", b"three "), 1)]
+        entries = [claim, *forks]
+        messages, made = self.typed_again(entries)
+        self.assertEqual(len(messages), 3)
+        self.is_hidden(entries, made)
+        # What was typed again stands for one of them each, also where that is left out, and what was copied isn't typed.
+        judge = Judge([*entries, *made])
+        with contextlib.closing(Site(5, judge.count().messages)) as site:
+            self.assertEqual(sorted(site.text().decode().split()), ["one", "three", "two", "two"])
+        some = Twice(FORM)
+        other = FORM.entry(some.entries[0], [inserting(65_001, 1, 2, None, 0, b"else ")], some.author)
+        messages, made = self.typed_again([*some.entries, other])
+        self.assertEqual(sorted(typed(one) for one in messages), [b"else ", b"word "])
 
     def test_two_copies_that_were_left_out_are_typed_as_one(self) -> None:
         some = Twice(FORM)
