@@ -34,7 +34,7 @@ HELD = "SELECT place, raw = ? FROM entry WHERE hash = ?"
 ADD = "INSERT INTO entry (hash, raw) VALUES (?, ?)"
 STANDS = "SELECT EXISTS (SELECT 1 FROM entry WHERE place = ? AND coalesce(CAST(mark AS INTEGER), 0) = ?)"
 AFTER = ("SELECT place, coalesce(CAST(mark AS INTEGER), 0), CASE WHEN typeof(raw) = 'blob' AND length(raw) <= ? "
-          "THEN raw END FROM entry WHERE place > ? ORDER BY place LIMIT ?")
+         "THEN raw END FROM entry WHERE place > ? ORDER BY place LIMIT ?")
 ON = "SELECT said FROM presence WHERE typeof(said) = 'blob' AND length(said) <= ? ORDER BY seen DESC LIMIT ?"
 FILE_PLACE = re.compile(r"([0-9]{1,19})\.(-?[0-9]{1,19})")
 

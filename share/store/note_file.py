@@ -157,8 +157,8 @@ def about_of(file: SqliteFile) -> About:
 
 
 def make_note(path: pathlib.Path, about: About, rows: Iterable[Row] = (), clients: Iterable[Client] = (),
-         anew: Iterable[Anew] = (), withdrawn: Iterable[bytes] = (), offered: bool = False,
-         damaged: Inode | None = None) -> pathlib.Path | None:
+              anew: Iterable[Anew] = (), withdrawn: Iterable[bytes] = (), offered: bool = False,
+              damaged: Inode | None = None) -> pathlib.Path | None:
     """Writes a note's file, with these rows, which a log may have been offered. It is made under a name of its own first.
     Where one is there nothing happens, unless that is the damaged one: that is set aside, under the name that is given."""
     new = path.with_name(f".{path.name}.{secrets.token_hex(4)}")

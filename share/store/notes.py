@@ -67,7 +67,7 @@ class Renewed(NamedTuple):
 
 
 def open_note(name: str, url: str | None, link: Link | None, password: str | None = None,
-           tell: Callable[[str], None] = lambda words: None) -> Disk:
+              tell: Callable[[str], None] = lambda words: None) -> Disk:
     """The file of a note, which is made where it isn't there: as a link says, from a note of before, or new. Tells
     what was left out."""
     path = path_of(name)

@@ -33,7 +33,7 @@ JOURNAL_BEGIN = b"vialshoal journal 1\n"
 # A record of a journal is the message's length, its checksum and its bytes; a server has the checksum before them.
 JOURNAL_RECORD, CHECKSUM_BYTES = struct.Struct(">II"), 4
 OLD_ROWS = ("SELECT place, CASE WHEN typeof(message) = 'blob' AND length(message) <= ? THEN message END, "
-        "CAST(checksum AS INTEGER) FROM entry ORDER BY place ")
+            "CAST(checksum AS INTEGER) FROM entry ORDER BY place ")
 NOTE = "SELECT identity FROM note WHERE typeof(identity) = 'text' AND length(identity) = 16 LIMIT 1"
 # How often a log that is written to meanwhile is copied again, and after how many seconds.
 COPY_TRIES, COPY_AGAIN_SECONDS = 20, 0.1

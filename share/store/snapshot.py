@@ -72,7 +72,7 @@ def keep(disk: Disk, judge: Judge, site: Site) -> None:
         if found and all(by for _, _, by in found):
             (folder / KEPT).chmod(PRIVATE)
             disk.own.note_packed(site.number, digest((folder / KEPT).read_bytes()),
-                             b"".join(PACKED_FRONT.pack(of, seq, by or b"") for of, seq, by in found))
+                                 b"".join(PACKED_FRONT.pack(of, seq, by or b"") for of, seq, by in found))
 
 
 def parted(messages: Messages, fronts: Mapping[int, int]) -> tuple[Messages, Messages]:

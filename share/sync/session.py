@@ -412,7 +412,7 @@ class Session:
               says: Says = lambda last: (), hidings: Sequence[Copy] = ()) -> None:
         """Puts messages that the site made into the file, after what is said of them up to their last entry, and has them
         sent."""
-        judge, author = self._holdings.judge, self._client.author
+        judge = self._holdings.judge
         made, before, length = [], self._last, judge.length(self.number)
         for part in in_entries(messages, length):
             before = self._form.entry(before, part, self._client.author, judge.built_on(part), length)
@@ -507,7 +507,7 @@ class Session:
                 raise
         except Damaged:
             aside = make_note(path, self._about, self._rows_and(path), holdings.clients.values(),
-                         [Anew(*one, 0, 0) for one in holdings.anew], holdings.withdrawn(), offered=True, damaged=inode)
+                              [Anew(*one, 0, 0) for one in holdings.anew], holdings.withdrawn(), offered=True, damaged=inode)
             disk = Disk(path)
             self._notices.append(f"The note's file was gone or damaged ({why}) and was written anew."
                                  + (f" What was there is {aside}." if aside else ""))
