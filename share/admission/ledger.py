@@ -14,12 +14,14 @@ from share.format.entry import CHUNKS, NO_HASH, SAY_WHAT_THEY_BUILD_ON, Entry, F
 from share.format.operation import Message
 
 HASH_BYTES = 32
-# How many places the index begins with; at least every third one stays free. A place has the upper half of a hash of Python's, and
+# A site and an author.
+Who = tuple[int, bytes]
+# How many seats the index begins with; at least every third one stays free. A seat has the upper half of a hash of Python's, and
 # an entry's number.
-PLACES, NUMBER_BITS = 1 << 8, 32
-MARK, NUMBER = 0xFFFF_FFFF << NUMBER_BITS, (1 << NUMBER_BITS) - 1
-# Letters of so many entries or more that type on are one run, so that each chunk has room for it.
-MOST_TYPED = 1_000
+LEAST_SEATS, NUMBER_BITS = 1 << 8, 32
+MARK_MASK, NUMBER_MASK = 0xFFFF_FFFF << NUMBER_BITS, (1 << NUMBER_BITS) - 1
+# No more letters than these, which are typed one after the other, are one run, so that each chunk has room for it.
+MOST_IN_RUN = 1_000
 
 
 class Row(NamedTuple):
@@ -39,10 +41,10 @@ class Ledger:
         self._form = form
         self._hashes = bytearray()
         # The numbers by their hashes, one more than each, so that 0 is a free place.
-        self._index, self._mask = array("Q", bytes(8 * PLACES)), PLACES - 1
+        self._index, self._mask = array("Q", bytes(8 * LEAST_SEATS)), LEAST_SEATS - 1
         # The sites and authors, and which of them each entry is of.
-        self._clients: list[tuple[int, bytes]] = []
-        self._client_of: dict[tuple[int, bytes], int] = {}
+        self._clients: list[Who] = []
+        self._client_of: dict[Who, int] = {}
         self._whose = array("I")
         self._kinds, self._made, self._types_on = bytearray(), bytearray(), bytearray()
         self._befores, self._firsts, self._sizes = array("I"), array("I"), array("H")
@@ -85,14 +87,14 @@ class Ledger:
 
     def number(self, of: bytes) -> int | None:
         """The number of the entry that has a hash; None where there is none."""
-        found = self._index[self._seat(of, hash(of) & MARK)]
-        return (found & NUMBER) - 1 if found else None
+        found = self._index[self._seat(of, hash(of) & MARK_MASK)]
+        return (found & NUMBER_MASK) - 1 if found else None
 
     def hash(self, number: int) -> bytes:
         """An entry's hash."""
         return bytes(self._hashes[HASH_BYTES * number:HASH_BYTES * (number + 1)])
 
-    def client(self, number: int) -> tuple[int, bytes]:
+    def client(self, number: int) -> Who:
         """An entry's site and author."""
         return self._clients[self._whose[number]]
 
@@ -178,14 +180,14 @@ class Ledger:
         """The place of a hash in the index, or the free one that it would have. Nobody else can tell where hashes meet:
         Python's own hash of bytes has a secret of the process."""
         seat = mark >> NUMBER_BITS & self._mask
-        while (found := self._index[seat]) and (found & MARK != mark or self.hash((found & NUMBER) - 1) != of):
+        while (found := self._index[seat]) and (found & MARK_MASK != mark or self.hash((found & NUMBER_MASK) - 1) != of):
             seat = seat + 1 & self._mask
         return seat
 
     def _enter(self, of: bytes, number: int) -> None:
         if 3 * (number + 1) > 2 * len(self._index):
             self._grow()
-        mark = hash(of) & MARK
+        mark = hash(of) & MARK_MASK
         self._index[self._seat(of, mark)] = mark | number + 1
 
     def _grow(self) -> None:
@@ -199,9 +201,9 @@ class Ledger:
             index[seat] = found
 
 
-class Line:
+class Branch:
     """Entries of a site that follow one another, the first of which is its claim. More are added, and none is taken away:
-    where others take their place that is another line."""
+    where others take their place that is another branch."""
 
     __slots__ = ("ledger", "site", "numbers", "lasts", "types_on")
 
@@ -225,11 +227,11 @@ class Line:
         """Takes away what nobody has looked at: the entries from a place on."""
         del self.numbers[at:], self.lasts[at:], self.types_on[at:]
 
-    def until(self, at: int) -> "Line":
+    def until(self, at: int) -> "Branch":
         """The first entries as a line of its own."""
-        line = Line(self.ledger, self.site)
-        line.numbers, line.lasts, line.types_on = self.numbers[:at], self.lasts[:at], self.types_on[:at]
-        return line
+        branch = Branch(self.ledger, self.site)
+        branch.numbers, branch.lasts, branch.types_on = self.numbers[:at], self.lasts[:at], self.types_on[:at]
+        return branch
 
     def at(self, number: int) -> int | None:
         """Where the entry of a number is; None where it isn't here."""
@@ -269,7 +271,7 @@ class Line:
                 chunk = self.ledger.chunk(number)
                 yield chunk, () if chunk else self.ledger.runs(number), size
             else:
-                yield b"", [*_within(self.ledger.runs(number), begin - first, begin - first + size)], size
+                yield b"", [*_runs_between(self.ledger.runs(number), begin - first, begin - first + size)], size
             begin += size
 
     def typed_until(self, at: int) -> int:
@@ -282,7 +284,7 @@ class Line:
         other, of which the first is whole; and their number. None where they are those of fewer than two."""
         if not self.types_on[at] or begin >= self.first(at):
             return None
-        last = min(self.typed_until(at), self.at_seq(min(end, begin + MOST_TYPED) + 1))
+        last = min(self.typed_until(at), self.at_seq(min(end, begin + MOST_IN_RUN) + 1))
         if last < at + 2:
             return None
         # What types on is spelled by its letters alone.
@@ -299,7 +301,7 @@ class Line:
             begin, at = ends, at + 1
 
 
-def _within(runs: Sequence[Run], begin: int, end: int) -> Iterator[Run]:
+def _runs_between(runs: Sequence[Run], begin: int, end: int) -> Iterator[Run]:
     """The messages of runs from one place to another."""
     at = 0
     for run in runs:

@@ -84,7 +84,7 @@ class Alike:
     def _parts(self, message: Operation) -> list[Operation]:
         """What was left out of what stands for a message in several parts, in their order, as the author says."""
         of, groups = self._left[message].copy, dict[Who, list[Operation]]()
-        for copy in self._judge.copies_of(*of, message.data):
+        for copy in self._judge.copies_of(*of, lambda old: old == message):
             if copy in self._by_copy:
                 groups.setdefault((copy.site, copy.author), []).append(self._by_copy[copy])
         return next((parts for parts in groups.values() if len(parts) > 1 and b"".join(each.data for each in parts) == message.data), [])

@@ -6,7 +6,7 @@ import random
 import time
 from collections.abc import Sequence
 
-from share.store.note_file import Client
+from share.store.own import Client
 from share.text.errors import counted
 
 # The least time that others have who wrote under a key that is here, too, to rebase what was lost, and who made a copy to hide

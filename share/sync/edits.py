@@ -6,7 +6,8 @@ from share.format.entry import Copy, Entry, Form
 from share.format.operation import Message
 from share.program.site import Edited, Site
 from share.program.trace import Traced, trace
-from share.store.note_file import Anew, Client, Unkept
+from share.store.guarded import Unkept
+from share.store.own import Anew, Client
 from share.sync.numbers import FULL, Numbers
 from share.sync.open_file import OpenFile
 from share.sync.replica import Replica

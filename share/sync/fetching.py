@@ -77,7 +77,7 @@ class Fetcher:
     def _end_reading(self, disk: Disk, carried: Carried) -> None:
         """All that the log had as its reading began was read. The giver gives it all that it lacks."""
         self._goal = None
-        if missing := disk.many_at(carried.end()):
+        if missing := disk.entries.many_at(carried.end()):
             self._tell_of_loss(missing)
         if self.readings:
             now = time.monotonic()
@@ -114,7 +114,7 @@ class Fetcher:
     def _take(self, disk: Disk, carried: Carried, page: Sequence[InLog]) -> None:
         """Puts what came into the file, where it is right, and notes that the log has it."""
         raws = {digest(one.raw): one.raw for one in page if one.raw is not None}
-        held = disk.in_log(raws)
+        held = disk.entries.in_log(raws)
         opened, damaged = self._opened({of: raw for of, raw in raws.items() if of not in held and of not in self._left_out})
         for one in page:
             if one.raw is None:
@@ -122,7 +122,7 @@ class Fetcher:
         trace(Traced.FETCHED, entries=len(page), new=len(opened))
         self._known.came(disk, carried, opened, held)
         # What stands there may be asked for by what is before it, where that came.
-        self._meeting.damaged(disk.places_of(damaged))
+        self._meeting.damaged(disk.entries.places_of(damaged))
         if opened:
             self._threads.wake()
 

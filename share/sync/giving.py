@@ -56,13 +56,13 @@ class Giver:
     def _claim(self, disk: Disk, log: Log, carried: Carried) -> None:
         """Gives the log the claims of this person before it was read, where the log can say which numbers are claimed: who
         is new can type then as soon as all was read that the log had. Other claims come after it was read."""
-        new = {self._form.claim(one.site, one.author).hash: one.site for one in disk.clients()
+        new = {self._form.claim(one.site, one.author).hash: one.site for one in disk.own.clients()
                if not (one.stood or one.retired)}
-        places = disk.places_of(new)
+        places = disk.entries.places_of(new)
         if carried.whole or not places or (taken := log.claimed()) is None:
             return
         if free := [place for of, place in places.items() if new[of] not in taken]:
-            log.append(disk.offer(free))
+            log.append(disk.entries.offer(free))
             trace(Traced.CLAIMS_GIVEN, entries=len(free))
             carried.gave(free)
 
@@ -79,10 +79,10 @@ class Giver:
         """Gives the log some of what it lacks; whether there may be more."""
         if (place := carried.next_lacking()) is None:
             return False
-        found = disk.places(place - 1, GIVEN_AT_ONCE)
+        found = disk.entries.places(place - 1, GIVEN_AT_ONCE)
         had = {one.place for one in found if carried.has(one.place)}
         lacks = {one.hash: one.place for one in found if one.place not in had and self._known.may_give(one)}
-        raws = disk.offer([*lacks.values()])
+        raws = disk.entries.offer([*lacks.values()])
         given = {lacks[of] for of in map(digest, raws) if of in lacks}
         if raws:
             log.append(raws)
@@ -101,5 +101,5 @@ class Giver:
         if reads:
             self._known.reads_from_front = True
         if had := [place for place in places if carried.has(place)]:
-            log.append(disk.offer(had))
+            log.append(disk.entries.offer(had))
             trace(Traced.GIVEN_AGAIN, entries=len(had))

@@ -13,7 +13,7 @@ from share.format.entry import Author, Copied, Copy, Entry, Form
 from share.format.operation import DELETE, RESTORE, Message, inserted, mentioned
 from share.program.site import Edited, Told
 from share.program.trace import Traced, trace
-from share.store.note_file import Unkept
+from share.store.guarded import Unkept
 from share.sync.backoff import seconds_for_others
 from share.sync.edits import OwnEdits
 from share.sync.numbers import Numbers

@@ -3,7 +3,9 @@ import threading
 from collections.abc import Callable, Iterable, Mapping, Sequence
 
 from share.format.entry import NOT_UNDER_A_NUMBER, SAY_WHAT_BECAME, Entry, Kind
-from share.store.note_file import Damaged, Disk, Place, Unkept
+from share.store.entries import Located
+from share.store.guarded import Damaged, Unkept
+from share.store.note_file import Disk
 from share.sync.carried import Carried
 
 # The most entries of the file that are looked at in one go.
@@ -49,7 +51,7 @@ class Known:
         with self._lock:
             if opened:
                 disk.keep(opened, made=False)
-            new = disk.places_of(entry.hash for entry in opened)
+            new = disk.entries.places_of(entry.hash for entry in opened)
             carried.read([*held.values(), *new.values()])
 
     def made(self, disk: Disk, places: Iterable[int]) -> None:
@@ -61,22 +63,22 @@ class Known:
         """Whether something is known of an entry."""
         carried = self.now
         try:
-            place = disk.places_of([of]).get(of)
+            place = disk.entries.places_of([of]).get(of)
         except (Unkept, Damaged):
             # The file is mended first.
             return False
         return place is not None and disk.inode == carried.file and what(carried, place)
 
-    def may_give(self, one: Place) -> bool:
+    def may_give(self, one: Located) -> bool:
         """Whether an entry may be given. Where somebody else writes under a number of this person, nothing more is
         sent under it, but what may have been sent, and that it was rebased."""
         return not one.made or one.offered or one.kind in SAY_WHAT_BECAME or one.author not in self._shared
 
     def _look_on(self, disk: Disk, carried: Carried) -> None:
-        while self._has_log and (found := disk.places(carried.looked, LOOKED_AT_ONCE)):
+        while self._has_log and (found := disk.entries.places(carried.looked, LOOKED_AT_ONCE)):
             carried.found(found[-1].place, [one.place for one in found if one.made and one.kind in MESSAGES])
-            own = {one.author.name for one in disk.clients()}
+            own = {one.author.name for one in disk.own.clients()}
             self._shared |= {one.author for one in found
                              if not one.made and one.kind not in NOT_UNDER_A_NUMBER and one.author in own}
-        if gone := disk.taken_back(carried.withdrawn):
+        if gone := disk.entries.taken_back(carried.withdrawn):
             carried.took_back(gone[-1][0], [place for _, place in gone])

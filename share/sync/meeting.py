@@ -71,11 +71,11 @@ class Meeting:
 
     def answers(self, disk: Disk) -> tuple[list[int], bool]:
         """The places of what others lack, and whether the log is to be read for one that can't say what it lacks."""
-        places = {*disk.places_of([one.hash for one in self._wanted if one.way is Way.IT]).values()}
+        places = {*disk.entries.places_of([one.hash for one in self._wanted if one.way is Way.IT]).values()}
         after, reads = [one.hash for one in self._wanted if one.way is Way.AFTER], False
         if (after or self._is_asked) and time.monotonic() >= self._answers_again:
             self._answers_again = time.monotonic() + WHOLE_ANSWER_SECONDS
-            places |= {*disk.places_after(after, WANTED_AT_ONCE)}
+            places |= {*disk.entries.places_after(after, WANTED_AT_ONCE)}
             reads, self._is_asked, after = self._is_asked, False, []
         self._wanted = dict.fromkeys(Lack(Way.AFTER, of) for of in after)
         return sorted(places), reads

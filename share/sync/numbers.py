@@ -5,11 +5,13 @@ import time
 from collections.abc import Callable, Sequence
 from contextlib import suppress
 
-from share.admission.copies import Who
+from share.admission.ledger import Who
 from share.format.entry import GREATEST_SITE, Form
 from share.format.operation import MOST_OF_A_SITE
 from share.program.trace import Traced, trace
-from share.store.note_file import Client, Disk, Unkept
+from share.store.guarded import Unkept
+from share.store.note_file import Disk
+from share.store.own import Client
 from share.sync.open_file import OpenFile
 from share.sync.replicator import Replicator
 from share.sync.state import Holdings, ToRebase, who
@@ -104,7 +106,7 @@ class Numbers:
             stood = one._replace(stood=True)
             with suppress(Unkept):
                 # Where there is no room now the next opening finds it in the log again.
-                self._file.mended(lambda: self._file.disk.stands(stood))
+                self._file.mended(lambda: self._file.disk.own.stands(stood))
             holdings.clients[who(one)] = stood
         # Another editor of this person may have noted in the file that this one's claim is in the log.
         if (own := holdings.clients.get(who(self.own))) and own.stood:
@@ -156,7 +158,7 @@ class Numbers:
         made = holdings.made_by(clients)
         in_log = [of for of in made if of in followed or has(of)]
         unsent = set(made).difference(in_log)
-        gone = self._file.mended(lambda: self._file.disk.withdraw(unsent, in_log))
+        gone = self._file.mended(lambda: self._file.disk.entries.withdraw(unsent, in_log))
         holdings.withdraw(gone)
         return bool(gone)
 

@@ -10,11 +10,13 @@ from share.admission.judge import Counted
 from share.admission.ledger import Row
 from share.format.entry import Kind
 from share.format.history import Messages
+from share.log.folder import inode_of
 from share.program.intake import Pace
 from share.program.trace import Traced, trace
-from share.store.note_file import Anew, Changed, Damaged, Disk, Unkept, make
+from share.store.guarded import Changed, Damaged, Unkept
+from share.store.note_file import Disk, make_note
+from share.store.own import Anew
 from share.store.read_only import found_in
-from share.store.unchanged import inode_of
 from share.sync.state import Holdings, who
 from share.sync.status import Notices
 from share.text.errors import NEWER, Trouble, entries
@@ -76,10 +78,10 @@ class OpenFile:
         self.unread = None
         if any(row.entry.kind is Kind.NEWER for row in new):
             self._notices.tell_once(NEWER)
-        if self.disk.damaged:
-            self._notices.tell(f"The disk has damaged {entries(self.disk.damaged)} of the note's file. They are "
+        if self.disk.entries.damaged:
+            self._notices.tell(f"The disk has damaged {entries(self.disk.entries.damaged)} of the note's file. They are "
                                "taken from whoever has them.")
-            self.disk.damaged, self.lacks = 0, True
+            self.disk.entries.damaged, self.lacks = 0, True
         return new
 
     def look(self) -> None:
@@ -102,7 +104,7 @@ class OpenFile:
         new = self._holdings.read(self.disk, self._most)
         if time.monotonic() - self._looked > TAKEN_OUT_SECONDS:
             self._looked = time.monotonic()
-            if self.disk.size() < len(self._holdings.rows) + self._holdings.waiting_for_room():
+            if self.disk.entries.size() < len(self._holdings.rows) + self._holdings.waiting_for_room():
                 raise Damaged(f"{self.disk.path} lacks entries that it had")
         return new
 
@@ -136,7 +138,7 @@ class OpenFile:
                 raise
             return disk
         except Damaged:
-            aside = make(path, self.disk.about, self._rows_and(path), holdings.clients.values(),
+            aside = make_note(path, self.disk.about, self._rows_and(path), holdings.clients.values(),
                          [Anew(*one, 0, 0) for one in holdings.anew], holdings.withdrawn(), offered=True, damaged=inode)
             self._notices.tell(f"The note's file was gone or damaged ({why}) and was written anew."
                                + (f" What was there is {aside}." if aside else ""))

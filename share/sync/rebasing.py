@@ -7,7 +7,8 @@ from contextlib import suppress
 from share.format.entry import Form
 from share.format.history import Messages
 from share.program.trace import Traced, trace
-from share.store.note_file import Client, Overtaken, Unkept
+from share.store.guarded import Unkept
+from share.store.own import Client, Overtaken
 from share.sync.backoff import Turns, told_of_edits, told_of_numbers
 from share.sync.edits import OwnEdits
 from share.sync.numbers import Numbers

@@ -13,7 +13,7 @@ from share.program.intake import Coming
 from share.program.site import SLICE, Progress, Site, Told
 from share.program.trace import Traced, trace
 from share.store import snapshot
-from share.store.note_file import Damaged, Unkept
+from share.store.guarded import Damaged, Unkept
 from share.sync.numbers import READING, Numbers
 from share.sync.open_file import OpenFile
 from share.sync.state import Holdings
@@ -67,7 +67,7 @@ class Replica:
         if self._came > SLICE:
             self._bar(self._came - len(self._coming), self._came)
         if not self._coming:
-            self.pack(max(snapshot.MANY, self.packed // snapshot.SHARE))
+            self.pack(max(snapshot.MANY_NEW, self.packed // snapshot.SHARE))
         return told
 
     def made(self, messages: Sequence[Message], found: Counted) -> None:
@@ -151,4 +151,4 @@ class Replica:
 
     def _is_own(self, part: Part) -> bool:
         """Whether messages are of this editor's number."""
-        return isinstance(part.holder, ledger.Line) and part.holder.site == self._numbers.own.site
+        return isinstance(part.holder, ledger.Branch) and part.holder.site == self._numbers.own.site

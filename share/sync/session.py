@@ -4,20 +4,22 @@ import time
 from collections.abc import Callable, Set
 from contextlib import suppress
 
-from share.admission.copies import Who
+from share.admission.ledger import Who
 from share.admission.judge import Counted
 from share.admission.ledger import Row
 from share.format.entry import Entry, Kind
 from share.format.history import Messages
 from share.format.link import is_network
 from share.format.operation import Message
-from share.log.base import open_log
+from share.log.opening import open_log
 from share.program import retyping
 from share.program.alike import One
 from share.program.retyping import Lost
 from share.program.site import Edited, Site, Told
 from share.program.trace import Traced, trace
-from share.store.note_file import Client, Disk, Unkept
+from share.store.guarded import Unkept
+from share.store.note_file import Disk
+from share.store.own import Client
 from share.store.read_only import uncollected
 from share.store.renewal import renewed_by
 from share.sync.edits import OwnEdits

@@ -9,10 +9,10 @@ import math
 from collections.abc import Callable, Container, Iterator, Mapping, Sequence
 from typing import NamedTuple
 
-from share.admission.copies import Who
+from share.admission.ledger import Who
 from share.admission.ledger import Row
 from share.format.entry import NO_HASH, Copied, Copy, Entry, Form, Kind
-from share.store.note_file import Client
+from share.store.own import Client
 
 # Which entry has the message of a site and a seq that counts.
 EntryOf = Callable[[int, int], bytes | None]

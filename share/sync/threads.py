@@ -4,9 +4,10 @@ from collections.abc import Callable
 from enum import Enum, auto
 from typing import NamedTuple
 
-from share.log.base import Log, Lost, Unreachable
+from share.log.base import Log, LogLost, Unreachable
 from share.program.trace import Traced, trace
-from share.store.note_file import Damaged, Disk, Unkept
+from share.store.guarded import Damaged, Unkept
+from share.store.note_file import Disk
 from share.text.errors import Trouble
 
 # The pause before a part whose log or file couldn't be reached begins again, and before one that ended as it should.
@@ -78,7 +79,7 @@ class Threads:
             why = ""
             try:
                 part()
-            except Lost as lost:
+            except LogLost as lost:
                 self.tell(str(lost))
                 self._lost()
             except (Unreachable, Unkept, Damaged, Trouble) as known:

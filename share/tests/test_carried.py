@@ -89,7 +89,7 @@ class Lost(Case):
     def assert_log_is_full(self) -> None:
         """That the log has all that is on Anna's disk, soon."""
         with contextlib.closing(self.anna.disk()) as disk:
-            held = {row.entry.raw for row in disk.rows()}
+            held = {row.entry.raw for row in disk.entries.rows()}
         with contextlib.closing(self.anna.log()) as log:
             wait_for(lambda: held <= {*raws_of(log)}, "the log to be filled again", SOON)
 
@@ -168,12 +168,12 @@ class Lost(Case):
                 with contextlib.closing(self.anna.log()) as log:
                     for one in others:
                         append(log, [one.raw])
-                        wait_for(lambda of=one.hash: of in {place.hash for place in disk.places()}, "it to come")
-                    self.assertEqual(disk.withdraw([last.hash]), [last.hash])
+                        wait_for(lambda of=one.hash: of in {place.hash for place in disk.entries.places()}, "it to come")
+                    self.assertEqual(disk.entries.withdraw([last.hash]), [last.hash])
                     # A copy of this folder has sent it.
                     append(log, [last.raw])
-                wait_for(lambda: not disk.withdrawn(), "it to be kept again", SOON)
-                self.assertIn(last.hash, {place.hash for place in disk.places()})
+                wait_for(lambda: not disk.entries.withdrawn(), "it to be kept again", SOON)
+                self.assertIn(last.hash, {place.hash for place in disk.entries.places()})
 
     def test_what_a_copy_has_sent_is_not_withdrawn(self) -> None:
         note = self.opened(self.anna, url=str(self.path))
@@ -181,11 +181,11 @@ class Lost(Case):
         note.session.close()
         with contextlib.closing(self.anna.disk()) as disk:
             change(self.anna.path(), "UPDATE entry SET offered = 0")
-            hashes = [row.entry.hash for row in disk.rows() if row.made]
-            held = disk.in_log(hashes[:1])
+            hashes = [row.entry.hash for row in disk.entries.rows() if row.made]
+            held = disk.entries.in_log(hashes[:1])
             self.assertEqual([*held], hashes[:1])
-            self.assertEqual(disk.withdraw(hashes), hashes[1:])
-            self.assertEqual(disk.places_of(hashes), held)
+            self.assertEqual(disk.entries.withdraw(hashes), hashes[1:])
+            self.assertEqual(disk.entries.places_of(hashes), held)
 
 
 class Gaps(Case):

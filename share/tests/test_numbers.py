@@ -8,7 +8,7 @@ import time
 from collections.abc import Sequence
 from unittest import mock
 
-from share.admission.judge import rank
+from share.admission.chains import rank
 from share.admission.ledger import Row
 from share.format.entry import Entry, Form, Kind
 from share.format.operation import DELETE, Operation
@@ -16,7 +16,8 @@ from share.log.base import Log
 from share.log.sqlite import SqliteLog
 from share.program.process import Program
 from share.program.site import Edited, Site, Told
-from share.store.note_file import Client, Disk
+from share.store.note_file import Disk
+from share.store.own import Client
 from share.sync.numbers import Numbers as OwnNumbers
 from share.sync.open_file import OpenFile
 from share.sync.rebasing import Rebaser
@@ -31,7 +32,7 @@ from share.tests.support import Case, Person, type_at_the_end, wait_for, written
 def stood(person: Person) -> list[int]:
     """The numbers of a person whose claims were noted to stand in the log."""
     with contextlib.closing(person.disk()) as disk:
-        return [one.site for one in disk.clients() if one.stood]
+        return [one.site for one in disk.own.clients() if one.stood]
 
 
 class Numbers(Case):
@@ -142,8 +143,8 @@ class Numbers(Case):
         """A word that makes an entry of a smaller hash than what was typed, where it is typed in its place."""
         (message,) = entry.messages
         with contextlib.closing(self.anna.disk()) as disk:
-            (before,) = [row.entry for row in disk.rows() if row.entry.hash == entry.before]
-            (author,) = [one.author for one in disk.clients() if one.site == entry.site]
+            (before,) = [row.entry for row in disk.entries.rows() if row.entry.hash == entry.before]
+            (author,) = [one.author for one in disk.own.clients() if one.site == entry.site]
             for number in range(100_000):
                 word = f"another-word-{number} "
                 other = message._replace(data=word.encode())
@@ -308,7 +309,7 @@ class Numbers(Case):
     def test_entries_under_my_number_while_i_am_off(self) -> None:
         self.begun()
         with contextlib.closing(self.anna.disk()) as disk:
-            (client,) = [one for one in disk.clients() if not one.retired]
+            (client,) = [one for one in disk.own.clients() if not one.retired]
             form, log = disk.form, self.log()
         claim = form.claim(client.site, client.author)
         forged = Program(client.site)
@@ -335,7 +336,7 @@ class Numbers(Case):
         while not (greater and smaller):
             one = form.claim(mine.site, form.new_author())
             with contextlib.closing(self.anna.disk()) as disk:
-                own = form.claim(mine.site, disk.clients()[0].author)
+                own = form.claim(mine.site, disk.own.clients()[0].author)
             if rank(one) < rank(own):
                 smaller = one
             else:
@@ -407,7 +408,7 @@ class Numbers(Case):
     def site_of(self) -> int:
         """The first one's number."""
         with contextlib.closing(self.anna.disk()) as disk:
-            return disk.clients()[0].site
+            return disk.own.clients()[0].site
 
 
 class OnAServer(Case):

@@ -7,9 +7,11 @@ import subprocess
 import time
 from unittest import mock
 
-from share.admission.judge import rank
+from share.admission.chains import rank
 from share.program.site import MOST_BYTES, Edited, Site, Told
-from share.store.note_file import Anew, Disk, Overtaken, Unkept, make
+from share.store.guarded import Unkept
+from share.store.note_file import Disk, make_note
+from share.store.own import Anew, Overtaken
 from share.sync.open_file import OpenFile
 from share.sync.session import Session
 from share.tests import test_numbers
@@ -109,7 +111,7 @@ class UnderSeveral(Case):
             about = disk.about
         wal = person.path().with_name("note.note-wal")
         before = wal.stat().st_ino
-        make(person.path(), about)
+        make_note(person.path(), about)
         self.assertEqual(wal.stat().st_ino, before)
 
 
@@ -169,7 +171,7 @@ class GivenUp(Case):
     def clients(self, note: Note) -> list:
         """The numbers of who has a note open."""
         with contextlib.closing(Disk(note.session._file.disk.path)) as disk:
-            return disk.clients()
+            return disk.own.clients()
 
     def test_what_another_editor_made_anew_isnt_kept_twice(self) -> None:
         for person in self.forked() and (self.anna, self.person("copied")):
@@ -206,7 +208,7 @@ class GivenUp(Case):
     def test_what_the_log_brings_back_isnt_made_anew(self) -> None:
         self.begun()
         with contextlib.closing(self.anna.disk()) as disk:
-            place = disk.rows()[2].place
+            place = disk.entries.rows()[2].place
         change(self.anna.path(), "UPDATE entry SET raw = x'00' WHERE place = ?", place)
         read, arrived, sessions = OpenFile.read, Session._arrived, list[Session]()
 

@@ -7,7 +7,8 @@ import unittest
 from unittest import mock
 
 from share.program.trace import VARIABLE, Trace, Traced, trace
-from share.store.note_file import Disk, Unkept
+from share.store.guarded import Unkept
+from share.store.note_file import Disk
 from share.tests import test_copies
 from share.tests.editors import Engines
 from share.tests.support import Case, change, type_at_the_end, wait_for, written

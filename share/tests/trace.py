@@ -16,7 +16,8 @@ from typing import NamedTuple
 from share.admission.judge import Judge
 from share.format.entry import Bad, Entry, Kind
 from share.format.operation import CHANGE_LOOKS, DELETE, INSERT, Operation
-from share.store.note_file import about_of, as_text
+from share.log.sqlite_file import as_text
+from share.store.note_file import about_of
 
 ENTRIES = "SELECT hash, raw, made, offered, hash IN (SELECT hash FROM withdrawn) FROM entry ORDER BY place"
 
