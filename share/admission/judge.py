@@ -709,9 +709,9 @@ class Judge:
     def _lost(self) -> Iterator[LeftOut]:
         """What lost its place to a smaller hash, and what is chained to that."""
         known: dict[bytes, bool] = {}
-        for entry, typed in self._outside.settled():
+        for entry, text in self._outside.settled():
             if entry.size and self._is_lost(entry, known) and not (self._stands_elsewhere(entry) or self._was_made_anew(entry)):
-                yield from not_copied(entry, 1, typed, self.copies, self)
+                yield from not_copied(entry, 1, text, self.copies, self)
 
     def _is_lost(self, entry: Entry, known: dict[bytes, bool]) -> bool:
         """Whether an entry that is in no chain had its place, or has it after one that lost its."""
@@ -808,4 +808,3 @@ class Judge:
             self._outside.remove(row.entry.hash)
         self._dropped.append(row)
         self._lacking.add(row.entry.site)
-

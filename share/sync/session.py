@@ -410,7 +410,7 @@ class Session:
               says: Says = lambda last: (), hidings: Sequence[Copy] = ()) -> None:
         """Puts messages that the site made into the file, after what is said of them up to their last entry, and has them
         sent."""
-        judge, author = self._holdings.judge, self._client.author
+        judge = self._holdings.judge
         made, before, length = [], self._last, judge.length(self.number)
         for part in in_entries(messages, length):
             before = self._form.entry(before, part, self._client.author, judge.built_on(part), length)

@@ -17,7 +17,7 @@ INSERT, DELETE, CHANGE_LOOKS, RESTORE = 1, 2, 3, 4
 
 # A character: the site that inserted it, and its offset in that site's file.
 Name = tuple[int, int]
-Rank = Callable[[Entry], tuple]
+Rank = Callable[[Entry], tuple[bytes, ...]]
 
 
 class Reading(NamedTuple):
@@ -82,7 +82,7 @@ class _Fields:
         assert self.at <= len(self.data)
 
 
-def rank(entry: Entry) -> tuple:
+def rank(entry: Entry) -> tuple[bytes, ...]:
     """The smaller one of two claims, or of two entries of one place, holds. Two claims of one author are told
     apart by their own hashes."""
     if entry.kind is Kind.CLAIM:
@@ -317,8 +317,8 @@ def tells_copies(entry: Entry, known: Mapping[bytes, Entry]) -> bool:
 
 def is_said_anew(entry: Entry, known: Mapping[bytes, Entry]) -> bool:
     """Whether its author says that it was made anew, and doesn't say what stands for what."""
-    return not tells_copies(entry, known) and any(one.kind is Kind.ANEW and (one.site, one.author) == (entry.site, entry.author)
-               and entry.hash in chained_to(one.before, known) for one in known.values())
+    own = [one for one in known.values() if one.kind is Kind.ANEW and (one.site, one.author) == (entry.site, entry.author)]
+    return not tells_copies(entry, known) and any(entry.hash in chained_to(one.before, known) for one in own)
 
 
 def chained_to(of: bytes, known: Mapping[bytes, Entry]) -> set[bytes]:

@@ -261,7 +261,6 @@ class Damaged(Copied):
         second = self.opened(self.berta)
         self.assert_shown("one behind two within", first, carla, second)
 
-
     def beside_its_copy(self) -> None:
         """Has the log have the original beside its copy, which nobody who is on has made."""
         self.alone().session.close()

@@ -11,7 +11,7 @@ import unittest
 
 from share.admission.judge import Judge, rank
 from share.admission.left_out import LeftOut
-from share.editors.terminal.app import state_of_others
+from share.editors.terminal.status_line import state_of_others
 from share.format.entry import Author, Entry, Form, Kind, Plain, in_entries
 from share.format.operation import Message, length_after, typed
 from share.program import retyping
