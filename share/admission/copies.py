@@ -1,12 +1,14 @@
 """Which messages stand for which, as entries say it."""
 from collections.abc import Callable, Iterator
+from itertools import chain, islice
 from typing import NamedTuple, Protocol
 
 from share.admission.ledger import Who
 from share.format.entry import NO_HASH, Copy, Entry
 from share.format.operation import Message, typed
 
-# No more messages than this are looked at that stand for others by the word of somebody else than their author.
+# The most messages that are looked at which stand for others by the word of somebody else than their author; and the most of what is
+# said of an author's messages, as somebody asks what stands beside one.
 MOST_COPIES_BY_OTHERS = 4_096
 
 
@@ -85,10 +87,10 @@ class Copies:
         """The messages that stand for one, and those for which it stands, whoever says so: each after the last entry of the history of
         the one, and before the last of its own, none where nothing is said of that."""
         who = one.site, one.author
-        for said in (*self._by_authors.get(who, ()), *self._by_others.get(who, ())):
+        for said in islice(chain(self._by_authors.get(who, ()), self._by_others.get(who, ())), MOST_COPIES_BY_OTHERS):
             if said.by.seq and said.seq <= one.seq < said.seq + said.size:
                 yield said.last, said.by._replace(seq=said.by.seq + one.seq - said.seq), said.by_last
-        for (site, author), said in self._by_copier.get(who, ()):
+        for (site, author), said in islice(self._by_copier.get(who, ()), MOST_COPIES_BY_OTHERS):
             if said.by.seq <= one.seq < said.by.seq + said.size:
                 yield said.by_last, Copy(author, site, said.seq + one.seq - said.by.seq), said.last
 

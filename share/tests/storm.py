@@ -244,6 +244,12 @@ class Redis:
         self.server.start()
 
 
+def copied(of: str, to: str) -> None:
+    """Copies a file. Who has the log open may remove what is beside it, and its copy, meanwhile."""
+    with contextlib.suppress(FileNotFoundError):
+        shutil.copyfile(of, to)
+
+
 class File:
     """A log in a file."""
 
@@ -277,14 +283,14 @@ class File:
 
     def copy_to(self, folder: pathlib.Path) -> None:
         """Copies it."""
-        shutil.copytree(self._folder, folder, dirs_exist_ok=True)
+        shutil.copytree(self._folder, folder, dirs_exist_ok=True, copy_function=copied)
 
     def put_back(self, folder: pathlib.Path | None) -> None:
         """Has it be what it was once, or nothing."""
         self.go_on()
         self.flush()
         if folder:
-            shutil.copytree(folder, self._folder, dirs_exist_ok=True)
+            shutil.copytree(folder, self._folder, dirs_exist_ok=True, copy_function=copied)
 
 
 class Storm:
