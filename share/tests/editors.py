@@ -94,7 +94,7 @@ class Editor:
         self.wait_for(lambda: mirror.answered == mirror.made, "all edits to be answered")
         return next(line for line in reversed(self.lines) if line.get("answer") == "edit" or not mirror.made)
 
-    def wait_for(self, condition: Callable[[], Any], what: str) -> Any:
+    def wait_for(self, condition: Callable[..., Any], what: str) -> Any:
         """The condition's value, as soon as it is a true one."""
         end = time.monotonic() + PATIENCE
         while not (value := condition()):

@@ -5,6 +5,8 @@ import pathlib
 import random
 import threading
 import unittest
+from collections.abc import Sequence
+from typing import Any
 from unittest import mock
 
 from share.log.sqlite import SqliteLog
@@ -98,7 +100,7 @@ class Lost(Case):
         written(note, "one ")
         courier = note.session._courier
 
-        def appended(log: SqliteLog, raws) -> None:
+        def appended(log: SqliteLog, raws: Sequence[bytes]) -> None:
             append(log, raws)
             if not done:
                 # Who reads the log sees that, and begins anew, before it is known here what was given.
@@ -115,14 +117,14 @@ class Lost(Case):
     def test_a_new_log_that_loses_all_before_it_was_read(self) -> None:
         append, read, one_at_a_time, done = SqliteLog.append, SqliteLog.read, threading.Lock(), list[int]()
 
-        def appended(log: SqliteLog, raws) -> None:
+        def appended(log: SqliteLog, raws: Sequence[bytes]) -> None:
             with one_at_a_time:
                 append(log, raws)
                 if not done:
                     done.append(len(raws))
                     change(self.path, "DELETE FROM entry")
 
-        def read_between(log: SqliteLog, after: str):
+        def read_between(log: SqliteLog, after: str) -> Any:
             with one_at_a_time:
                 return read(log, after)
 
@@ -137,7 +139,7 @@ class Lost(Case):
         note, append, lost = self.opened(self.anna, url=str(self.path)), SqliteLog.append, list[bytes]()
         written(note, "one ")
 
-        def appended(log: SqliteLog, raws) -> None:
+        def appended(log: SqliteLog, raws: Sequence[bytes]) -> None:
             if not lost:
                 lost.append(raws[0])
             append(log, [raw for raw in raws if raw != lost[0]])
@@ -166,6 +168,7 @@ class Lost(Case):
                 last = note.session.last()
                 others = [disk.form.claim(site, disk.form.new_author()) for site in (7, 8)]
                 with contextlib.closing(self.anna.log()) as log:
+                    assert isinstance(log, SqliteLog)
                     for one in others:
                         append(log, [one.raw])
                         wait_for(lambda of=one.hash: of in {place.hash for place in disk.places()}, "it to come")

@@ -8,6 +8,7 @@ import subprocess
 import time
 from concurrent.futures import ThreadPoolExecutor
 from concurrent.futures import TimeoutError as FutureTimeout
+from typing import Any
 from unittest import mock
 
 from share.cli.line_changes import line_changes
@@ -17,7 +18,7 @@ from share.engine.engine import Engine
 from share.engine.transform import Carrying
 from share.format import link as links
 from share.format.presence import Present, written
-from share.program.process import Ended
+from share.program.process import Ended, Program
 from share.program.replay import Wrote, in_units
 from share.store import notes
 from share.store.note_file import Disk, Unkept
@@ -41,7 +42,12 @@ class Here(Case):
         self.addCleanup(self.engine.close)
         self.editors = [self.editor(units) for units in ("utf-16", "utf-8")]
 
-    def editor(self, units: str) -> tuple:
+    def session(self) -> Session:
+        """The session of the engine."""
+        assert self.engine.session
+        return self.engine.session
+
+    def editor(self, units: str) -> Any:
         """One more editor: its end at the engine, its mirror, what it was sent, and what it sends."""
         sent: list[bytes] = []
         peer = self.engine.joined(sent.append, lambda: 0)
@@ -69,17 +75,16 @@ class Here(Case):
         """That all show a text, and the disk has it."""
         self.meet()
         self.assertEqual([mirror.text for _, mirror, _, _ in self.editors], [text] * len(self.editors))
-        self.assertEqual(self.engine.session.text().decode(), text.replace("\n", "\r"))
+        self.assertEqual(self.session().text().decode(), text.replace("\n", "\r"))
         self.assertEqual(self.person().text().decode(), text.replace("\n", "\r"))
 
     def test_a_program_that_ends_inside_a_long_edit(self) -> None:
         (_, first, _, _), (_, second, _, _) = self.editors
         first.edit([(0, 0, "base\n")])
         self.meet()
-        site = self.engine.session.site
-        ask, calls = site._program.ask.__func__, []
+        ask, calls = Program.ask, list[bool]()
 
-        def ends(program, events):
+        def ends(program: Program, events: list[bytes]) -> Any:
             calls.append(b" type " in events[0])
             if calls[-1] and sum(calls) > 3:
                 program.process.kill()
@@ -175,7 +180,7 @@ class Here(Case):
         (_, first, _, asked), _ = self.editors
         first.edit([(0, 0, "mine")])
         self.meet()
-        number = self.engine.session.number
+        number = self.session().number
         said = [written(Present(bytes(16), bytes([site % 256] * 16), site, "#000000", None, None, "Mallory"))
                 for site in (number, number % 65_000 + 1)]
         with mock.patch.object(self.engine.session, "show", lambda shows: said):
@@ -253,7 +258,7 @@ class Apart(Engines):
             self.addCleanup(server._listener.close)
             self.assertEqual((found, os.listdir(folder)), ([False], ["note.sock"]))
             line = serving.connected("note")
-            self.assertIsNotNone(line)
+            assert line
             line.close()
 
     def test_what_is_for_another_note_is_not_typed_into_this_one(self) -> None:

@@ -20,6 +20,7 @@ from share.program.site import Site
 from share.store import contents
 from share.store.note_file import About, Client, make
 from share.tests.support import Case
+from share.text.change import Change
 from share.text.change import make as make_changes
 from share.text.names import Names
 
@@ -125,6 +126,7 @@ class Told(unittest.TestCase):
                 types_on = keystrokes.type_on(entry)
                 if types_on:
                     run, = entry.runs
+                    assert before
                     self.assertEqual(run[:8], (INSERT, typist.site, before.seq + before.size, before.stamp + before.size, len(run.data),
                                                (Names(typist.site, run.at - 1, 1),), before.at + len(before.data), run.data))
                 told[types_on] += 1
@@ -166,7 +168,9 @@ class Told(unittest.TestCase):
             size = MOST_CHUNK - len(short.spelled) + 1 + more
             entry = short._replace(size=size, spelled=short.spelled + b"x" * (size - 1))
             self.assertEqual(is_right(entry), not more)
-            with self.assertRaises(Bad) if more else contextlib.nullcontext():
+            with contextlib.ExitStack() as expected:
+                if more:
+                    expected.enter_context(self.assertRaises(Bad))
                 self.assertTrue(keystrokes.type_on(entry))
 
 
@@ -274,8 +278,9 @@ class Counts(unittest.TestCase):
             with contextlib.closing(Site(1)) as site:
                 site.insert(0, b"xy")
                 told, text = site.take(added(typist.entries, True).let_through_in_order(), looks=True), bytearray(b"xy")
-                self.assertEqual([one.names for one in told if one.names.length > 1], long)
-                make_changes(text, told)
+                changes = [one for one in told if isinstance(one, Change)]
+                self.assertEqual([one.names for one in changes if one.names and one.names.length > 1], long)
+                make_changes(text, changes)
                 self.assertEqual(text, site.text())
                 self.assertEqual(len(site.history), 1 + len(letters))
 
@@ -298,6 +303,7 @@ class Opened(Case):
     def setUp(self) -> None:
         super().setUp()
         form = About(True, bytes(range(32)), "").form()
+        assert isinstance(form, Sealed)
         typist, self.text = Typist(form, 17), b"0123456789" * (KEYS // 10)
         for number in range(KEYS):
             typist.keep(typist.insert(self.text[number:number + 1]))

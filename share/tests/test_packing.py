@@ -12,10 +12,11 @@ from unittest import mock
 from share.admission.judge import Judge
 from share.format.entry import Author, Plain, digest
 from share.program.process import Ended, Program
+from share.program.site import KEPT
 from share.program.site import Site
 from share.store import snapshot
 from share.store.note_file import Unkept
-from share.store.snapshot import FRONT, KEPT, LEFT
+from share.store.snapshot import FRONT, LEFT
 from share.sync.session import Session
 from share.tests.naive import inserting
 from share.tests.note import Note
@@ -199,7 +200,10 @@ class Packing(Case):
             for path in (self.folder / name / "notes").glob(what):
                 to = self.ann.data / "notes" / path.name
                 shutil.rmtree(to) if to.is_dir() else to.unlink()
-                (shutil.copytree if path.is_dir() else shutil.copyfile)(path, to)
+                if path.is_dir():
+                    shutil.copytree(path, to)
+                else:
+                    shutil.copyfile(path, to)
 
         saved("early")
         self.closed("late")

@@ -5,11 +5,12 @@ import pathlib
 import shutil
 import subprocess
 import time
+from typing import Any
 from unittest import mock
 
 from share.admission.judge import rank
 from share.program.site import MOST_BYTES, Edited, Site
-from share.store.note_file import Anew, Disk, Overtaken, Unkept, make
+from share.store.note_file import Anew, Client, Disk, Overtaken, Unkept, make
 from share.sync.session import Session
 from share.tests import test_numbers
 from share.tests.note import Note
@@ -50,8 +51,10 @@ class UnderSeveral(Case):
             runs = [subprocess.Popen([python(), "-B", "-c", TYPES, tag], cwd=TOP, stdin=subprocess.PIPE,
                                      stdout=subprocess.PIPE, text=True) for tag in "abc"]
         for run in runs:
+            assert run.stdout and run.stdin
             self.assertEqual(run.stdout.readline(), "open\n")
         for run in runs:
+            assert run.stdin
             run.stdin.write("\n")
             run.stdin.flush()
         time.sleep(0.4)
@@ -86,9 +89,9 @@ class UnderSeveral(Case):
     def test_one_opens_as_the_other_claims(self) -> None:
         person = self.person()
         first = self.opened(person)
-        keep, opened = Disk.keep, []
+        keep, opened = Disk.keep, list[Any]()
 
-        def kept(disk: Disk, *words: object, **more: object) -> int:
+        def kept(disk: Disk, *words: Any, **more: Any) -> int:
             place = keep(disk, *words, **more)
             if more.get("client") and not opened:
                 opened.append(None)
@@ -165,7 +168,7 @@ class GivenUp(Case):
         words = self.assert_meet(first, late).split()
         self.assertEqual([words.count(one) for one in (b"one", b"two", b"three")], [1, 1, 1])
 
-    def clients(self, note: Note) -> list:
+    def clients(self, note: Note) -> list[Client]:
         """The numbers of who has a note open."""
         with contextlib.closing(Disk(note.session._disk.path)) as disk:
             return disk.clients()
@@ -209,7 +212,7 @@ class GivenUp(Case):
         change(self.anna.path(), "UPDATE entry SET raw = x'00' WHERE place = ?", place)
         read = Session._read
 
-        def slowly(session: Session) -> list:
+        def slowly(session: Session) -> Any:
             rows = read(session)
             if hasattr(session, "_courier"):
                 wait_for(session._courier.has_read, "the log to be read")
@@ -264,7 +267,7 @@ class Failing(Case):
         written(note, "one ")
         calls = []
 
-        def edit(site: Site, *words: int | bytes) -> Edited:
+        def edit(site: Site, *words: Any) -> Edited:
             calls.append(words)
             if len(calls) == 3:
                 raise Trouble("The program ended, was started again and ended again.")
