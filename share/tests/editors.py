@@ -10,7 +10,8 @@ from typing import IO, Any
 
 from share.editors.mirror import Mirror, TextChange
 from share.tests.support import NOTE, Case, engine_of
-from share.tests.waiting import PATIENCE, wait_for
+from share.tests.waiting import PATIENCE as PATIENCE
+from share.tests.waiting import wait_for
 from share.text.line import Line
 
 
