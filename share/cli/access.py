@@ -64,7 +64,7 @@ def given_or_asked_link(given: argparse.Namespace, name: str) -> Link | None:
 
 def require_agreement(given: argparse.Namespace, name: str, link: Link | None) -> None:
     """Refuses a log or a link that aren't the note's, before an engine is asked."""
-    server.agree(name, given_url(given), link)
+    server.agree_with_engine(name, given_url(given), link)
 
 
 def opener(given: argparse.Namespace, name: str, link: Link | None) -> OpensWithBar:

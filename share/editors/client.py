@@ -12,12 +12,11 @@ from share.engine import protocol, server
 from share.engine.engine import Engine
 from share.sync.session import CLOSE_SECONDS, Session
 from share.text.errors import Trouble
-from share.text.line import Line
+from share.text.line import MOST_LINE, PIECE, Assembler, Line
 
 # How long an engine may take for an answer, and a log for a number.
 ENGINE_SECONDS, GET_NUMBER_SECONDS = 120.0, 5.0
 RECEIVE_SECONDS = 0.02
-PIECE = 1 << 18
 OpensSession = Callable[[Callable[[], None]], Session]
 
 
@@ -93,7 +92,9 @@ class ScriptNote:
     """A note that is open for a script."""
 
     def __init__(self, way: Channel):
-        self._way, self._coming, self._asked = way, b"", 0
+        self._way, self._asked = way, 0
+        # An engine's lines have no bound: one may have all the text.
+        self._assembler = Assembler(None)
         self.state: Line = {}
         # What the user is to be told.
         self.says: list[str] = []
@@ -108,7 +109,7 @@ class ScriptNote:
     def ask(self, what: str, **more: object) -> Line:
         """What a request is answered; Trouble where that is an error."""
         self._asked += 1
-        self._way.send(protocol.written({"do": what, "id": self._asked, **more}))
+        self._way.send(protocol.serialize({"do": what, "id": self._asked, **more}))
         answer = self._until(lambda line: line.get("id") == self._asked, ENGINE_SECONDS)
         if answer is None:
             raise Trouble("The note's engine doesn't answer.")
@@ -118,7 +119,7 @@ class ScriptNote:
 
     def edit(self, changes: list[tuple[int, int, str]]) -> None:
         """Changes the text as it was opened, once; it is on the disk then."""
-        if sum(len(protocol.written({"": text})) for _, _, text in changes) > protocol.MOST_LINE // 2:
+        if sum(len(protocol.serialize({"": text})) for _, _, text in changes) > MOST_LINE // 2:
             raise Trouble("This is more than a note takes at once.")
         self._wait_for_number()
         self.ask("edit", version=0, edits=1, changes=changes)
@@ -148,9 +149,8 @@ class ScriptNote:
         """The first line that is the one; None where none comes."""
         end = time.monotonic() + seconds
         while time.monotonic() < end:
-            *whole, self._coming = (self._coming + self._way.receive(RECEIVE_SECONDS)).split(b"\n")
             found = None
-            for line in map(protocol.read, whole):
+            for line in map(protocol.parse, self._assembler.lines(self._way.receive(RECEIVE_SECONDS))):
                 if line.get("notice") == "state":
                     self.state = line
                 elif line.get("notice") == "says":

@@ -15,13 +15,12 @@ from share.engine import protocol
 from share.sync.session import CLOSE_SECONDS, Bar, Status
 from share.text.change import Change, boundary, found
 from share.text.errors import Trouble
-from share.text.line import Line
+from share.text.line import PIECE, Assembler, Line
 from share.text.rope import swapped
 from share.text.units import UNITS
 
 ENDED = ("The note's engine has ended. Open the note again: all that was typed before is kept, and what isn't there can "
          "be saved from here.")
-PIECE = 1 << 18
 # The least time between two messages of where the cursor is.
 TELL_CURSOR_SECONDS = 0.1
 # How long a watcher waits for what came to be read, before it looks again.
@@ -72,7 +71,9 @@ class EngineNote:
         # The other end of what is selected.
         self.anchor: int | None = None
         self.notice = ""
-        self._coming, self._goes_on, self._is_closed = b"", False, False
+        self._goes_on, self._is_closed = False, False
+        # An engine's lines have no bound: one may have all the text.
+        self._assembler = Assembler(None)
         self._has_read = threading.Event()
         self._said_cursor: tuple[int, int | None] = (0, None)
         self._cursor_due = 0.0
@@ -237,7 +238,7 @@ class EngineNote:
 
     def _send(self, line: Line) -> None:
         try:
-            self._line.sendall(protocol.written(line))
+            self._line.sendall(protocol.serialize(line))
         except OSError as why:
             raise Trouble(ENDED) from why
 
@@ -252,8 +253,7 @@ class EngineNote:
         self._has_read.set()
         if not data:
             raise Trouble(ENDED)
-        *whole, self._coming = (self._coming + data).split(b"\n")
-        for line in map(protocol.read, whole):
+        for line in map(protocol.parse, self._assembler.lines(data)):
             self._take(line)
         return True
 

@@ -16,6 +16,7 @@ from share.format.link import is_network
 from share.format.operation import Message, length_after
 from share.log.base import open_log
 from share.program import retyping
+from share.program.alike import One
 from share.program.difference import Shown, differences, shown_by
 from share.program.intake import Coming, Pace
 from share.program.retyping import Lost
@@ -193,7 +194,7 @@ class Session:
 
     def recover(self) -> list[Lost]:
         """Types again what was left out, and says so of it; what that was."""
-        found, holdings, copies = self.lost(), self._holdings, list[tuple[Copy, Message]]()
+        found, holdings, copies = self.lost(), self._holdings, list[tuple[One, Message]]()
         self._was = shown_by(self.site)
 
         def work() -> Edited:
@@ -206,6 +207,8 @@ class Session:
         if found:
             # Who has a copy has the word of it, too.
             self._edited(work, lambda last: retyping.words_of(copies, self._form, self._client.author, last))
+            # Something may stand for what was left out that nobody has said of it yet.
+            self._hide_copies()
         return found
 
     def own(self) -> Set[Who]:

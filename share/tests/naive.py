@@ -207,8 +207,9 @@ class Answer:
                    for entry in self.chains.get(messages[0].site, []))
 
     def _is_copied(self, entry: Entry, message: Message, known: Mapping[bytes, Entry]) -> bool:
-        """Whether a copy of a message of an entry counts: by the word of its author, or since it has all that was typed."""
-        others = b""
+        """Whether a copy of a message of an entry counts: by the word of its author, or since it has all that was typed, as one
+        message or as all those of one author and site together."""
+        others: dict[tuple[int, bytes], dict[int, bytes]] = {}
         for one in known.values():
             if one.kind is not Kind.COPIES or (one.copied.author, one.copied.site) != (entry.author, entry.site):
                 continue
@@ -223,8 +224,10 @@ class Answer:
                 if seq <= message.seq < seq + count and (found or not by):
                     if is_authors:
                         return True
-                    others += typed(found) if found and by else b""
-        return bool(others) and others == typed(message)
+                    if found and by:
+                        others.setdefault((found.site, one.copied.by), {})[found.seq] = typed(found)
+        return bool(typed(message)) and any(
+            typed(message) in (b"".join(parts[seq] for seq in sorted(parts)), *parts.values()) for parts in others.values())
 
     def _hashes(self) -> set[bytes]:
         """The hashes of the entries that hold."""
@@ -320,9 +323,9 @@ def is_said_anew(entry: Entry, known: Mapping[bytes, Entry]) -> bool:
 
 
 def chained_to(of: bytes, known: Mapping[bytes, Entry]) -> set[bytes]:
-    """An entry, and those to which it is chained."""
+    """An entry, and those to which it is chained. No chain goes through a word."""
     found: set[bytes] = set()
-    while of in known and of not in found:
+    while of in known and (known[of].messages or known[of].kind is Kind.CLAIM):
         found.add(of)
         of = known[of].before
     return found

@@ -28,8 +28,8 @@ SENTENCE = "Dear all, we meet at ten. "
 ROUNDS = 12
 
 
-class Taken(Case):
-    """A note in which somebody with the link takes the number of one who wrote."""
+class Three(Case):
+    """People with a note that one of them has begun."""
 
     def setUp(self) -> None:
         super().setUp()
@@ -58,6 +58,10 @@ class Taken(Case):
             note.session.close()
         self.assertEqual(shown(self.carol), ("Dear all of you, we meet at ten. Bob. ", []))
         return anna.session.number
+
+
+class Taken(Three):
+    """A note in which somebody with the link takes the number of one who wrote."""
 
     def test_what_was_made_anew_and_left_out_in_its_turn_is_typed_again_once(self) -> None:
         take(self.anna, self.begun())

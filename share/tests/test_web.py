@@ -14,14 +14,13 @@ from unittest import mock
 import aiohttp
 
 from share.editors.web import guard
-from share.editors.web.bridge import MOST_MESSAGE, NO_FIELDS, Assembler, page_refusal
+from share.editors.web.bridge import MOST_MESSAGE, NO_FIELDS, page_refusal
 from share.editors.web.opening import redirect
 from share.editors.web.server import files
-from share.engine.protocol import MOST_LINE
 from share.tests.pages import Server, talking
 from share.tests.support import TOP, Case, Person, engine_of, python, wait_for
 from share.text.errors import Trouble
-from share.text.line import Line
+from share.text.line import MOST_LINE, Assembler, Line
 
 VECTORS = TOP / "share" / "tests" / "vectors.mjs"
 UPGRADE = ["Connection: Upgrade", "Upgrade: websocket", "Sec-WebSocket-Version: 13",

@@ -9,15 +9,14 @@ from collections.abc import AsyncIterator, Sequence
 
 from aiohttp import WSCloseCode, WSMsgType, web
 
-from share.engine.protocol import MOST_LINE, Wrong, read, written
-from share.text.line import Line
+from share.engine.protocol import Wrong, parse, serialize
+from share.text.line import PIECE, Assembler, Line
 
 # What a page may ask for. It names no file: who has the secret alone is to reach this note and nothing else.
 REQUESTS = {"open", "edit", "undo", "redo", "looks", "cursor", "seen", "text", "on", "who", "history", "past", "close"}
 NO_FIELDS = {"path", "replace", "link", "log", "url"}
 # The most bytes of a page's message, so that who hasn't said the secret can't fill the memory.
 MOST_MESSAGE = 1 << 18
-PIECE = 1 << 18
 # What the engine's command says at its end, and how much of that a WebSocket's last words may be.
 MOST_STDERR, MOST_REASON = 4_096, 120
 # How long an engine's command may take to end by itself, before it is killed.
@@ -27,9 +26,7 @@ END_SECONDS = 5
 def page_refusal(data: bytes | None) -> Line | None:
     """What a page is answered whose line isn't handed on; None where it is. None is a line that was too long."""
     try:
-        if data is None:
-            raise Wrong("long", f"The line has more than {MOST_LINE:,} bytes.")
-        request = read(data)
+        request = parse(data)
     except Wrong as why:
         return {"answer": "", "error": why.code, "words": str(why)}
     what = request.get("do")
@@ -39,35 +36,6 @@ def page_refusal(data: bytes | None) -> Line | None:
     if type(request.get("id")) is int:
         line["id"] = request["id"]
     return line
-
-
-class Assembler:
-    """Makes lines of a page's messages."""
-
-    def __init__(self) -> None:
-        self._in = bytearray()
-        self._skips = False
-
-    def lines(self, data: bytes) -> list[bytes | None]:
-        """The lines that end in a message; None is one that was too long."""
-        *ended, rest = data.split(b"\n")
-        found = [self._line(end) for end in ended]
-        self._add(rest)
-        return found
-
-    def _line(self, end: bytes) -> bytes | None:
-        self._add(end)
-        line = None if self._skips else bytes(self._in)
-        self._in.clear()
-        self._skips = False
-        return line
-
-    def _add(self, data: bytes) -> None:
-        self._skips = self._skips or len(self._in) + len(data) > MOST_LINE
-        if self._skips:
-            self._in.clear()
-        else:
-            self._in += data
 
 
 async def messages(socket: web.WebSocketResponse) -> AsyncIterator[bytes]:
@@ -133,7 +101,7 @@ class Bridge:
             for line in assembler.lines(data):
                 answer = page_refusal(line)
                 if answer is not None:
-                    await self._socket.send_str(written(answer).decode())
+                    await self._socket.send_str(serialize(answer).decode())
                 elif line is not None:
                     self._engine.stdin.write(line + b"\n")
             await self._engine.stdin.drain()

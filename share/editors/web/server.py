@@ -14,7 +14,7 @@ from aiohttp import WSCloseCode, WSMsgType, web
 from share.editors.web import guard
 from share.editors.web.bridge import MOST_MESSAGE, bridged
 from share.editors.web.loopback import BACKLOG, OwnSocket
-from share.engine.protocol import written
+from share.engine.protocol import serialize
 from share.text.errors import Trouble
 
 HERE = pathlib.Path(__file__).absolute().parent
@@ -87,7 +87,7 @@ class Page:
         finally:
             self.strangers.pop(socket, None)
         self.open.add(socket)
-        await socket.send_str(written({"notice": "welcome", "name": self.name}).decode())
+        await socket.send_str(serialize({"notice": "welcome", "name": self.name}).decode())
         await bridged(socket, self.command)
         return socket
 
