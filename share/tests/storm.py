@@ -500,7 +500,7 @@ class Storm:
 
     def damage(self) -> None:
         """A note's file is damaged while it is open."""
-        from share.tests.test_lost import DAMAGES
+        from share.tests.test_losses import DAMAGES
         one, what = self.someone(), self.chance.choice([*DAMAGES])
         if one.engine() and not self.due:
             self.say(f"damage {one.name}: {what}")
