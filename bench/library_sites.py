@@ -3,6 +3,7 @@ by the package, in bytes or code points, or by the program's pipe as share/ does
 import pathlib
 import sys
 import time
+from collections.abc import Callable
 
 TOP = pathlib.Path(__file__).resolve().parent.parent
 PASTE = 4000
@@ -14,57 +15,65 @@ TOLD = 1000
 class PackageSite:
     """A text of the package."""
 
-    process = "self"
+    process: int | str = "self"
 
-    def __init__(self, site, units):
+    def __init__(self, site: int, units: str):
         from vialshoal import Text
         self.text = Text(1, site=site, units=units)
-        self.spelled = bytes.decode if units == "code points" else bytes
-        self.delete = self.text.delete
+        self.in_code_points = units == "code points"
 
-    def insert(self, pos, data):
-        return self.text.insert(pos, self.spelled(data))
+    def insert(self, pos: int, data: bytes) -> list[bytes]:
+        messages: list[bytes] = self.text.insert(pos, data.decode() if self.in_code_points else data)
+        return messages
 
-    def take(self, messages):
+    def delete(self, beg: int, end: int) -> list[bytes]:
+        messages: list[bytes] = self.text.delete(beg, end)
+        return messages
+
+    def take(self, messages: list[bytes]) -> None:
         for message in messages:
             self.text.take(message)
 
-    def shown(self):
+    def shown(self) -> bytes:
         return bytes(self.text)
 
 
 class PipeSite:
     """A process of the program."""
 
-    def __init__(self, site):
+    def __init__(self, site: int):
         sys.path.insert(0, str(TOP))
         from share.program.process import Program, escaped
         self.program, self.escaped = Program(site), escaped
-        self.process = self.program.process.pid
+        self.process: int | str = self.program.process.pid
 
-    def edited(self, event):
+    def edited(self, event: bytes) -> list[bytes]:
         [answer] = self.program.ask([event])
         return [bytes.fromhex(line.rpartition(b" ")[2].decode()) for line in answer[:-1]]
 
-    def insert(self, pos, data):
+    def insert(self, pos: int, data: bytes) -> list[bytes]:
         return self.edited(self.program.event("type", pos, self.escaped(data)))
 
-    def delete(self, beg, end):
+    def delete(self, beg: int, end: int) -> list[bytes]:
         return self.edited(self.program.event("cut", beg, end))
 
-    def take(self, messages):
+    def take(self, messages: list[bytes]) -> None:
         for at in range(0, len(messages), TOLD):
             self.program.ask([self.program.event("take", message.hex().encode()) for message in messages[at:at + TOLD]])
 
-    def shown(self):
+    def shown(self) -> bytes:
         return self.program.text()
 
 
-def site_of(kind, site):
+AnySite = PackageSite | PipeSite
+Edit = tuple[int, int]
+
+
+def site_of(kind: str, site: int) -> AnySite:
     return PipeSite(site) if kind == "pipe" else PackageSite(site, kind)
 
 
-def peak(sites):
+def peak(sites: list[AnySite]) -> int:
     """The most bytes that were resident in the sites' processes."""
     found = 0
     for process in {site.process for site in sites}:
@@ -73,36 +82,36 @@ def peak(sites):
     return found
 
 
-def make(site, edit):
+def make(site: AnySite, edit: Edit) -> list[bytes]:
     pos, letter = edit
     return site.insert(pos, bytes([letter])) if letter else site.delete(pos, pos + 1)
 
 
-def typed(a, b, edits):
+def typed(a: AnySite, b: AnySite, edits: list[Edit]) -> None:
     for edit in edits:
         b.take(make(a, edit))
 
 
-def pasted(site, edits):
+def pasted(site: AnySite, edits: list[Edit]) -> None:
     for at in range(0, len(edits), PASTE):
         site.insert(at, bytes(letter for _, letter in edits[at:at + PASTE]))
 
 
-def busy(sites):
+def busy(sites: list[AnySite]) -> float:
     """The seconds of processors that went into the sites."""
     others = {site.process for site in sites} - {"self"}
     told = [pathlib.Path(f"/proc/{process}/schedstat").read_text(encoding="ascii") for process in others]
     return time.process_time() + sum(int(one.split()[0]) for one in told) / 1e9
 
 
-def timed(work, sites):
+def timed(work: Callable[[], object], sites: list[AnySite]) -> tuple[float, float]:
     """The seconds of the clock, and those of the processors."""
     begin, worked = time.perf_counter(), busy(sites)
     work()
     return time.perf_counter() - begin, busy(sites) - worked
 
 
-def main():
+def main() -> None:
     kind, mode = sys.argv[1:]
     a, b = site_of(kind, 1), site_of(kind, 2)
     edits = [(int(pos), int(letter)) for pos, letter in map(str.split, sys.stdin)]

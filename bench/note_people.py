@@ -200,7 +200,7 @@ class Keys:
         while mirror.answered < mirror.made and time.monotonic() < begin + most:
             editor.read(0.02)
         self.seconds.append(time.monotonic() - begin)
-        return mirror.answered == mirror.made
+        return bool(mirror.answered == mirror.made)
 
     def refused(self) -> str:
         """Why the last key was refused, where it was."""
@@ -214,12 +214,12 @@ def types(editor: Editor) -> bool:
     return bool(states and states[-1]["types"])
 
 
-def waited(editor: Editor, is_so: Callable[[], bool], most: float) -> bool:
+def waited(editor: Editor, is_so: Callable[[], object], most: float) -> bool:
     """Whether something was so in time."""
     end = time.monotonic() + most
     while not is_so() and time.monotonic() < end:
         editor.read(0.02)
-    return is_so()
+    return bool(is_so())
 
 
 def as_it_arrives(room: Room, editor: Editor, many: int, most: float = ARRIVING_SECONDS,

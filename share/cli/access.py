@@ -87,7 +87,7 @@ def opener_by_link(given: argparse.Namespace, name: str) -> OpensWithBar:
 
 
 def quiet_opener(given: argparse.Namespace, name: str) -> Callable[[Callable[[], None]], Session]:
-    """The same, where nobody sees how much is read so far."""
+    """The same, where nobody sees the progress."""
     opens = opener_by_link(given, name)
     return lambda wake: opens(lambda done, total: None, wake)
 

@@ -129,7 +129,7 @@ class Prefix:
             undo.callback((self.root / path).unlink)
 
     def _lead_to(self, tree: pathlib.Path) -> None:
-        """Has what is installed be this folder, all at once."""
+        """Makes this folder what is installed, all at once."""
         os.symlink(tree.name, tree / NEW)
         os.replace(tree / NEW, self._current)
 
@@ -167,7 +167,7 @@ def _files_to_install() -> dict[str, pathlib.Path]:
 
 
 def _fill(tree: pathlib.Path, files: dict[str, pathlib.Path], folders: list[str]) -> None:
-    """Has a folder have all files. First comes the list of them, so that what was begun can be taken away."""
+    """Fills a folder with all files. First comes their list, so that what was begun can be taken away."""
     tree.mkdir()
     os.chmod(tree, RUN_MODE)
     manifest = {"files": [*files, NEW], "folders": folders}
@@ -212,7 +212,7 @@ def _remove_empty(folders: Iterable[pathlib.Path]) -> None:
 
 @contextlib.contextmanager
 def _alone(folder: pathlib.Path) -> Iterator[None]:
-    """Has one at a time do something in a folder."""
+    """Locks a folder, so that one process at a time changes it."""
     file = os.open(folder, os.O_RDONLY | os.O_DIRECTORY | os.O_CLOEXEC)
     try:
         fcntl.flock(file, fcntl.LOCK_EX)

@@ -39,7 +39,7 @@ def script_parser() -> argparse.ArgumentParser:
     verb("list", "lists the notes of this data folder", of_a_note=False)
     past = verb("history", "prints a note's text as it was, with --json also who wrote what",
                 more="A note begins empty. bin/note log says what was done since, and which N is after that.\n")
-    past.add_argument("--at", type=int, metavar="N", required=True, help="after so many messages")
+    past.add_argument("--at", type=int, metavar="N", required=True, help="after the first N messages")
     verb("log", "says what was done, step by step, and by whom",
          more="Before each step is the N with which bin/note history prints the text as it was then. At the end is what was\n"
               "left out for good, since others hold its place; bin/note recover --lost NAME types it again.\n")

@@ -125,7 +125,7 @@ class ScriptNote:
         self.ask("edit", version=0, edits=1, changes=changes)
 
     def recover(self) -> list[Line]:
-        """Has what was left out be typed again; what that was."""
+        """Types again what was left out; what that was."""
         self._wait_for_number()
         found: list[Line] = self.ask("recover")["lost"]
         return found

@@ -8,11 +8,11 @@ from share.text.units import UNITS, Units
 # What is between two positions gives way to a text.
 TextChange = tuple[int, int, str]
 
-# Who has typed so long without all being answered reads lines before the next key, for so long at most.
+# After typing this long without all being answered, lines are read before the next key; and for how long at most.
 UNANSWERED_SECONDS, PATIENCE_SECONDS = 0.5, 0.2
-# After so many notices the engine is told which version this is, if nothing else has said so.
+# The notices after which the engine is told which version this is, if nothing else has said so.
 NOTICES = 100
-# With so many edits unanswered, what comes is gathered into one.
+# From this number of unanswered edits on, further changes are gathered into one.
 MOST_UNANSWERED = 10
 
 

@@ -21,9 +21,9 @@ from share.text.units import UNITS
 
 ENDED = ("The note's engine has ended. Open the note again: all that was typed before is kept, and what isn't there can "
          "be saved from here.")
-# Where the cursor is, is said so often at most.
+# The least time between two messages of where the cursor is.
 TELL_CURSOR_SECONDS = 0.1
-# A watcher looks again after so long, where nobody has read what came.
+# How long a watcher waits for what came to be read, before it looks again.
 WATCH_SECONDS = 0.5
 UTF_8 = UNITS["utf-8"]
 
@@ -170,7 +170,7 @@ class EngineNote:
         self._line.close()
 
     def follow(self, change: Change) -> None:
-        """Has the text and the places follow a change."""
+        """Changes the text, and moves the places with it."""
         self.text[change.begin:change.end] = change.new
         self.cursor, self.top = change.moved(self.cursor), change.moved(self.top)
         self.cursor, self.top = boundary(self.text, self.cursor), boundary(self.text, self.top)

@@ -4,9 +4,8 @@ import time
 from collections.abc import Callable, Set
 from contextlib import suppress
 
-from share.admission.ledger import Who
 from share.admission.judge import Counted
-from share.admission.ledger import Row
+from share.admission.ledger import Row, Who
 from share.format.entry import Entry, Kind
 from share.format.history import Messages
 from share.format.link import is_network

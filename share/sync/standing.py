@@ -9,8 +9,7 @@ import math
 from collections.abc import Callable, Container, Iterator, Mapping, Sequence
 from typing import NamedTuple
 
-from share.admission.ledger import Who
-from share.admission.ledger import Row
+from share.admission.ledger import Row, Who
 from share.format.entry import NO_HASH, Copied, Copy, Entry, Form, Kind
 from share.store.own import Client
 

@@ -4,9 +4,8 @@ from collections.abc import Collection, Iterable, Iterator, Mapping, Sequence
 from itertools import chain, takewhile
 from typing import NamedTuple
 
-from share.admission.ledger import Who
 from share.admission.judge import Counted, Judge
-from share.admission.ledger import Row
+from share.admission.ledger import Row, Who
 from share.admission.left_out import LeftOut
 from share.format.entry import NOT_UNDER_A_NUMBER, Copy, Entry, Form, Kind
 from share.format.operation import Message

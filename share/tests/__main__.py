@@ -11,14 +11,14 @@ from concurrent.futures import ProcessPoolExecutor
 AT_A_TIME = 6
 # The longest first.
 MODULES = ["test_storm", "test_all_editors", "test_page", "test_web", "test_killed", "test_copies", "test_unsent",
-           "test_engine_edits", "test_engine", "test_scripts", "test_engine_faults", "test_editor", "test_lost",
-           "test_left_out", "test_renewed", "test_numbers", "test_slow", "test_heard", "test_terminal", "test_security",
-           "test_logs", "test_looks", "test_installing", "test_first_start", "test_closed", "test_judging", "test_opening",
-           "test_bad_input", "test_joining", "test_printing", "test_wire", "test_same_text", "test_told", "test_parts",
-           "test_old", "test_sealing", "test_entry", "test_spelling", "test_reviewed", "test_carried", "test_carrying",
-           "test_engine_vectors", "test_before", "test_packing", "test_chunks", "test_keystrokes", "test_slices",
-           "test_standing", "test_differing", "test_holdings", "test_completions", "test_rooms", "test_alike",
-           "test_framing", "test_trace", "test_reading_once"]
+           "test_engine_edits", "test_engine", "test_scripts", "test_engine_faults", "test_editor", "test_left_out",
+           "test_numbers", "test_terminal", "test_security", "test_logs", "test_looks", "test_installing",
+           "test_first_start", "test_opening", "test_bad_input", "test_joining", "test_printing", "test_wire", "test_entry",
+           "test_spelling", "test_carried", "test_engine_vectors", "test_chunks", "test_keystrokes", "test_standing",
+           "test_completions", "test_rooms", "test_alike", "test_framing", "test_trace", "test_reading_once", "test_losses",
+           "test_renewal", "test_slow_line", "test_presence", "test_terminal_closed", "test_judge", "test_convergence",
+           "test_effects", "test_layout_and_changes", "test_old_notes", "test_sealed", "test_file_faults", "test_transform",
+           "test_notes_of_messages", "test_snapshot", "test_intake", "test_difference", "test_state"]
 
 
 def run(module: str) -> tuple[int, int, str]:

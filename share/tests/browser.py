@@ -11,7 +11,7 @@ from selenium.webdriver.remote.webelement import WebElement
 
 from share.tests.waiting import PATIENCE
 
-CHROMIUM, DRIVER = shutil.which("chromium"), shutil.which("chromedriver")
+CHROMIUM, DRIVER = shutil.which("chromium") or "", shutil.which("chromedriver") or ""
 # As root there is no sandbox; windows behind others are to be as quick as the one in front.
 WORDS = ["--headless=new", "--no-sandbox", "--disable-gpu", "--disable-dev-shm-usage", "--no-first-run",
          "--disable-background-timer-throttling", "--disable-renderer-backgrounding", "--disable-extensions",
@@ -32,12 +32,12 @@ class Browser:
     """A Chromium without a screen."""
 
     def __init__(self, width: int = 640, height: int = 400, profile: pathlib.Path | None = None):
-        options = webdriver.ChromeOptions()
+        options: Any = webdriver.ChromeOptions()
         options.binary_location = CHROMIUM
         for word in [*WORDS, f"--window-size={width},{height}", *([f"--user-data-dir={profile}"] if profile else [])]:
             options.add_argument(word)
         options.set_capability("goog:loggingPrefs", {"browser": "ALL"})
-        self.driver = webdriver.Chrome(service=Service(DRIVER), options=options)
+        self.driver: Any = webdriver.Chrome(service=Service(DRIVER), options=options)
         self.driver.set_script_timeout(2 * PATIENCE)
         self.size = width, height
 
@@ -62,7 +62,7 @@ class Window:
         self._browser, self.handle = browser, handle
 
     @property
-    def driver(self) -> webdriver.Chrome:
+    def driver(self) -> Any:
         """The browser, with this window in front."""
         if self._browser.driver.current_window_handle != self.handle:
             self._browser.driver.switch_to.window(self.handle)

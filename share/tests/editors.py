@@ -10,7 +10,8 @@ from typing import IO, Any
 
 from share.editors.mirror import Mirror, TextChange
 from share.tests.support import NOTE, Case, engine_of
-from share.tests.waiting import PATIENCE, wait_for
+from share.tests.waiting import PATIENCE as PATIENCE
+from share.tests.waiting import wait_for
 from share.text.line import Line
 
 
@@ -94,7 +95,7 @@ class Editor:
         self.wait_for(lambda: mirror.answered == mirror.made, "all edits to be answered")
         return next(line for line in reversed(self.lines) if line.get("answer") == "edit" or not mirror.made)
 
-    def wait_for(self, condition: Callable[[], Any], what: str) -> Any:
+    def wait_for(self, condition: Callable[..., Any], what: str) -> Any:
         """The condition's value, as soon as it is a true one."""
         end = time.monotonic() + PATIENCE
         while not (value := condition()):

@@ -8,6 +8,7 @@ import random
 import shutil
 import tempfile
 import time
+from collections.abc import Callable
 
 from share.store import notes
 from share.tests.editors import Editor
@@ -24,7 +25,7 @@ def shown(what: str, seconds: list[float]) -> None:
           f"{1000 * seconds[len(seconds) * 95 // 100]:6.1f} of 95 in 100, {1000 * seconds[-1]:6.1f} at most", flush=True)
 
 
-def waited(editor: Editor, is_done) -> float:
+def waited(editor: Editor, is_done: Callable[[], object]) -> float:
     """When something was so."""
     editor.wait_for(is_done, "a line")
     return time.perf_counter()

@@ -7,6 +7,7 @@ import hashlib
 from collections.abc import Callable, Iterable, Iterator, Mapping, Sequence
 from dataclasses import dataclass
 from itertools import chain
+from typing import Any
 from typing import NamedTuple
 
 from share.format.chunk import packed, packed_in_parts
@@ -20,7 +21,7 @@ INSERT, DELETE, CHANGE_LOOKS, RESTORE = 1, 2, 3, 4
 
 # A character: the site that inserted it, and its offset in that site's file.
 Name = tuple[int, int]
-Rank = Callable[[Entry], tuple[bytes, ...]]
+Rank = Callable[[Entry], tuple[Any, ...]]
 
 
 class Reading(NamedTuple):

@@ -5,6 +5,7 @@ as that was seen: a word that some disk has must be there once, at everybody; on
 and is there once at most.
 """
 import contextlib
+import functools
 import json
 import os
 import pathlib
@@ -13,12 +14,14 @@ import shutil
 import signal
 import subprocess
 import time
+from collections.abc import Callable, Iterator
 
 from share.editors.mirror import Mirror
 from share.tests.editors import Editor
 from share.tests.support import NOTE, Case, Person, alive, engine_of, written
 from share.tests.terminals import children
 from share.tests.waiting import wait_for
+from share.text.line import Line
 
 # A disk of a person's own has so many bytes.
 DISK_BYTES = 48 << 20
@@ -102,7 +105,7 @@ class Writer:
         if ended:
             self.left()
 
-    def _took(self, line: dict) -> None:
+    def _took(self, line: Line) -> None:
         if line.get("notice") == "says":
             self.said.append((round(time.monotonic() - self._began, 1), line["words"]))
         if line.get("answer") != "edit":
@@ -137,7 +140,7 @@ class Writer:
                 os.kill(process, signal.SIGKILL)
         self.left()
         if engine:
-            wait_for(lambda: not alive(engine), "an engine to end")
+            wait_for(functools.partial(is_gone, engine), "an engine to end")
 
     def close(self) -> None:
         """Closes the note, and waits for its engine's end."""
@@ -149,9 +152,9 @@ class Writer:
                 self._took(line)
             self.left()
             if engine:
-                wait_for(lambda: not alive(engine), "an engine to end")
+                wait_for(functools.partial(is_gone, engine), "an engine to end")
 
-    def state(self) -> dict:
+    def state(self) -> Line:
         """What was said of how things are."""
         return self.editor.mirror.state if self.editor and self.editor.mirror else {}
 
@@ -178,7 +181,7 @@ class Writer:
         self.unsure |= self.has - has
         self.has = set(has)
 
-    def note(self, *words: str) -> subprocess.CompletedProcess:
+    def note(self, *words: str) -> subprocess.CompletedProcess[str]:
         """A run of bin/note with this person's notes."""
         return subprocess.run([NOTE, *words], capture_output=True, text=True, timeout=MEET_PATIENCE, check=False,
                               env={**os.environ, "VIALSHOAL_DATA": str(self.person.data)})
@@ -190,8 +193,13 @@ class Writer:
                 shutil.rmtree(one) if one.is_dir() else one.unlink()
 
 
+def is_gone(process: int) -> bool:
+    """Whether a process has ended."""
+    return not alive(process)
+
+
 @contextlib.contextmanager
-def patched(variables: dict[str, str]):
+def patched(variables: dict[str, str]) -> Iterator[None]:
     """Has the environment have these meanwhile."""
     before = {name: os.environ.get(name) for name in variables}
     os.environ.update(variables)
@@ -303,7 +311,7 @@ class Storm:
         self.people: list[Writer] = []
         # What happened, in order; what is to be undone, and after how many steps; what was copied.
         self.told: list[str] = []
-        self.due: list[tuple[int, object]] = []
+        self.due: list[tuple[int, Callable[[], object]]] = []
         self.step, self.text, self._began = 0, "", time.monotonic()
         # How often something that was left out was typed again.
         self.recovered = 0
@@ -354,7 +362,7 @@ class Storm:
         self.log.go_on()
         self.log.start()
 
-    def after(self, least: int, most: int, undo) -> None:
+    def after(self, least: int, most: int, undo: Callable[[], object]) -> None:
         """Has something be undone after some steps."""
         self.due.append((self.step + self.chance.randint(least, most), undo))
 
@@ -376,10 +384,11 @@ class Storm:
         if engine := one.engine():
             self.say(f"stop {one.name}")
             os.kill(engine, signal.SIGSTOP)
+            process = engine
 
             def go_on() -> None:
                 with contextlib.suppress(ProcessLookupError):
-                    os.kill(engine, signal.SIGCONT)
+                    os.kill(process, signal.SIGCONT)
             self.after(5, 30, go_on)
 
     def stop_program(self) -> None:
@@ -407,7 +416,8 @@ class Storm:
         """All that the log has is gone."""
         if not self.due:
             self.say("lose the log")
-            self.chance.choice([self.log.flush, lambda: self.log.put_back(None)])()
+            losses: list[Callable[[], None]] = [self.log.flush, lambda: self.log.put_back(None)]
+            self.chance.choice(losses)()
 
     def dump(self) -> None:
         """What the log has is copied, or is again what was copied once."""
@@ -496,7 +506,7 @@ class Storm:
 
     def damage(self) -> None:
         """A note's file is damaged while it is open."""
-        from share.tests.test_lost import DAMAGES
+        from share.tests.test_losses import DAMAGES
         one, what = self.someone(), self.chance.choice([*DAMAGES])
         if one.engine() and not self.due:
             self.say(f"damage {one.name}: {what}")
@@ -558,7 +568,7 @@ class Storm:
             one.has |= words
         return self.text
 
-    def comes(self, condition, patience: float) -> None:
+    def comes(self, condition: Callable[[], object], patience: float) -> None:
         """Waits for what has to come."""
         try:
             wait_for(condition, "all to show the same", patience)

@@ -51,7 +51,7 @@ class Typed(Three):
             form = disk.form
         author = form.new_author()
         claim = form.claim(65_001, author)
-        forks = [form.entry(claim, [inserting(65_001, 1, stamp, None, 0, b"Q")], author) for stamp in (1, 2, 3)]
+        forks = [entry_of(form, claim, [inserting(65_001, 1, stamp, None, 0, b"Q")], author) for stamp in (1, 2, 3)]
         with contextlib.closing(self.carol.log()) as log:
             log.append([one.raw for one in [claim, *forks[:2]]])
         self.carol.open().session.close()

@@ -18,6 +18,7 @@ from share.log.sqlite import SqliteLog
 from share.program.process import Ended, Program
 from share.store import read_only
 from share.tests.naive import entry_of, inserting, newer
+from share.tests.note import Note
 from share.tests.servers import Hostile
 from share.tests.support import NOTE, TOP, Case, change, python, raws_of, type_at_the_end, wait_for, written
 from share.tests.test_logs import WITHOUT_END
@@ -151,8 +152,9 @@ class BadInput(Case):
                     program.process.send_signal(signal.SIGSTOP)
                 if starves:
                     self.starve(program.process.pid)
-                with mock.patch("share.program.patience.MOST_WORKING_SECONDS", 1), contextlib.nullcontext() if starves else (
-                        self.assertRaises(Ended)):
+                with mock.patch("share.program.patience.MOST_WORKING_SECONDS", 1), contextlib.ExitStack() as expected:
+                    if not starves:
+                        expected.enter_context(self.assertRaises(Ended))
                     self.assertEqual(program.text(), b"")
 
     def starve(self, process: int) -> None:
@@ -215,7 +217,7 @@ class BadInput(Case):
         wait_for(lambda: not note.session.status().offline, "it to be said")
 
     def test_a_log_and_a_file_that_have_no_end(self) -> None:
-        for path in self.file_log(), self.ann.path():
+        for path in self.file_log(), str(self.ann.path()):
             with contextlib.closing(sqlite3.connect(path)) as file:
                 file.executescript(f"ALTER TABLE entry RENAME TO before; {WITHOUT_END}")
             if path == self.file_log():
@@ -294,7 +296,7 @@ class BadInput(Case):
         self.assertEqual(len(raws), 5)
         self.assertEqual(bytes(note.text), b"one two three ")
 
-    def claims(self, note) -> list[int]:
+    def claims(self, note: Note) -> list[int]:
         """The numbers that are claimed."""
         return note.session._holdings.judge.claimed()
 

@@ -5,6 +5,8 @@ import pathlib
 import random
 import threading
 import unittest
+from collections.abc import Sequence
+from typing import Any
 from unittest import mock
 
 from share.log.sqlite import SqliteLog
@@ -98,7 +100,7 @@ class Lost(Case):
         written(note, "one ")
         replicator = note.session._replicator
 
-        def appended(log: SqliteLog, raws) -> None:
+        def appended(log: SqliteLog, raws: Sequence[bytes]) -> None:
             append(log, raws)
             if not done:
                 # Who reads the log sees that, and begins anew, before it is known here what was given.
@@ -115,14 +117,14 @@ class Lost(Case):
     def test_a_new_log_that_loses_all_before_it_was_read(self) -> None:
         append, read, one_at_a_time, done = SqliteLog.append, SqliteLog.read, threading.Lock(), list[int]()
 
-        def appended(log: SqliteLog, raws) -> None:
+        def appended(log: SqliteLog, raws: Sequence[bytes]) -> None:
             with one_at_a_time:
                 append(log, raws)
                 if not done:
                     done.append(len(raws))
                     change(self.path, "DELETE FROM entry")
 
-        def read_between(log: SqliteLog, after: str):
+        def read_between(log: SqliteLog, after: str) -> Any:
             with one_at_a_time:
                 return read(log, after)
 
@@ -137,7 +139,7 @@ class Lost(Case):
         note, append, lost = self.opened(self.anna, url=str(self.path)), SqliteLog.append, list[bytes]()
         written(note, "one ")
 
-        def appended(log: SqliteLog, raws) -> None:
+        def appended(log: SqliteLog, raws: Sequence[bytes]) -> None:
             if not lost:
                 lost.append(raws[0])
             append(log, [raw for raw in raws if raw != lost[0]])
@@ -161,11 +163,12 @@ class Lost(Case):
         note, append = self.opened(self.anna, url=str(self.path)), SqliteLog.append
         written(note, "one ")
         with mock.patch.object(SqliteLog, "append", lambda *_: None), contextlib.closing(self.anna.disk()) as disk:
-            with mock.patch.object(disk.__class__, "offer", lambda *_: []):
+            with mock.patch.object(disk.entries.__class__, "offer", lambda *_: []):
                 type_at_the_end(note, "two ")
                 last = note.session.last()
                 others = [disk.form.claim(site, disk.form.new_author()) for site in (7, 8)]
                 with contextlib.closing(self.anna.log()) as log:
+                    assert isinstance(log, SqliteLog)
                     for one in others:
                         append(log, [one.raw])
                         wait_for(lambda of=one.hash: of in {place.hash for place in disk.entries.places()}, "it to come")
@@ -201,7 +204,7 @@ class Gaps(Case):
         anna.session.close()
         # One damaged entry, and its author is off.
         self.assertTrue(damage(path, b"007 ", b"00x "))
-        with mock.patch("share.sync.state.MOST_UNCOUNTED_BYTES", 40_000), mock.patch("share.log.sqlite.PAGE", 8):
+        with mock.patch("share.sync.state.MOST_UNCOUNTED_BYTES", 40_000), mock.patch("share.log.sqlite.READ_AT_ONCE", 8):
             berta = self.opened(self.person("berta"), link=link)
             wait_for(lambda: (berta.take_in(), berta.session._holdings.waiting_for_room())[1], "entries to be dropped")
             self.assertEqual(berta.text.decode(), "".join(words[:7]))

@@ -210,13 +210,14 @@ class Damaged(Copied):
         self.assert_shown("one hind two more", first, second, late)
 
     def test_the_disk_is_full_as_a_copy_is_hidden(self) -> None:
-        second, keep, tried = self.alone(), Disk.keep, []
+        second, keep, tried = self.alone(), Disk.keep, list[Any]()
 
         def kept(disk: Disk, *given: Any, hidings: Sequence[Copy] = (), **more: Any) -> int:
             if hidings and len(tried) < 3:
                 tried.append(hidings)
                 raise Unkept("there is no room")
-            return keep(disk, *given, hidings=hidings, **more)
+            words: dict[str, Any] = more | {"hidings": hidings}
+            return keep(disk, *given, **words)
 
         with mock.patch.object(Disk, "keep", kept), mock.patch("share.sync.rebasing.REBASE_AGAIN_SECONDS", 0):
             first = self.opened(self.anna)

@@ -14,7 +14,7 @@ import subprocess
 import sys
 import time
 import unittest.mock
-from typing import Any
+from typing import Any, cast
 
 from share.editors.terminal.app import edit
 from share.editors.terminal.keys import (ESCAPE_SECONDS, LONGEST_PASTE, PASTE_LOST_SECONDS, PASTE_QUIET_SECONDS,
@@ -135,6 +135,7 @@ class Pastes(unittest.TestCase):
         for cut in range(0, len(data) + 1, 1 + len(data) // 200):
             (pasted,) = pressed(data, cut)
             self.assertEqual([pasted], pressed(data))
+        assert isinstance(pasted, Pasted)
         return pasted
 
     def test_keys_in_a_paste_are_none(self) -> None:
@@ -452,7 +453,7 @@ def scripted(text: str, seconds: str, can_type: str) -> None:
 
     signal.signal(signal.SIGTERM, lambda *_: sys.exit(0))
     try:
-        note = curses.wrapper(edit, "diary", open_note)
+        note = curses.wrapper(edit, "diary", cast(Any, open_note))
         pathlib.Path(os.environ["CLOSED"]).with_name("end").write_bytes(note.text)
     except Trouble as why:
         print(safe_for_terminal(f"trouble: {why}"))

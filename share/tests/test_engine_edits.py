@@ -7,15 +7,17 @@ import resource
 import signal
 import subprocess
 import time
+from typing import cast
 from unittest import mock
 
-from share.editors.mirror import Mirror
+from share.editors.mirror import Mirror, TextChange
 from share.engine.engine import Engine
 from share.store import notes
 from share.sync.session import Session
 from share.tests.editors import Editor, Engines
 from share.tests.support import NOTE, wait_for
 from share.text.errors import Trouble
+from share.text.line import Line
 
 LETTERS = "abc  \n\t\r\\é߀ñ漢字🎉👍"
 
@@ -46,12 +48,13 @@ class Carried(Engines):
         if chance.random() < 0.15:
             editor.send({"do": chance.choice(["undo", "undo", "redo"])})
             return
-        units, text, changes = editor.mirror.units, editor.text, []
+        units, text, changes = editor.mirror.units, editor.text, list[TextChange]()
         for _ in range(chance.choice((1, 1, 1, 2, 5))):
             begin = chance.randrange(len(text) + 1)
             end = min(len(text), begin + chance.choice((0, 0, 0, 1, 4)))
             new = "".join(chance.choices(LETTERS, k=chance.choice((0, 1, 1, 3))))
-            changes.append((*(units.count(units.encode(text[:place])) for place in (begin, end)), new))
+            first, last = (units.count(units.encode(text[:place])) for place in (begin, end))
+            changes.append((first, last, new))
             text = text[:begin] + new + text[end:]
         editor.edit(*changes)
 
@@ -59,7 +62,7 @@ class Carried(Engines):
         first, second = self.others("ada", "bo")
         second.edit((0, 0, "\n"))
         first.shows("\n")
-        end, late, typed, seen = time.monotonic() + 5, [], {}, set()
+        end, late, typed, seen = time.monotonic() + 5, list[float](), dict[str, float](), set[str]()
         due = 0.0
         while time.monotonic() < end:
             if time.monotonic() > due:
@@ -196,7 +199,7 @@ class Wrong(Engines):
                 ({"changes": [[10**12, 10**13, ""]]}, "outside"),
                 ({"changes": [[10**30, 10**31, ""]]}, "field")):
             made = editor.mirror.made + 1
-            line = {"do": "edit", "version": editor.mirror.version, "edits": made, **more}
+            line: Line = {"do": "edit", "version": editor.mirror.version, "edits": made, **cast(Line, more)}
             editor.mirror.made = line["edits"]
             editor.send(line)
             answer = editor.wait_for(lambda: next((one for one in editor.lines if one.get("answer") == "edit"
@@ -281,12 +284,13 @@ class Wrong(Engines):
         peer = engine.joined(sent.append, lambda: 0)
         engine.take(peer, [b'{"do": "open", "protocol": 1, "units": ["utf-8"]}'])
         engine.turn()
-        lines: list[dict] = []
+        lines: list[Line] = []
         mirror = Mirror(json.loads(sent[0]), lines.append)
         for at, word in (0, "one two "), (4, "twin "), (9, "twice "):
             mirror.edit([(at, at, word)])
         first, second, third = [json.dumps(line).encode() for line in lines]
         engine.take(peer, [first])
+        assert engine.session
         status = engine.session.status()
         with mock.patch.object(engine.session, "status", return_value=dataclasses.replace(status, can_type=False)):
             # The number is another one now, which doesn't hold yet.
@@ -304,9 +308,9 @@ class Wrong(Engines):
         sent: list[bytes] = []
         peer = engine.joined(sent.append, lambda: 0)
 
-        def does(*requests: dict) -> list[dict]:
+        def does(*requests: Line) -> list[Line]:
             sent.clear()
-            waiting = [json.dumps(one).encode() for one in requests]
+            waiting: list[bytes | None] = [json.dumps(one).encode() for one in requests]
             while waiting:
                 engine.take(peer, waiting)
             engine.turn()
@@ -326,7 +330,7 @@ class Wrong(Engines):
 
         self.assertEqual(types("c", "b"), [None, None])
         program = os.environ.get("VIALSHOAL_PROGRAM", "")
-        self.assertTrue(engine.session)
+        assert engine.session
         with mock.patch.dict(os.environ, VIALSHOAL_PROGRAM="/bin/false"):
             engine.session.site._program.process.kill()
             self.assertEqual(types("x", "y"), ["failed", "stale"])
@@ -338,11 +342,13 @@ class Wrong(Engines):
         self.assertEqual(types("a"), [None])
         self.assertEqual(mirror.text, "abc")
         # Where the program ends between two edits that came at once, the first one is kept.
+        assert engine.session
         site = engine.session.site
         with mock.patch.object(site, "insert", side_effect=[site.insert(0, b"1"), Trouble("ended")]):
             self.assertEqual(types("1", "2"), [None, "failed"])
         does()
         mirror.take(next((line for line in map(json.loads, sent) if "notice" in line), {}))
+        assert engine.session
         self.assertEqual(engine.session.text(), b"1abc")
         self.assertEqual(self.person().text(), b"1abc")
         self.assertEqual(types("0"), [None])

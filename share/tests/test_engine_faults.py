@@ -8,6 +8,7 @@ import subprocess
 import time
 from concurrent.futures import ThreadPoolExecutor
 from concurrent.futures import TimeoutError as FutureTimeout
+from typing import Any
 from unittest import mock
 
 from share.cli.line_changes import line_changes
@@ -43,7 +44,12 @@ class Here(Case):
         self.addCleanup(self.engine.close)
         self.editors = [self.editor(units) for units in ("utf-16", "utf-8")]
 
-    def editor(self, units: str) -> tuple:
+    def session(self) -> Session:
+        """The session of the engine."""
+        assert self.engine.session
+        return self.engine.session
+
+    def editor(self, units: str) -> Any:
         """One more editor: its end at the engine, its mirror, what it was sent, and what it sends."""
         sent: list[bytes] = []
         peer = self.engine.joined(sent.append, lambda: 0)
@@ -71,16 +77,16 @@ class Here(Case):
         """That all show a text, and the disk has it."""
         self.meet()
         self.assertEqual([mirror.text for _, mirror, _, _ in self.editors], [text] * len(self.editors))
-        self.assertEqual(self.engine.session.text().decode(), text.replace("\n", "\r"))
+        self.assertEqual(self.session().text().decode(), text.replace("\n", "\r"))
         self.assertEqual(self.person().text().decode(), text.replace("\n", "\r"))
 
     def test_a_program_that_ends_inside_a_long_edit(self) -> None:
         (_, first, _, _), (_, second, _, _) = self.editors
         first.edit([(0, 0, "base\n")])
         self.meet()
-        ask, calls = Program.ask, []
+        ask, calls = Program.ask, list[bool]()
 
-        def ends(program, events):
+        def ends(program: Program, events: list[bytes]) -> Any:
             calls.append(b" type " in events[0])
             if calls[-1] and sum(calls) > 3:
                 program.process.kill()
@@ -112,8 +118,9 @@ class Here(Case):
 
     def test_an_edit_that_is_refused_before_it_begins_is_answered(self) -> None:
         (_, first, _, _), _ = self.editors
-        with mock.patch.object(self.engine.session._replica, "is_stale", True), mock.patch.object(
-                self.engine.session, "arrived", lambda: []):
+        session = self.engine.session
+        assert session
+        with mock.patch.object(session._replica, "is_stale", True), mock.patch.object(session, "arrived", lambda: []):
             first.edit([(0, 0, "x")])
             got = self.meet()
         self.assertEqual([(line["error"], line["edits"]) for line in got[0] if line.get("answer") == "edit"],
@@ -188,7 +195,7 @@ class Here(Case):
         (_, first, _, asked), _ = self.editors
         first.edit([(0, 0, "mine")])
         self.meet()
-        number = self.engine.session.number
+        number = self.session().number
         said = [written(Present(bytes(16), bytes([site % 256] * 16), site, "#000000", None, None, "Mallory"))
                 for site in (number, number % 65_000 + 1)]
         with mock.patch.object(self.engine.session, "show", lambda shows: said):
@@ -266,7 +273,7 @@ class Apart(Engines):
             self.addCleanup(server._listener.close)
             self.assertEqual((found, os.listdir(folder)), ([False], ["note.sock"]))
             line = serving.connected("note")
-            self.assertIsNotNone(line)
+            assert line
             line.close()
 
     def test_what_is_for_another_note_is_not_typed_into_this_one(self) -> None:

@@ -6,6 +6,7 @@ import pathlib
 import shutil
 import subprocess
 import sys
+from collections.abc import Iterator
 from unittest import mock
 
 from share.editors.terminal.status_line import state_of_others
@@ -13,7 +14,7 @@ from share.program import process
 from share.program.process import command, file_of, is_unproved
 from share.sync.session import Status
 from share.tests.support import TOP, Case
-from share.tests.test_terminal import Terminal
+from share.tests.terminals import Terminal
 
 COMMANDS = ("env", "sh", "python3", "dirname", "readlink", "head", "tail", "sha256sum", "mkdir", "cp", "git")
 # It stands for cargo, and gives the program of these tests for the one that is built.
@@ -49,12 +50,12 @@ class FirstStart(Case):
             (self.commands / name).chmod(0o755)
 
     @contextlib.contextmanager
-    def here(self):
+    def here(self) -> Iterator[None]:
         """Has what is started meanwhile know the few commands alone, and no other program."""
         with mock.patch.dict(os.environ, PATH=str(self.commands), VIALSHOAL_PROGRAM="", VIALSHOAL_BUILD=""):
             yield
 
-    def run_note(self, *words: str, top: pathlib.Path | None = None, status: int = 0) -> subprocess.CompletedProcess:
+    def run_note(self, *words: str, top: pathlib.Path | None = None, status: int = 0) -> subprocess.CompletedProcess[str]:
         """A run of bin/note in the copy."""
         with self.here():
             done = subprocess.run([str((top or self.copy) / "bin" / "note"), *words], capture_output=True, text=True, timeout=120,

@@ -7,6 +7,7 @@ import shutil
 import signal
 import subprocess
 import sys
+from collections.abc import Callable
 from unittest import mock
 
 from share.cli import installing
@@ -14,7 +15,7 @@ from share.cli.installing import LINKS
 from share.program.process import command, file_of
 from share.tests.pages import Server
 from share.tests.support import TOP, Case
-from share.tests.test_terminal import Terminal
+from share.tests.terminals import Terminal
 from share.text.errors import Trouble
 
 EMACS = '(progn (add-to-list (quote load-path) \\"SITE\\") (require (quote vialshoal)) (vialshoal-open \\"note\\"))'
@@ -75,7 +76,7 @@ class Installed(Case):
 
     def install(self, **more: str) -> None:
         """Installs from the copy."""
-        self.run_note("install", "--prefix", str(self.prefix), top=self.copy, **more)
+        self.run_note("install", "--prefix", str(self.prefix), top=self.copy, status=0, **more)
 
     def here(self, verb: str) -> None:
         """Does a verb in this process, which takes less time."""
@@ -153,7 +154,9 @@ class Installed(Case):
     def test_what_others_have_put_there_stays(self) -> None:
         for path in (*LINKS, "lib/vialshoal"):
             (self.prefix / path).parent.mkdir(parents=True, exist_ok=True)
-            for puts in (lambda one: one.write_bytes(b"mine"), lambda one: one.symlink_to("/nowhere"), pathlib.Path.mkdir):
+            ways: tuple[Callable[[pathlib.Path], object], ...] = (
+                lambda one: one.write_bytes(b"mine"), lambda one: one.symlink_to("/nowhere"), pathlib.Path.mkdir)
+            for puts in ways:
                 puts(self.prefix / path)
                 before = files(self.prefix)
                 with self.assertRaisesRegex(Trouble, f"{self.prefix / path} is there"):
@@ -209,7 +212,7 @@ class Installed(Case):
                 self.killed(number, verb)
 
     @staticmethod
-    def full(path: pathlib.Path, data: bytes, real) -> None:
+    def full(path: pathlib.Path, data: bytes, real: Callable[[pathlib.Path, bytes], object]) -> None:
         """Writes a part of a file, as on a full disk."""
         real(path, data[:len(data) // 2])
         raise OSError(errno.ENOSPC, "No space left on device")

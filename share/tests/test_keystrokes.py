@@ -22,7 +22,8 @@ from share.store import contents
 from share.store.note_file import About, make_note
 from share.store.own import Client
 from share.tests.support import Case
-from share.text.change import make_note as make_changes
+from share.text.change import Change
+from share.text.change import make as make_changes
 from share.text.names import Names
 
 FORM = Plain(bytes(range(16)))
@@ -127,6 +128,7 @@ class Told(unittest.TestCase):
                 types_on = keystrokes.type_on(entry)
                 if types_on:
                     run, = entry.operations
+                    assert before
                     self.assertEqual(run[:8], (INSERT, typist.site, before.seq + before.size, before.stamp + before.size, len(run.data),
                                                (Names(typist.site, run.at - 1, 1),), before.at + len(before.data), run.data))
                 told[types_on] += 1
@@ -168,7 +170,9 @@ class Told(unittest.TestCase):
             size = MOST_CHUNK - len(short.spelled) + 1 + more
             entry = short._replace(size=size, spelled=short.spelled + b"x" * (size - 1))
             self.assertEqual(is_right(entry), not more)
-            with self.assertRaises(Bad) if more else contextlib.nullcontext():
+            with contextlib.ExitStack() as expected:
+                if more:
+                    expected.enter_context(self.assertRaises(Bad))
                 self.assertTrue(keystrokes.type_on(entry))
 
 
@@ -214,7 +218,7 @@ class Counts(unittest.TestCase):
             for seq in range(1, one.front(site) + 1):
                 self.assertEqual(one.message(site, seq), other.message(site, seq))
                 self.assertEqual(one.entry_of(site, seq), other.entry_of(site, seq))
-            chains = one._chains[site], other._chains[site]
+            chains = one._chains.by_site[site], other._chains.by_site[site]
             for at in range(one.length(site)):
                 self.assertEqual(*((chain.stamp_of(at), chain.inserter_of(at)) for chain in chains))
             self.assertEqual(*(chain.pending for chain in chains))
@@ -274,8 +278,9 @@ class Counts(unittest.TestCase):
             with contextlib.closing(Site(1)) as site:
                 site.insert(0, b"xy")
                 told, text = site.take(added(typist.entries, True).let_through_in_order(), looks=True), bytearray(b"xy")
-                self.assertEqual([one.names for one in told], [Names(9, 0, len(letters))])
-                make_changes(text, told)
+                changes = [one for one in told if isinstance(one, Change)]
+                self.assertEqual([one.names for one in changes], [Names(9, 0, len(letters))])
+                make_changes(text, changes)
                 self.assertEqual(text, site.text())
                 self.assertEqual(len(site.history), 1 + len(letters))
 
@@ -298,6 +303,7 @@ class Opened(Case):
     def setUp(self) -> None:
         super().setUp()
         form = About(True, bytes(range(32)), "").form()
+        assert isinstance(form, Sealed)
         typist, self.text = Typist(form, 17), b"0123456789" * (KEYS // 10)
         for number in range(KEYS):
             typist.keep(typist.insert(self.text[number:number + 1]))

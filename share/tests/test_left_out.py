@@ -23,6 +23,7 @@ from share.tests.editors import Engines
 from share.tests.naive import entry_of, in_entries
 from share.tests.note import Note
 from share.tests.support import NOTE, Carried, Case, Person, edit_at_random, take, type_at_the_end, wait_for, written
+from share.text.line import Line
 
 MISSING = 3
 SENTENCE = "Dear all, we meet at ten. "
@@ -239,7 +240,7 @@ class InWords(unittest.TestCase):
     """What a terminal's last line says."""
 
     def test_how_much_and_whose(self) -> None:
-        lines = [{"site": site, "own": site == 9, "characters": 10 - site, "messages": 1} for site in (3, 9, 5, 6, 7)]
+        lines: list[Line] = [{"site": site, "own": site == 9, "characters": 10 - site, "messages": 1} for site in (3, 9, 5, 6, 7)]
         lines[0]["name"] = "Ada"
         status = Status(1, 1, 0, None, 0, left_out=lines, renewed={"site": 8, "own": False, "name": "Bo"})
         self.assertEqual(state_of_others(status), "  left out: 7 characters of Ada (site 3), 1 character of you (site 9), "
@@ -332,7 +333,7 @@ def shown(person: Person) -> tuple[str, list[str]]:
     return found.text.decode(), found.missing
 
 
-def left_out(person: Person) -> list[dict]:
+def left_out(person: Person) -> list[Line]:
     """What is left out of somebody's note."""
     with person.here():
         return contents.contents_of("note", contents.found_of("note", None, None, None)).left_out

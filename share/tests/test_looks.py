@@ -4,14 +4,16 @@ import os
 import random
 import shutil
 import subprocess
+from typing import Any, cast
 
 from share.program.site import Edited, Site
 from share.tests.editors import Editor, Engines
 from share.tests.support import NOTE, Case, alive, wait_for
+from share.text.line import Line
 from share.text.looks import DEFAULT, Looks, Run, is_bold, is_slanted, setting, with_weight
 from share.text.names import Names
 
-BOLD_RED = {"bold": True, "colour": 2}
+BOLD_RED: dict[str, Any] = {"bold": True, "colour": 2}
 
 
 class Fonts(Case):
@@ -39,7 +41,8 @@ class Fonts(Case):
             (message,) = site.look(looks, [Names(7, 2, 3)]).messages
             self.assertEqual(message.mentions, (Names(7, 2, 1), Names(7, 4, 1)))
             self.assertTrue(message.may_dress)
-        self.assertEqual(site.runs(), [Run(*DEFAULT, 2), Run("A", 0, 127, 2), Run(*DEFAULT, 1)])
+        first, last = (Run(DEFAULT.font or "", DEFAULT.colour or 0, DEFAULT.offset or 0, length) for length in (2, 1))
+        self.assertEqual(site.runs(), [first, Run("A", 0, 127, 2), last])
         messages = site.look(Looks(None, 3), [Names(7, 5, 1), Names(7, 0, 2), Names(7, 3, 1)]).messages
         self.assertEqual([one.mentions for one in messages], [(Names(7, 0, 2),), (Names(7, 5, 1),)])
         self.assertEqual(site.look(Looks(None, 4), [Names(7, 3, 1)]), Edited([]))
@@ -52,7 +55,7 @@ class Fonts(Case):
 class Shown(Engines):
     """What editors are told."""
 
-    def looks(self, editor: Editor, *wanted: dict) -> None:
+    def looks(self, editor: Editor, *wanted: Line) -> None:
         """Waits until an editor shows these looks."""
         assert editor.mirror
         mirror = editor.mirror
@@ -165,7 +168,7 @@ class Shown(Engines):
                     editor.edit((begin, end, "".join(chance.choices("abc \n", k=chance.choice((0, 1, 3))))))
                 elif what < 0.8:
                     editor.send({"do": "looks", "id": 1, "version": editor.mirror.version, "ranges": [[begin, end]],
-                                 **chance.choice(({"bold": True}, {"bold": False}, {"colour": 2}, {"colour": 1}))})
+                                 **chance.choice([dict[str, Any](bold=True), {"bold": False}, {"colour": 2}, {"colour": 1}])})
                 else:
                     editor.send({"do": chance.choice(("undo", "undo", "redo"))})
             self.alike(*editors)
@@ -189,7 +192,7 @@ class Shown(Engines):
         (self.folder / "shared").write_bytes(b"")
         # Both go on under one number, each with looks for old and new words.
         editors = [self.editor(data, looks=True) for data in ("ada", "copied")]
-        for number, (editor, looks) in enumerate(zip(editors, (BOLD_RED, {"bold": True, "colour": 4}))):
+        for number, (editor, looks) in enumerate(zip(editors, (BOLD_RED, dict[str, Any](bold=True, colour=4)))):
             editor.edit((13, 13, f" new{number}"))
             editor.settle()
             self.set(editor, [4 * number, 4 * number + 3], [14, 17], **looks)
@@ -214,7 +217,7 @@ class Shown(Engines):
         editor.settle()
         for more, code in (({"bold": 1}, "field"), ({"colour": 16}, "field"), ({"colour": True}, "field"), ({}, "field"),
                            ({"colour": -1}, "field"), ({"bold": "yes"}, "field"), ({"bold": 1.0}, "field"), ({"colour": [2]}, "field")):
-            self.set(editor, [0, 3], error=code, **more)
+            self.set(editor, [0, 3], error=code, **cast(dict[str, Any], more))
         for ranges, code in (([[0, 4]], "outside"), ([[1, 3]], "split"), ([[3, 2]], "field"), ([[0]], "field"), ("all", "field"),
                              ([["a", "b"]], "field"), ([[0, 10**30]], "field"), ([[-1, 2]], "field")):
             answer = editor.ask("looks", version=editor.mirror.version, ranges=ranges, bold=True)

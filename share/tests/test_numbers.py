@@ -16,8 +16,7 @@ from share.log.base import Log
 from share.log.sqlite import SqliteLog
 from share.program.process import Program
 from share.program.site import Edited, Site, Told
-from share.store.note_file import Disk
-from share.store.own import Client
+from share.store.own import Client, OwnTables
 from share.sync.numbers import Numbers as OwnNumbers
 from share.sync.open_file import OpenFile
 from share.sync.rebasing import Rebaser
@@ -222,19 +221,19 @@ class Numbers(Case):
 
     def test_a_number_that_is_claimed_while_another_editor_is_opened(self) -> None:
         self.begun()
-        first, ask, asked = self.opened(self.anna), Disk.clients, []
+        first, ask, asked = self.opened(self.anna), OwnTables.clients, list[OwnTables]()
 
-        def clients(disk: Disk) -> list[Client]:
+        def clients(own: OwnTables) -> list[Client]:
             if threading.current_thread() is threading.main_thread():
-                asked.append(disk)
+                asked.append(own)
                 if len(asked) == 2:
                     # Between the entries and the numbers that go with them.
-                    client = Client(next(site for site in range(1, 99) if site != self.site_of()), disk.form.new_author())
                     with contextlib.closing(self.anna.disk()) as other:
-                        other.keep([disk.form.claim(client.site, client.author)], True, client=client)
-            return ask(disk)
+                        client = Client(next(site for site in range(1, 99) if site != self.site_of()), other.form.new_author())
+                        other.keep([other.form.claim(client.site, client.author)], True, client=client)
+            return ask(own)
 
-        with mock.patch.object(Disk, "clients", clients):
+        with mock.patch.object(OwnTables, "clients", clients):
             second = self.opened(self.anna)
         written(second, "four ")
         self.assertEqual(self.assert_meet(first, second), b"one two three four ")

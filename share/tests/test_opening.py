@@ -9,6 +9,7 @@ import shutil
 import subprocess
 import tarfile
 import unittest
+from collections.abc import Callable
 
 from share.format.link import read
 from share.store import notes
@@ -17,6 +18,7 @@ from share.sync.session import Session
 from share.tests.note import Note
 from share.tests.servers import RedisServer
 from share.tests.support import NOTE, Case, Person, change, raws_of, type_at_the_end, wait_for, written
+from share.text.errors import Trouble
 
 FIXTURES = pathlib.Path(__file__).parent / "data" / "old_notes.tar.gz"
 INCOMPLETE = 3
@@ -26,11 +28,11 @@ CTRL_Q = b"\x11"
 class Opening(Case):
     """Tests with people who run bin/note."""
 
-    def run_as(self, person: Person, *words: str, **environment: str) -> subprocess.CompletedProcess:
+    def run_as(self, person: Person, *words: str, **environment: str) -> subprocess.CompletedProcess[str]:
         """A run of bin/note of somebody."""
         return self.note(*words, VIALSHOAL_DATA=str(person.data), **environment)
 
-    def assert_ends(self, run: subprocess.CompletedProcess, *parts: str, status: int = 0) -> None:
+    def assert_ends(self, run: subprocess.CompletedProcess[str], *parts: str, status: int = 0) -> None:
         """That a command ended so, and printed these parts."""
         self.assertEqual(run.returncode, status, run.stdout + run.stderr)
         for part in parts:
@@ -44,7 +46,7 @@ class Opening(Case):
         note.session.close()
         return person
 
-    def terminal(self, person: Person, *words: str, typed: bytes, until) -> bytes:
+    def terminal(self, person: Person, *words: str, typed: bytes, until: Callable[[], object]) -> bytes:
         """What bin/note writes to a terminal in which this is typed, until something is so."""
         child, terminal = pty.fork()
         if not child:
@@ -121,11 +123,12 @@ class Links(Opening):
         written(note, "one ")
         note.session.close()
         bob, link = self.person("bob"), ann.link()
-        for more, environment in ((("--password-file", str(self.folder / "password")), {}),
-                                  ((), {"VIALSHOAL_PASSWORD": "open sesame"})):
+        ways: list[tuple[list[str], dict[str, str]]] = [
+            (["--password-file", str(self.folder / "password")], {}), ([], {"VIALSHOAL_PASSWORD": "open sesame"})]
+        for more, environment in ways:
             run = self.run_as(bob, "note", "--print", *more, VIALSHOAL_LINK=link, **environment)
             self.assert_ends(run, "one ")
-        for environment in {}, {"VIALSHOAL_PASSWORD": "else"}:
+        for environment in dict[str, str](), {"VIALSHOAL_PASSWORD": "else"}:
             run = self.run_as(bob, "note", "--print", VIALSHOAL_LINK=link, **environment)
             self.assert_ends(run, status=INCOMPLETE)
             self.assertIn("password", run.stderr)
@@ -146,7 +149,7 @@ class Links(Opening):
 
     def test_a_folder_that_can_not_be_written(self) -> None:
         (self.folder / "data").write_text("no folder")
-        with self.person().here(), self.assertRaisesRegex((notes.Trouble, Unkept), "Not a directory|File exists"):
+        with self.person().here(), self.assertRaisesRegex((Trouble, Unkept), "Not a directory|File exists"):
             notes.open_note("note", None, None)
 
 
@@ -180,7 +183,7 @@ class Moved(Opening):
     def test_nothing_plain_goes_to_a_server(self) -> None:
         ann = self.made("ann", self.file_log())
         server = self.redis()
-        with ann.here(), self.assertRaisesRegex(notes.Trouble, "isn't sealed.*bin/note renew note --log redis"):
+        with ann.here(), self.assertRaisesRegex(Trouble, "isn't sealed.*bin/note renew note --log redis"):
             notes.open_note("note", server.url, None)
         self.assertEqual(read(ann.link()).url, self.file_log())
 
@@ -280,7 +283,7 @@ class Before(Opening):
     def test_on_a_server_it_is_read_only_until_it_was_copied(self) -> None:
         server = self.server()
         stranger = self.person("stranger")
-        with stranger.here(), self.assertRaisesRegex(notes.Trouble, "is read only.*bin/note renew diary --log"):
+        with stranger.here(), self.assertRaisesRegex(Trouble, "is read only.*bin/note renew diary --log"):
             notes.open_note("diary", server.url, None)
         digest = server.cli("DEBUG", "DIGEST")
         printed = self.run_as(stranger, "diary", "--print", "--log", server.url)
@@ -381,7 +384,7 @@ class Recovered(Opening):
     def test_a_damaged_file_is_told(self) -> None:
         ann = self.made("ann")
         ann.path().write_bytes(b"words")
-        with ann.here(), self.assertRaisesRegex(notes.Trouble, "bin/note recover .*join the note again"):
+        with ann.here(), self.assertRaisesRegex(Trouble, "bin/note recover .*join the note again"):
             notes.open_note("note", None, None)
 
 

@@ -14,7 +14,8 @@ from share.text.looks import Run
 class Verbs(Case):
     """What a verb prints, and with which status it ends."""
 
-    def note(self, *words: str, data: str = "data", given: bytes = b"", status: int = 0) -> str:
+    def note(  # type: ignore[override]
+            self, *words: str, data: str = "data", given: bytes = b"", status: int = 0) -> str:
         """What a command prints that ends with this status."""
         done = subprocess.run([NOTE, *words], capture_output=True, input=given, timeout=120, check=False,
                               env={**os.environ, "VIALSHOAL_DATA": str(self.folder / data)})
@@ -94,7 +95,8 @@ class Verbs(Case):
                          ["", "one\n", "one\ntwo\n", "\ntwo\n", "1\ntwo\n"])
         past = json.loads(self.note("history", "note", "--at", "2", "--json"))
         self.assertEqual([one["text"] for one in past["stretches"]], ["one\ntwo\n"])
-        for words in ["--at", "5"], ["--at", "-1"], []:
+        wrong: list[list[str]] = [["--at", "5"], ["--at", "-1"], []]
+        for words in wrong:
             self.note("history", "note", *words, status=2)
         self.assertIn("typed '1'", self.note("log", "note"))
 

@@ -363,7 +363,9 @@ class Groups(Case):
         ann.session.close()
         # All that it takes is what the log has.
         with contextlib.closing(self.person("bob").log()) as log:
-            form = About(False, raws_of(log)[0][2:18]).form()
+            first = raws_of(log)[0]
+            assert first
+            form = About(False, first[2:18]).form()
             forged = entry_of(form, last, [insertion(last.site, last.last + 1, 9, 4, b"forged ")], Author(last.author, b""))
             log.append([forged.raw])
         self.assert_comes_to(bob, b"forged one ")

@@ -6,7 +6,7 @@ from typing import Any
 PATIENCE = 120
 
 
-def wait_for(condition: Callable[[], Any], what: str, patience: float = PATIENCE) -> Any:
+def wait_for(condition: Callable[..., Any], what: str, patience: float = PATIENCE) -> Any:
     """The condition's value, as soon as it is a true one."""
     end = time.monotonic() + patience
     while not (value := condition()):

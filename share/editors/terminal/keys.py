@@ -16,10 +16,10 @@ _UNTYPED = re.compile("[\0-\x08\x0a-\x0c\x0e-\x1f\x7f-\x9f]")
 # A lone Esc is known by the silence after it. The rest of a sequence may come in a packet of its own.
 ESCAPE_SECONDS = 0.025
 SEQUENCE_SECONDS = 0.5
-# A paste has ended where nothing follows its end marker for so long: a marker in the pasted text is followed by
+# The silence after an end marker that ends a paste: a marker in the pasted text is followed by
 # more of it at once.
 PASTE_QUIET_SECONDS = 0.03
-# A paste whose end marker is lost has ended where it didn't grow for so long by more than one can type.
+# A paste whose end marker is lost ends when it hasn't grown for this time by more than one can type.
 PASTE_LOST_SECONDS = 5.0
 GROWTH = 256
 # No note holds a longer paste.

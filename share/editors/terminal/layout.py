@@ -24,7 +24,7 @@ PART_BYTES = 4_096
 # No character takes more bytes, so that a run of marks without an end is walked in pieces. It is a multiple of
 # a flag's size: a row of flags is parted into pairs from where this begins.
 CLUSTER_BYTES = 256
-# A word is looked for in so many bytes at a time.
+# The bytes in which a word is looked for at a time.
 STRETCH = 1_024
 # What marks are drawn over that have no character before them.
 BASE = "\u25cc"
@@ -153,7 +153,7 @@ class Layout:
         return self.row_at(row.begin - 1) if row.begin else None
 
     def moved(self, row: ScreenRow, count: int) -> ScreenRow:
-        """The row so many below another, or above it, or the last one on the way there."""
+        """The row some rows below another, or above it, or the last one on the way there."""
         step = self.before if count < 0 else self.after
         for _ in range(abs(count)):
             row = step(row) or row
@@ -164,7 +164,7 @@ class Layout:
         return not self._ends_line(row.end)
 
     def below(self, row: ScreenRow, height: int) -> list[ScreenRow]:
-        """A row and those below it, so many in all at most."""
+        """A row and those below it, as many as a height has."""
         rows = [row]
         while len(rows) < height and (next_row := self.after(rows[-1])):
             rows.append(next_row)

@@ -8,7 +8,7 @@ from share.editors.terminal.layout import clusters
 
 @dataclass
 class Prompt:
-    """A question, what is answered so far, and what is done with the answer; whether that needs no note."""
+    """A question, the answer as it is typed, and what is done with the answer; whether that needs no note."""
 
     question: str
     answer: str
@@ -37,7 +37,7 @@ class Prompts:
         return self._prompt is not None and self._prompt.needs_no_note
 
     def words(self) -> str:
-        """The question, with what is answered so far."""
+        """The question, with the answer as it is."""
         return f"{self._prompt.question}: {self._prompt.answer}" if self._prompt else ""
 
     def press(self, key: Event) -> None:

@@ -31,7 +31,7 @@ class Screen:
 
     @contextmanager
     def pastes(self) -> Iterator[None]:
-        """Has the terminal say what is pasted, as long as this is open."""
+        """The terminal marks what is pasted while this is open."""
         self.window.refresh()
         _send(PASTES_ON)
         try:
@@ -51,7 +51,7 @@ class Screen:
 
     def wake(self) -> None:
         """Ends the waiting, from any thread."""
-        # So many wait that one more says nothing, where the pipe is full.
+        # A full pipe wakes as it is.
         with suppress(BlockingIOError):
             os.write(self._waking, b"!")
 

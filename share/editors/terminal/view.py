@@ -25,7 +25,7 @@ class View:
         self.look()
 
     def scroll(self, rows: int) -> None:
-        """Has the screen begin some rows further down, or up."""
+        """Scrolls by some rows, down or up."""
         self._note.top = self.layout.moved(self.layout.row_at(self.top), rows).begin
         self.look()
 

@@ -15,7 +15,7 @@ CANT_TYPE = "You can't type yet: this editor has no number of its own, which it 
 
 
 class Work:
-    """Has the note do one thing after another; what fails ends the editing."""
+    """Runs the note's work, one thing after another; what fails ends the editing."""
 
     def __init__(self, note: EngineNote, status: Status, thread: Worker, screen: Screen, waiting: Waiting, view: View,
                  line: StatusLine):
@@ -26,7 +26,7 @@ class Work:
         self._waiting, self._view, self._line = waiting, view, line
 
     def do(self, work: Callable[[], Outcome]) -> Outcome | None:
-        """Has the note do something, and gives what that gives; None where it failed."""
+        """Runs work of the note's, and gives what that gives; None where it failed."""
         if self.failure:
             return None
         future = self._thread.do(work)
@@ -45,14 +45,14 @@ class Work:
         return None
 
     def edit(self, work: Callable[[], Outcome]) -> Outcome | None:
-        """Has the note make an edit, where one can be made."""
+        """Makes an edit, where one can be made."""
         if self.status.can_type:
             return self.do(work)
         self._line.say(CANT_TYPE)
         return None
 
     def take_in(self) -> None:
-        """Has the note take in what came from others."""
+        """Takes in what came from others."""
 
         def taken_in() -> None:
             self._note.take_in()

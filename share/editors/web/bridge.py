@@ -15,11 +15,11 @@ from share.text.line import PIECE, Assembler, Line
 # What a page may ask for. It names no file: who has the secret alone is to reach this note and nothing else.
 REQUESTS = {"open", "edit", "undo", "redo", "looks", "cursor", "seen", "text", "on", "who", "history", "past", "close"}
 NO_FIELDS = {"path", "replace", "link", "log", "url"}
-# A page's messages have so many bytes at most, so that who hasn't said the secret can't fill the memory.
+# The most bytes of a page's message, so that who hasn't said the secret can't fill the memory.
 MOST_MESSAGE = 1 << 18
 # What the engine's command says at its end, and how much of that a WebSocket's last words may be.
 MOST_STDERR, MOST_REASON = 4_096, 120
-# An engine's command that doesn't end by itself is ended after so long.
+# How long an engine's command may take to end by itself, before it is killed.
 END_SECONDS = 5
 
 
@@ -71,7 +71,7 @@ class Bridge:
         await self._close()
 
     async def _end_engine(self) -> None:
-        """Has the engine's command hand on what it has, and end."""
+        """Ends the engine's command, after it has handed on what it has."""
         assert self._engine.stdin
         self._engine.stdin.close()
         try:

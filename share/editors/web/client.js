@@ -1,13 +1,13 @@
 // What the protocol of docs/ENGINE.md asks of an editor, without a page: two numbers, and what is done with which lines.
 
-// Who has typed for so long without all being answered keeps keys until it is, for so long at most.
+// After typing this long without all being answered, keys are kept until it is; and for how long at most.
 const BUSY_MS = 500;
 export const PATIENCE_MS = 200;
-// While so many edits are unanswered, further changes become one.
+// From this number of unanswered edits on, further changes become one.
 const UNANSWERED = 10;
 // An edit that has more changes is sent as several, which are taken back as one.
 const MOST_CHANGES = 10_000;
-// An editor that only reads says after so many notices which one it has.
+// The notices after which an editor that only reads says which version it has.
 const NOTICES = 100;
 
 /** A text after changes, each of which counts in the text that those before it leave. */

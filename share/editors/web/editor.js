@@ -33,7 +33,7 @@ export function paste(cm, event) {
 }
 
 export class Editor {
-  // What the user's command has changed so far.
+  // What the user's command has changed until now.
   #gathered = [];
   #isOwn = true;
   #places;

@@ -9,7 +9,7 @@ ASKED = struct.Struct("=IHHIIBBBBI")
 ENDPOINTS, REST = struct.Struct(">HH16s16s"), struct.Struct("=III")
 KIND, ACCOUNT_AT = struct.Struct("=IH"), 80
 ANSWER_BYTES, KERNEL_SECONDS = 4_096, 1.0
-# So many may wait to be accepted, and are looked at in a row.
+# How many connections may wait to be accepted, and are looked at in a row.
 BACKLOG = 64
 ROOT = 0
 

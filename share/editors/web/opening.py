@@ -47,7 +47,7 @@ def redirect(name: str, port: int, secret: str) -> Iterator[pathlib.Path]:
 
 
 def opens_a_browser(path: pathlib.Path) -> bool:
-    """Has the user's browser open a file; whether there is one."""
+    """Opens a file in the user's browser; whether there is one."""
     if not any(os.environ.get(variable) for variable in WINDOWS) and sys.platform != "darwin":
         return False
     with contextlib.suppress(webbrowser.Error, OSError):

@@ -25,7 +25,7 @@ LIBRARY = ["lib/codemirror.js", "lib/codemirror.css", "addon/dialog/dialog.js", 
 TYPES = {".html": "text/html", ".js": "text/javascript", ".css": "text/css"}
 SOCKET = "/socket"
 Handler = Callable[[web.Request], Awaitable[web.StreamResponse]]
-# Who connects has so long to say the secret, and so many may be about to; one more takes the place of the first of them.
+# The time to say the secret after connecting, and the most who may be about to; one more takes the place of the first of them.
 SECRET_SECONDS, MOST_STRANGERS = 10, 16
 
 

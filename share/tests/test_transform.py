@@ -3,37 +3,38 @@ import itertools
 import random
 import unittest
 from collections import deque
+from collections.abc import Iterable
 from unittest import mock
 
-from share.editors.mirror import Mirror
+from share.editors.mirror import Mirror, TextChange
 from share.engine import transform
 from share.engine.protocol import Wrong
 from share.engine.transform import Transformer
-from share.program.undo import united, without
 from share.text import rope
 from share.text.change import Change, boundary
-from share.text.delta import composed, growth, in_text, in_turn, moved, of_changes, transformed
+from share.text.delta import Op, Replacement, composed, growth, in_text, in_turn, moved, of_changes, transformed
 from share.text.line import Line
-from share.text.names import Names
+from share.text.names import Names, united, without
 from share.text.rope import Measured, Outside, Split, shown, swapped
 from share.text.units import UNITS, Units
 
 LETTERS = "ab\n\ré漢🎉\ufffd"
 
 
-def random_changes(text: str, chance: random.Random, units: Units) -> tuple[list, str]:
+def random_changes(text: str, chance: random.Random, units: Units) -> tuple[list[TextChange], str]:
     """Some replacements, each in the text that those before it leave, in units; the text then."""
-    found = []
+    found = list[TextChange]()
     for _ in range(chance.choice((1, 1, 1, 2, 4))):
         begin = chance.randrange(len(text) + 1)
         end = min(len(text), begin + chance.choice((0, 0, 1, 3)))
         new = "".join(chance.choices(LETTERS, k=chance.choice((0, 1, 2))))
-        found.append((*(units.count(units.encode(text[:place])) for place in (begin, end)), new))
+        first, last = (units.count(units.encode(text[:place])) for place in (begin, end))
+        found.append((first, last, new))
         text = text[:begin] + new + text[end:]
     return found, text
 
 
-def after(text: str, op: list, units: Units) -> str:
+def after(text: str, op: Op, units: Units) -> str:
     """A text after an op."""
     data = bytearray(units.encode(text))
     for begin, end, new in in_turn(op, units):
@@ -115,7 +116,7 @@ class Crossing(unittest.TestCase):
         peer.to_editor.append({"answer": "edit", "edits": carry.edits})
 
     @staticmethod
-    def in_units(text: str, changes: list, units: Units, others: Units) -> list:
+    def in_units(text: str, changes: list[Replacement], units: Units, others: Units) -> list[Replacement]:
         """Replacements by a text before them all, in other units, each in the text that those before it leave."""
         data, found, shift = units.encode(text), [], 0
         for begin, end, new in changes:
@@ -151,11 +152,12 @@ class Crossing(unittest.TestCase):
             self.assertEqual(both, after(two, over, units))
             self.assertEqual(after(text, composed(first, under, units), units), both)
             end = units.count(units.encode(text))
-            self.assertEqual(moved(end, second, units) - end,
-                             growth(second, units) - (units.count(second[-1]) if self.is_at_end(second, end) else 0))
+            last = second[-1] if self.is_at_end(second, end) else b""
+            assert isinstance(last, bytes)
+            self.assertEqual(moved(end, second, units) - end, growth(second, units) - units.count(last))
 
     @staticmethod
-    def is_at_end(op: list, end: int) -> bool:
+    def is_at_end(op: Op, end: int) -> bool:
         """Whether the last part of an op comes in just at a text's end, with nothing deleted before it."""
         at = sum(abs(part) for part in op if isinstance(part, int))
         return bool(op) and isinstance(op[-1], bytes) and at == end
@@ -214,7 +216,7 @@ class Parts(unittest.TestCase):
                     text.place(position, units)
 
     @staticmethod
-    def one_by_one(names) -> list[tuple[int, int]]:
+    def one_by_one(names: Iterable[Names]) -> list[tuple[int, int]]:
         """Names without stretches."""
         return [(one.site, one.at + number) for one in names for number in range(one.length)]
 

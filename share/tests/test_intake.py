@@ -18,6 +18,7 @@ from share.tests.editors import Engines
 from share.tests.naive import about, inserting
 from share.tests.support import Case, edit_at_random, wait_for, written
 from share.tests.test_chunks import line_of
+from share.text.change import Change
 from share.text.errors import Trouble
 
 EDITS, SOME, FEW = 60, 60, 3
@@ -100,6 +101,7 @@ class Parts(unittest.TestCase):
         while coming:
             told = other.take_some(coming, 0.0)
             for change in told:
+                assert isinstance(change, Change)
                 text[change.begin:change.end] = change.new
             turns += 1
         self.assertGreater(turns, 3)

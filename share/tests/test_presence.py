@@ -4,6 +4,7 @@ import pathlib
 import secrets
 import time
 import unittest
+from collections.abc import Sequence
 from unittest import mock
 
 from share.format import heartbeat, presence
@@ -26,6 +27,13 @@ LACK = Lack(Way.IT, bytes(range(32)))
 def said(number: int, asks: int, *lacks: Lack, token: bytes = OTHER) -> bytes:
     """What a replicator says."""
     return heartbeat.written(Said(token, number, asks, lacks))
+
+
+def present(data: bytes) -> presence.Present:
+    """Who is on, as it was said."""
+    found = presence.read(data)
+    assert found
+    return found
 
 
 class Words(unittest.TestCase):
@@ -60,7 +68,8 @@ class Words(unittest.TestCase):
         self.assertEqual(others.heard([said(3, 2, LACK)]), ([], False))
         self.assertEqual(others.heard([said(4, 2, LACK), said(1, 1, token=ME)]), ([], False))
         self.assertEqual(others.heard([said(5, 3, LACK), said(3, 2, LACK)]), ([LACK], False))
-        for again in [said(5, 3, LACK)], [said(3, 2, LACK)], [], [said(4, 4, LACK)], [said(5, 3, LACK)] * 3:
+        repeated: list[list[bytes]] = [[said(5, 3, LACK)], [said(3, 2, LACK)], [], [said(4, 4, LACK)], [said(5, 3, LACK)] * 3]
+        for again in repeated:
             self.assertEqual(others.heard(again), ([], False))
 
     def test_who_says_nothing_new_is_off(self) -> None:
@@ -99,7 +108,7 @@ class Words(unittest.TestCase):
         # A version of before has a token that doesn't end so, and no count.
         older = one[:8] + bytes(range(1, 9)) + one[16:]
         self.assertEqual([shows.heard([older]), shows.heard([]), shows.heard([older])], [[older], [], [older]])
-        self.assertEqual(presence.read(presence.counted(one, 2**32 - 1))._replace(engine=OTHER), presence.read(one))
+        self.assertEqual(present(presence.counted(one, 2**32 - 1))._replace(engine=OTHER), presence.read(one))
 
 
 class OnAServer(Case):
@@ -170,7 +179,7 @@ class OnAServer(Case):
         written(self.ann, "two ")
         last, before = self.ann.session.last(), replicator.reading()
 
-        def appended(log: RedisLog, raws) -> None:
+        def appended(log: RedisLog, raws: Sequence[bytes]) -> None:
             given.append([*raws])
             append(log, raws)
 
@@ -191,7 +200,7 @@ class OnAServer(Case):
             self.ann.session.show({b"ann": presence.written(Present(self.ann.session.token(), bytes(16), 7, "#000000", None,
                                                                     None, "Ann"))})
             bob.session.show({token: data})
-            wait_for(lambda at=at: [presence.read(one).cursor for one in self.ann.session._replicator.shown()
+            wait_for(lambda at=at: [present(one).cursor for one in self.ann.session._replicator.shown()
                                     ] == [(1, at)], "the cursor to be shown", SOON)
             with contextlib.closing(self.person("ann").log()) as log:
                 raws += [raw for raw in log.meet(b"me", b"") if (found := self.form.present(raw))
@@ -199,7 +208,7 @@ class OnAServer(Case):
         for under, raw in zip((b"a", b"z"), raws):
             self.puts(under, raw)
         self.hears(Presence)
-        self.assertEqual([presence.read(one).cursor for one in self.ann.session._replicator.shown()], [(1, 2)])
+        self.assertEqual([present(one).cursor for one in self.ann.session._replicator.shown()], [(1, 2)])
         bob.session.show({})
         wait_for(lambda: not self.ann.session._replicator.shown(), "the cursor to be gone", SOON)
         for under, raw in zip((b"a", b"z"), raws):

@@ -11,7 +11,7 @@ from collections.abc import Callable, Iterable, Sequence
 from functools import partial
 from itertools import chain as chained
 from itertools import permutations
-from typing import NamedTuple
+from typing import Any, NamedTuple
 
 from hypothesis import HealthCheck, given, settings
 from hypothesis import strategies as st
@@ -322,7 +322,7 @@ class Taker:
 class Follower:
     """One who hands entries to a judge, and has a replica take in what counts."""
 
-    def __init__(self, case: unittest.TestCase, prefers: Rank = rank, replica: Callable = naive.Replica):
+    def __init__(self, case: unittest.TestCase, prefers: Rank = rank, replica: Callable[..., Any] = naive.Replica):
         self.case, self.judge, self._new = case, Judge(prefers=prefers), replica
         self.replica = replica()
         self.through: list[Operation] = []
@@ -356,7 +356,7 @@ class Follower:
                 found.add(entry.hash)
         return found
 
-    def agrees(self, prefers: Callable[[Entry], tuple] = naive.rank) -> None:
+    def agrees(self, prefers: Callable[[Entry], tuple[Any, ...]] = naive.rank) -> None:
         """That all that the judge says is as the rules have it."""
         answer, judge, case = naive.judged(self.came, prefers), self.judge, self.case
         case.assertEqual(self.chains(), {entry.hash for chain in answer.chains.values() for entry in chain})
@@ -626,7 +626,8 @@ class MadeAnew(unittest.TestCase):
         said, by = FORM.made_anew(self.more, self.second), self.all[-1]
         copied = Copied(self.second.name, 2, self.third.name, 3, ((2, 1, 1),), by.hash)
         copies = FORM.copies(copied, self.second, 2, self.more.hash)
-        for words, told in ([], [(1, 2)]), ([said], []), ([said, copies], [(1, 1)]):
+        said_and_told: list[tuple[list[Entry], list[tuple[int, int]]]] = [([], [(1, 2)]), ([said], []), ([said, copies], [(1, 1)])]
+        for words, told in said_and_told:
             follower = Follower(self)
             for entry in [*self.all, claim, *words]:
                 follower.add(entry)

@@ -41,7 +41,7 @@ class InAFile(Case):
         berta = self.opened(self.person("berta"), link=anna.link())
         self.assertEqual(self.assert_meet(again, berta), b"begun first second ")
 
-    def lost(self, lose) -> None:
+    def lost(self, lose: Callable[[], object]) -> None:
         """That three go on, and fill the log again, when it is lost while two are on and one is off."""
         notes = self.together(str(self.path), "anna", "berta", "carla")
         for note, words in zip(notes, ("anna ", "berta ", "carla ")):
@@ -155,7 +155,7 @@ class OwnFile(Case):
                 first, second = person.open(), person.open()
                 first.type("first ")
                 wait_for(lambda: (second.take_in(), second.text == b"first ")[1], "the second one to see it")
-                lose()
+                lose()  # type: ignore[operator]
                 first.type("lost? ")
                 self.assertEqual(first.text, b"first lost? ", first.notice)
                 type_at_the_end(second, "second")
@@ -270,7 +270,7 @@ class SpoiltWhileOpen(Engines):
         self.damaged_again_and_again(url=self.file_log())
 
     def test_an_index_that_is_cut_off_costs_nothing_that_was_answered(self) -> None:
-        for more in {}, {"url": self.file_log()}:
+        for more in dict[str, str](), {"url": self.file_log()}:
             data = f"data{len(more)}"
             editor = self.begun(data, **more)
             assert editor.mirror

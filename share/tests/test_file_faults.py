@@ -5,13 +5,16 @@ import pathlib
 import shutil
 import subprocess
 import time
+from typing import Any
 from unittest import mock
 
 from share.admission.chains import rank
-from share.program.site import MOST_BYTES, Edited, Site, Told
+from share.format.operation import MOST_INSERTED
+from share.program.site import Edited, Site, Told
+from share.store.entries import Entries
 from share.store.guarded import Unkept
 from share.store.note_file import Disk, make_note
-from share.store.own import Anew, Overtaken
+from share.store.own import Anew, Client, Overtaken, OwnTables
 from share.sync.open_file import OpenFile
 from share.sync.session import Session
 from share.tests import test_numbers
@@ -53,8 +56,10 @@ class UnderSeveral(Case):
             runs = [subprocess.Popen([python(), "-B", "-c", TYPES, tag], cwd=TOP, stdin=subprocess.PIPE,
                                      stdout=subprocess.PIPE, text=True) for tag in "abc"]
         for run in runs:
+            assert run.stdout and run.stdin
             self.assertEqual(run.stdout.readline(), "open\n")
         for run in runs:
+            assert run.stdin
             run.stdin.write("\n")
             run.stdin.flush()
         time.sleep(0.4)
@@ -89,9 +94,9 @@ class UnderSeveral(Case):
     def test_one_opens_as_the_other_claims(self) -> None:
         person = self.person()
         first = self.opened(person)
-        keep, opened = Disk.keep, []
+        keep, opened = Disk.keep, list[Any]()
 
-        def kept(disk: Disk, *words: object, **more: object) -> int:
+        def kept(disk: Disk, *words: Any, **more: Any) -> int:
             place = keep(disk, *words, **more)
             if more.get("client") and not opened:
                 opened.append(None)
@@ -168,7 +173,7 @@ class GivenUp(Case):
         words = self.assert_meet(first, late).split()
         self.assertEqual([words.count(one) for one in (b"one", b"two", b"three")], [1, 1, 1])
 
-    def clients(self, note: Note) -> list:
+    def clients(self, note: Note) -> list[Client]:
         """The numbers of who has a note open."""
         with contextlib.closing(Disk(note.session._file.disk.path)) as disk:
             return disk.own.clients()
@@ -176,12 +181,12 @@ class GivenUp(Case):
     def test_what_another_editor_made_anew_isnt_kept_twice(self) -> None:
         for person in self.forked() and (self.anna, self.person("copied")):
             with contextlib.closing(person.disk()) as disk:
-                for one in disk._file.execute("SELECT * FROM anew").fetchall():
+                for one in disk._file.sql.execute("SELECT * FROM anew").fetchall():
                     with self.assertRaises(Overtaken):
                         disk.keep([], True, anew=[Anew(*one)])
 
     def test_a_disk_that_is_full_between_two_steps(self) -> None:
-        for number, step in enumerate(("withdraw", "stands", "keep")):
+        for number, step in enumerate(((Entries, "withdraw"), (OwnTables, "stands"), (Disk, "keep"))):
             with self.subTest(step=step):
                 if number:
                     self.doCleanups()
@@ -193,7 +198,7 @@ class GivenUp(Case):
                     wait_for(lambda one=note: one.session.status().offline, "the log to be away")
                     type_at_the_end(note, words)
                 with mock.patch("share.sync.rebasing.REBASE_AGAIN_SECONDS", 0.3):
-                    with mock.patch.object(Disk, step, side_effect=Unkept("full")):
+                    with mock.patch.object(*step, side_effect=Unkept("full")):
                         self.back()
                         end = time.monotonic() + 1.2
                         while time.monotonic() < end:
@@ -216,7 +221,7 @@ class GivenUp(Case):
             sessions.append(session)
             return arrived(session)
 
-        def slowly(file: OpenFile) -> list:
+        def slowly(file: OpenFile) -> Any:
             rows = read(file)
             if sessions:
                 wait_for(sessions[0]._replicator.has_read, "the log to be read")
@@ -271,14 +276,14 @@ class Failing(Case):
         written(note, "one ")
         calls = []
 
-        def edit(site: Site, *words: int | bytes) -> Edited:
+        def edit(site: Site, *words: Any) -> Edited:
             calls.append(words)
             if len(calls) == 3:
                 raise Trouble("The program ended, was started again and ended again.")
             return real(site, *words)
 
         with mock.patch.object(Site, "_edit", edit):
-            note.type("x" * 3 * MOST_BYTES)
+            note.type("x" * 3 * MOST_INSERTED)
         self.assertIn("ended again", note.notice)
         self.assertEqual((bytes(note.text), note.session.text()), (b"one ", b"one "))
         written(note, "two ")
