@@ -1,6 +1,7 @@
 """Runs the linters, each over the files that are its own."""
 from __future__ import annotations
 
+import hashlib
 import importlib.util
 import os
 import shutil
@@ -70,8 +71,9 @@ def is_python(path: Path) -> bool:
 
 
 def cache() -> Path:
-    """Where mypy keeps what it knows, outside the tree."""
-    return Path(os.environ.get("XDG_CACHE_HOME") or Path.home() / ".cache") / "vialshoal" / "mypy"
+    """Where mypy keeps what it knows, outside the tree: each copy of the repository has a cache of its own."""
+    home = Path(os.environ.get("XDG_CACHE_HOME") or Path.home() / ".cache")
+    return home / "vialshoal" / f"mypy-{hashlib.sha256(bytes(TOP)).hexdigest()[:8]}"
 
 
 def steps() -> Iterator[Step]:
