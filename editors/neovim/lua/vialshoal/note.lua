@@ -269,7 +269,7 @@ function Note:before_key()
     end
   end
   -- As Vim's own undo would: a key that is typed in normal mode begins anew, one of a macro or an insertion doesn't.
-  if vim.fn.undotree().synced == 1 then
+  if vim.fn.undotree().synced == 1 and not self:is_held() then
     self:begin_unit()
   end
 end
