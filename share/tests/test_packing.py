@@ -50,7 +50,7 @@ def keeps(site):
     fronts = keep(site)
     return dies() if point == "written" else fronts
 
-def notes(*words):
+def noted_then_dies(*words):
     if point == "transaction":
         with words[0]._words(), words[0]._transaction():
             words[0]._file.execute("INSERT OR REPLACE INTO packed VALUES (?, x'00', x'00')", words[1:2])
@@ -59,7 +59,7 @@ def notes(*words):
     dies()
 
 snapshot.AT_END = 1
-Site.keep, Disk.note_packed, Program.ask = keeps, notes, asks
+Site.keep, Disk.note_packed, Program.ask = keeps, noted_then_dies, asks
 note = Note(Session(notes.opened("note", None, None)))
 note.moved_to(len(note.text))
 note.type(f"{point} ")
@@ -274,8 +274,8 @@ class Packing(Case):
 
     def test_it_is_written_while_much_comes(self) -> None:
         note = self.opened(self.ann)
-        with mock.patch.object(snapshot, "MANY", 3), mock.patch.object(Site, "keep", autospec=True,
-                                                                     side_effect=Site.keep) as kept:
+        with mock.patch.object(snapshot, "MANY", 3), mock.patch.object(
+                Site, "keep", autospec=True, side_effect=Site.keep) as kept:
             for number in range(6):
                 type_at_the_end(note, str(number))
                 note.take_in()
