@@ -17,6 +17,9 @@
 ;;
 ;; All is kept as it is typed.  The mode line says whether others have it.
 ;;
+;; While a command that asks holds places, as `M-%' does, others' text waits.
+;; Bookmarks, desktops and, as "/vialshoal:NAME", recent files open notes again.
+;;
 ;; An engine, the program `note', has the note open; docs/ENGINE.md has the
 ;; lines that are said to it and by it.  Text and names come from other
 ;; people: they are shown, and nothing in them is obeyed.
@@ -1146,11 +1149,10 @@ The signal that ends Emacs may keep it from hearing that a process has."
 (defun vialshoal--bookmark ()
   "Return a bookmark of this place.
 It has no text beside it, which the file of bookmarks would have then."
-  (vialshoal--in-note
-    `(,(format "note %s" vialshoal--note)
-      ,@(bookmark-make-record-default t t)
-      (vialshoal-note . ,vialshoal--note)
-      (handler . vialshoal-bookmark-jump))))
+  `(,(format "note %s" vialshoal--note)
+    ,@(bookmark-make-record-default t t)
+    (vialshoal-note . ,vialshoal--note)
+    (handler . vialshoal-bookmark-jump)))
 
 ;;;###autoload
 (defun vialshoal-bookmark-jump (bookmark)

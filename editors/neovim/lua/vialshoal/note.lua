@@ -40,6 +40,7 @@ end
 function Note:opened(line)
   self.version, self.made, self.answered = line.version, line.edits, line.edits
   self.changes, self.waiting, self.place, self.is_lost, self.is_open = {}, {}, nil, false, true
+  self.told_version = nil
   if self:size() == 0 then
     self:fill(line.text)
   else
