@@ -9,6 +9,7 @@
 
 (require 'bookmark)
 (require 'desktop)
+(require 'flyspell)
 (require 'recentf)
 (require 'vialshoal-terminal)
 
@@ -84,19 +85,28 @@ done
 "
   "A program that knows one word that is misspelled.")
 
+(defun vialshoal-habits--speller ()
+  "Return the path of that program."
+  (let ((path (expand-file-name "speller" vialshoal-engine--folder)))
+    (write-region vialshoal-habits--speller nil path)
+    (set-file-modes path #o700)
+    path))
+
+(defconst vialshoal-habits--dictionary
+  '("none" "[[:alpha:]]" "[^[:alpha:]]" "" nil nil nil utf-8)
+  "What it needs to be told.")
+
 (ert-deftest vialshoal-habits-a-word-is-corrected-where-it-was ()
   (vialshoal-engine-with-folder
     (let ((log (expand-file-name "shared/note.log" vialshoal-engine--folder))
-          (speller (expand-file-name "speller" vialshoal-engine--folder)))
-      (write-region vialshoal-habits--speller nil speller)
-      (set-file-modes speller #o700)
+          (speller (vialshoal-habits--speller)))
       (vialshoal-terminal-with "Ada" (log)
         (let ((bo (vialshoal-engine--open
                    "Bo" nil (vialshoal-engine--link "Ada"))))
           (vialshoal-terminal--eval
            `(setq ispell-program-name ,speller ispell-dictionary "none"
                   ispell-local-dictionary-alist
-                  '(("none" "[[:alpha:]]" "[^[:alpha:]]" "" nil nil nil utf-8))))
+                  '(,vialshoal-habits--dictionary)))
           (vialshoal-terminal--type child "a b c teh d\r\e<\C-f\C-f\C-f\C-f\C-f\C-f")
           (vialshoal-engine--shows bo "a b c teh d\n")
           (vialshoal-terminal--type child "\e$")
@@ -110,6 +120,32 @@ done
           (vialshoal-terminal--has-heard "A line.")
           (vialshoal-terminal--type child "0")
           (vialshoal-engine--shows bo "A line.\na b c the d\n"))))))
+
+(ert-deftest vialshoal-habits-flyspell-corrects-the-word-that-was-asked-for ()
+  (vialshoal-engine-with-folder
+    (pcase-let* ((`(,ada ,bo) (vialshoal-engine--two))
+                 (ispell-program-name (vialshoal-habits--speller))
+                 (ispell-dictionary "none")
+                 (ispell-local-dictionary-alist
+                  (list vialshoal-habits--dictionary)))
+      (vialshoal-engine--type ada "a b c teh d")
+      (vialshoal-engine--shows bo "a b c teh d")
+      (cl-letf (((symbol-function 'flyspell-emacs-popup)
+                 (lambda (&rest _)
+                   (with-current-buffer bo
+                     (goto-char 1)
+                     (vialshoal-engine--command #'insert "A line.\n"))
+                   (vialshoal-engine--wait
+                    (lambda ()
+                      (with-current-buffer ada
+                        (or vialshoal--lines
+                            (string-prefix-p "A line" (buffer-string))))))
+                   "the")))
+        (with-current-buffer ada
+          (goto-char 8)
+          (vialshoal-engine--command #'flyspell-correct-word-before-point)))
+      (ispell-kill-ispell t)
+      (vialshoal-engine--shows bo "A line.\na b c the d"))))
 
 (defconst vialshoal-habits--forgetful
   "import sys
