@@ -17,6 +17,9 @@
 ;;
 ;; All is kept as it is typed.  The mode line says whether others have it.
 ;;
+;; While a command that asks holds places, as `M-%' does, others' text waits.
+;; Bookmarks, desktops and, as "/vialshoal:NAME", recent files open notes again.
+;;
 ;; An engine, the program `note', has the note open; docs/ENGINE.md has the
 ;; lines that are said to it and by it.  Text and names come from other
 ;; people: they are shown, and nothing in them is obeyed.
@@ -42,8 +45,12 @@
   "The program that has notes open, and arguments to come first."
   :type '(repeat string))
 
-(defcustom vialshoal-name (user-full-name)
-  "The name by which others see you."
+(defcustom vialshoal-name
+  (let ((name (getenv "VIALSHOAL_NAME")))
+    (if (member name '(nil "")) (user-full-name) name))
+  "The name by which others see you.
+If it isn't set, it is that of the environment variable VIALSHOAL_NAME,
+or else your account's full name."
   :type 'string)
 
 (defcustom vialshoal-colour nil
@@ -104,6 +111,8 @@ are made with no hook called.")
   "The last notice `state'.")
 (vialshoal--defvar vialshoal--words nil
   "What the engine said last for the user.")
+(vialshoal--defvar vialshoal--beside nil
+  "The buffer that has the text that gave way to another one, if any.")
 (vialshoal--defvar vialshoal--asked 0
   "How many requests had a number.")
 (vialshoal--defvar vialshoal--waiting nil
@@ -128,6 +137,13 @@ are made with no hook called.")
   "Whether a line is being looked at.")
 (vialshoal--defvar vialshoal--holds 0
   "How many commands hold places of this buffer as numbers.")
+(vialshoal--defvar vialshoal--has-told-version nil
+  "Whether the engine was told which version is here while lines wait.")
+(vialshoal--defvar vialshoal--joins nil
+  "Whether the next edit is undone with the one before it.
+What a command does that holds places is one edit.")
+(vialshoal--defvar vialshoal--wanted-place nil
+  "Where point is to be once the note is open.")
 
 (defvar vialshoal--applying nil
   "The buffer that is being changed as the engine says.")
@@ -138,8 +154,18 @@ are made with no hook called.")
 (defconst vialshoal--end-patience 10
   "Emacs's end waits for engines that have to read yet so long at most.")
 
+(defconst vialshoal--seen-every 100
+  "After so many notices the engine is told what was seen.")
+
 (defconst vialshoal--most-text 1000000
   "An edit has so many characters at most, so that its line isn't too long.")
+
+(defmacro vialshoal--in-note (&rest body)
+  "Run BODY in the note's buffer, where this one is an indirect one of it.
+An indirect buffer has copies of all variables, which go stale."
+  (declare (indent 0) (debug t))
+  `(with-current-buffer (or (buffer-base-buffer) (current-buffer))
+     ,@body))
 
 (defmacro vialshoal--by-engine (&rest body)
   "Run BODY to alter the whole buffer's text for the engine.
@@ -201,12 +227,13 @@ no edit of the user's: the region stays, and undo knows nothing of it."
 
 (defun vialshoal--ask (then &rest line)
   "Send the engine LINE, and call THEN with its answer."
-  (unless vialshoal--is-open
-    (user-error "This note isn't open"))
-  (vialshoal--flush)
-  (cl-incf vialshoal--asked)
-  (push (cons vialshoal--asked then) vialshoal--waiting)
-  (apply #'vialshoal--send :id vialshoal--asked line))
+  (vialshoal--in-note
+    (unless vialshoal--is-open
+      (user-error "This note isn't open"))
+    (vialshoal--flush)
+    (cl-incf vialshoal--asked)
+    (push (cons vialshoal--asked then) vialshoal--waiting)
+    (apply #'vialshoal--send :id vialshoal--asked line)))
 
 (defun vialshoal--read (line)
   "Parse LINE into a property list."
@@ -258,7 +285,10 @@ no edit of the user's: the region stays, and undo knows nothing of it."
       (setq vialshoal--piece nil
             begin (1+ end)))
     (push (substring output begin) vialshoal--piece)
-    (setq vialshoal--lines (nconc vialshoal--lines (nreverse lines)))))
+    (setq lines (nreverse lines))
+    (unless (zerop vialshoal--holds)
+      (setq lines (cl-delete-if #'vialshoal--take-ahead lines)))
+    (setq vialshoal--lines (nconc vialshoal--lines lines))))
 
 (defun vialshoal--take-lines ()
   "Look at the lines that came, in their order.
@@ -269,7 +299,26 @@ while a command holds places as numbers."
     (unwind-protect
         (while (and vialshoal--lines (zerop vialshoal--holds))
           (vialshoal--take-line (pop vialshoal--lines)))
-      (setq vialshoal--is-taking nil))))
+      (setq vialshoal--is-taking nil)))
+  (unless (zerop vialshoal--holds)
+    (vialshoal--tell-version)))
+
+(defun vialshoal--take-ahead (line)
+  "Take in LINE ahead of those that wait, if it answers an edit.
+So what a command does is sent, and kept, while it goes on."
+  (let ((line (ignore-errors (vialshoal--read line))))
+    (when (and (equal (plist-get line :answer) "edit")
+               (not (plist-get line :error)))
+      (vialshoal--take-answer line)
+      t)))
+
+(defun vialshoal--tell-version ()
+  "Tell the engine which version is here where many lines wait.
+From then on it keeps what is needed to carry edits over from there."
+  (when (and (not vialshoal--has-told-version)
+             (nthcdr vialshoal--seen-every vialshoal--lines))
+    (setq vialshoal--has-told-version t)
+    (vialshoal--send :do "seen" :version vialshoal--version)))
 
 (defun vialshoal--take-line (line)
   "Obey LINE, as it came."
@@ -293,11 +342,14 @@ while a command holds places as numbers."
                     (plist-get line :edits)))
         (then (alist-get (plist-get line :id) vialshoal--waiting)))
     (when (plist-get line :error)
-      (vialshoal--say (plist-get line :words))
+      (vialshoal--say (concat (plist-get line :words)
+                              (vialshoal--beside-words)))
       (unless (or (plist-get line :edits) (plist-get line :id))
         (vialshoal--send :do "text" :edits vialshoal--made)))
     (when edits
       (setq vialshoal--answered edits)
+      (unless (plist-get line :error)
+        (setq vialshoal--beside nil))
       (when (= edits vialshoal--made)
         (restore-buffer-modified-p nil)))
     (when then
@@ -308,11 +360,14 @@ while a command holds places as numbers."
 
 (defun vialshoal--after-change (beg end length)
   "Gather a change: LENGTH characters gave way to those from BEG to END."
-  (unless (or (eq vialshoal--applying (current-buffer))
-              (not vialshoal--is-open))
-    (vialshoal--gather beg end length)
-    (vialshoal--soon))
-  (setq vialshoal--tick (buffer-chars-modified-tick)))
+  (vialshoal--in-note
+    (unless (or (eq vialshoal--applying (current-buffer))
+                (not vialshoal--is-open))
+      (save-restriction
+        (widen)
+        (vialshoal--gather beg end length))
+      (vialshoal--soon))
+    (setq vialshoal--tick (buffer-chars-modified-tick))))
 (put 'vialshoal--after-change 'permanent-local-hook t)
 
 (defun vialshoal--gather (beg end length)
@@ -415,8 +470,10 @@ others see them do."
 (defun vialshoal--flush-command ()
   "Send what a command has changed, unless many edits are unanswered.
 Then it is sent with what follows, before the next line is looked at."
-  (when (< (- vialshoal--made vialshoal--answered) vialshoal--most-unanswered)
-    (vialshoal--flush)))
+  (vialshoal--in-note
+    (when (< (- vialshoal--made vialshoal--answered)
+             vialshoal--most-unanswered)
+      (vialshoal--flush))))
 
 (defun vialshoal--flush ()
   "Send what was gathered, as one edit; in parts where that is much."
@@ -433,7 +490,10 @@ Then it is sent with what follows, before the next line is looked at."
               vialshoal--made (+ made (length edits)))
         (dolist (edit edits)
           (vialshoal--send-edit (cl-incf made) edit
-                                (not (eq edit (car edits)))))))))
+                                (or (eq vialshoal--joins t)
+                                    (not (eq edit (car edits))))))
+        (when vialshoal--joins
+          (setq vialshoal--joins t))))))
 
 (defun vialshoal--in-edits (list)
   "Split LIST into lists that are an edit each.
@@ -466,7 +526,8 @@ It is undone with the one before where JOINS."
   "Send what BUFFER has to send."
   (when (buffer-live-p buffer)
     (with-current-buffer buffer
-      (setq vialshoal--timer nil)
+      (vialshoal--in-note
+        (setq vialshoal--timer nil))
       (vialshoal--flush-command)
       (vialshoal--tell-place))))
 
@@ -500,12 +561,15 @@ Half a second without all edits answered is how a macro types."
 (defun vialshoal--pre-command ()
   "Let others' text in before a command, where it was held back too long."
   (vialshoal--flush-command)
-  (when (vialshoal--is-behind)
-    (vialshoal--catch-up)))
+  (vialshoal--in-note
+    (when (vialshoal--is-behind)
+      (vialshoal--catch-up))))
 (put 'vialshoal--pre-command 'permanent-local-hook t)
 
 (defun vialshoal--post-command ()
   "Send what a command has changed, and where point is."
+  (when (and vialshoal--overlays (buffer-base-buffer))
+    (vialshoal--cloned))
   (vialshoal--flush-command)
   (vialshoal--tell-place))
 (put 'vialshoal--post-command 'permanent-local-hook t)
@@ -513,44 +577,73 @@ Half a second without all edits answered is how a macro types."
 ;;;; Commands that hold places as numbers
 
 (defconst vialshoal--holding
-  '(perform-replace ispell-region ispell-word flyspell-correct-word
-    flyspell-correct-word-before-point)
+  '(perform-replace
+    ispell-region ispell-word ispell-complete-word
+    flyspell-correct-word flyspell-correct-word-before-point
+    flyspell-correct-at-point flyspell-correct-wrapper)
   "Commands that look for places, ask, and change what is at the numbers.")
 
 (defun vialshoal--hold (command &rest arguments)
   "Call COMMAND with ARGUMENTS; what others type comes in after it.
 The engine carries over what the command did, as all that was typed
 before others' text came in."
-  (if (not vialshoal--note)
-      (apply command arguments)
-    (let ((buffer (current-buffer)))
-      (cl-incf vialshoal--holds)
+  (let ((buffer (vialshoal--in-note (and vialshoal--note (current-buffer)))))
+    (if (not buffer)
+        (apply command arguments)
+      (vialshoal--begin-hold buffer)
       (unwind-protect
           (apply command arguments)
         (vialshoal--let-go buffer)))))
+
+(defun vialshoal--begin-hold (buffer)
+  "Have lines that come to BUFFER wait for a command, which is one edit."
+  (with-current-buffer buffer
+    (when (zerop vialshoal--holds)
+      (vialshoal--flush)
+      (setq vialshoal--joins 'next
+            vialshoal--has-told-version nil))
+    (cl-incf vialshoal--holds)))
 
 (defun vialshoal--let-go (buffer)
   "Have lines come in to BUFFER that waited for a command."
   (when (buffer-live-p buffer)
     (with-current-buffer buffer
       (setq vialshoal--holds (max 0 (1- vialshoal--holds)))
-      (vialshoal--take-lines))))
+      (when (zerop vialshoal--holds)
+        (vialshoal--flush)
+        (setq vialshoal--joins nil)
+        (vialshoal--take-lines)))))
+
+(defvar vialshoal--asking nil
+  "The commands that ask and hold a region, the last one first.
+Each has the depth of its minibuffer and the note's buffer.")
 
 (defun vialshoal--hold-region ()
   "Have lines wait while a command asks which has the region's ends.
 It goes on with these numbers when it was answered."
-  (let ((buffer (and (minibuffer-selected-window)
-                     (window-buffer (minibuffer-selected-window))))
-        (depth (recursion-depth)))
-    (when (and buffer (with-current-buffer buffer
-                        (and vialshoal--note (use-region-p))))
-      (with-current-buffer buffer
-        (cl-incf vialshoal--holds))
-      (letrec ((end (lambda ()
-                      (when (< (recursion-depth) depth)
-                        (remove-hook 'post-command-hook end)
-                        (vialshoal--let-go buffer)))))
-        (add-hook 'post-command-hook end)))))
+  (let ((buffer (vialshoal--asking-buffer)))
+    (when buffer
+      (vialshoal--begin-hold buffer)
+      (push (cons (recursion-depth) buffer) vialshoal--asking)
+      (add-hook 'post-command-hook #'vialshoal--has-asked))))
+
+(defun vialshoal--has-asked ()
+  "Have lines come in that waited for commands which have ended."
+  (while (and vialshoal--asking
+              (< (recursion-depth) (caar vialshoal--asking)))
+    (vialshoal--let-go (cdr (pop vialshoal--asking))))
+  (unless vialshoal--asking
+    (remove-hook 'post-command-hook #'vialshoal--has-asked)))
+
+(defun vialshoal--asking-buffer ()
+  "Return the note in whose region a command asks in the minibuffer, if any.
+Where a region isn't shown as one, every command may work on it."
+  (let ((window (minibuffer-selected-window)))
+    (when window
+      (with-current-buffer (window-buffer window)
+        (when (or (use-region-p) (and (not transient-mark-mode) (mark t)))
+          (vialshoal--in-note
+            (and vialshoal--note (current-buffer))))))))
 
 ;;;; Notices
 
@@ -581,7 +674,7 @@ It goes on with these numbers when it was answered."
   (when-let ((cursor (plist-get line :cursor)))
     (vialshoal--go-to (1+ cursor)))
   (cl-incf vialshoal--unseen)
-  (when (>= vialshoal--unseen 100)
+  (when (>= vialshoal--unseen vialshoal--seen-every)
     (setq vialshoal--unseen 0)
     (vialshoal--send :do "seen" :version vialshoal--version)))
 
@@ -614,8 +707,14 @@ It goes on with these numbers when it was answered."
                                              vialshoal--note))))
     (with-current-buffer beside
       (insert text))
-    (vialshoal--say (format "The note has another text; that of before is in %s"
-                            (buffer-name beside)))))
+    (setq vialshoal--beside beside)
+    (vialshoal--say (string-trim-left (vialshoal--beside-words)))))
+
+(defun vialshoal--beside-words ()
+  "Say where the text is that gave way to another one, if it did."
+  (when (buffer-live-p vialshoal--beside)
+    (format "  The note has another text; that of before is in %s"
+            (buffer-name vialshoal--beside))))
 
 (defun vialshoal--go-to (place)
   "Put point at PLACE, also where the buffer is shown."
@@ -636,14 +735,15 @@ It goes on with these numbers when it was answered."
 (defun vialshoal--tell-place ()
   "Send where point is and the other end of the region, soon.
 Nothing is sent over 20 times a second."
-  (when (and vialshoal--is-open (not vialshoal--changes))
-    (let ((place (cons (1- (point)) (and mark-active (1- (mark t))))))
-      (cond ((equal place vialshoal--place))
+  (let ((place (cons (1- (point)) (and mark-active (1- (mark t)))))
+        (buffer (current-buffer)))
+    (vialshoal--in-note
+      (cond ((or (not vialshoal--is-open) vialshoal--changes
+                 (equal place vialshoal--place)))
             ((> (+ vialshoal--place-sent 0.05) (vialshoal--now))
              (unless vialshoal--timer
                (setq vialshoal--timer
-                     (run-at-time 0.06 nil #'vialshoal--in-time
-                                  (current-buffer)))))
+                     (run-at-time 0.06 nil #'vialshoal--in-time buffer))))
             (t (vialshoal--send-place place))))))
 
 (defun vialshoal--send-place (place)
@@ -740,6 +840,7 @@ its text."
 (defun vialshoal--set-up ()
   "Have this buffer be a note."
   (add-hook 'kill-emacs-hook #'vialshoal--close-all)
+  (add-hook 'clone-indirect-buffer-hook #'vialshoal--cloned)
   (add-hook 'minibuffer-setup-hook #'vialshoal--hold-region)
   (dolist (command vialshoal--holding)
     (advice-add command :around #'vialshoal--hold))
@@ -753,12 +854,24 @@ No mode or variable is read from the text, whoever asks for it, and
 there is no undo that knows the places of before."
   (setq-local local-enable-local-variables nil)
   (setq-local inhibit-local-variables-regexps '(""))
+  (setq-local bookmark-make-record-function #'vialshoal--bookmark)
+  (setq-local desktop-save-buffer #'vialshoal--for-desktop)
   (buffer-disable-undo))
 (put 'vialshoal--guard 'permanent-local-hook t)
 
+(defun vialshoal--cloned ()
+  "Have an indirect buffer of a note show no cursors, which would stay.
+What is typed there is sent by the note's own buffer."
+  (when (and vialshoal-mode (buffer-base-buffer))
+    (save-restriction
+      (widen)
+      (remove-overlays nil nil 'vialshoal t))
+    (setq vialshoal--overlays nil)))
+
 (defun vialshoal--lighter ()
   "Return what the mode line has of the note."
-  (concat " Note:" (vialshoal--in-mode-line (vialshoal--state-words))))
+  (vialshoal--in-note
+    (concat " Note:" (vialshoal--in-mode-line (vialshoal--state-words)))))
 
 (defun vialshoal--state-words ()
   "Return how the note is, in words."
@@ -808,6 +921,10 @@ there is no undo that knows the places of before."
 
 ;;;; Opening and closing
 
+(defconst vialshoal--name-pattern
+  "\\`[A-Za-z0-9][A-Za-z0-9._-]\\{0,63\\}\\'"
+  "What the engine takes as a note's name.")
+
 ;;;###autoload
 (defun vialshoal-open (name &optional log link)
   "Open the note NAME, which several people may edit at the same time.
@@ -817,8 +934,9 @@ or the LINK by which another's note is joined."
    (list (read-string "Note: " nil 'vialshoal--notes)
          (and current-prefix-arg (read-string "Log, if it has one: "))
          (and current-prefix-arg (read-passwd "Link, to join by: "))))
-  (unless (string-match-p "\\`[[:alnum:]][[:alnum:]._-]*\\'" name)
-    (user-error "Letters, digits, dots, hyphens and underscores make a name"))
+  (unless (string-match-p vialshoal--name-pattern name)
+    (user-error "%s" (concat "A name has letters without accents, digits, "
+                             "dots, hyphens and underscores, 64 at most")))
   (let ((buffer (get-buffer-create (format "*note %s*" name))))
     (pop-to-buffer-same-window buffer)
     (unless (process-live-p vialshoal--process)
@@ -827,7 +945,9 @@ or the LINK by which another's note is joined."
         (setq vialshoal--note name))
       (setq vialshoal--environment process-environment)
       (vialshoal--start log link)
-      (vialshoal-mode))
+      (vialshoal-mode)
+      (when (bound-and-true-p recentf-mode)
+        (recentf-add-file (vialshoal--file-of name))))
     buffer))
 
 (defvar vialshoal--notes nil
@@ -908,6 +1028,9 @@ or the LINK by which another's note is joined."
     (restore-buffer-modified-p nil)
     (setq vialshoal--tick (buffer-chars-modified-tick)
           vialshoal--is-open t)
+    (when vialshoal--wanted-place
+      (vialshoal--go-to (min vialshoal--wanted-place (point-max)))
+      (setq vialshoal--wanted-place nil))
     (force-mode-line-update)))
 
 (defun vialshoal--sentinel (process _event)
@@ -957,8 +1080,9 @@ or the LINK by which another's note is joined."
   (force-mode-line-update))
 
 (defun vialshoal--close ()
-  "Close the note, with all sent that was typed."
-  (when vialshoal--note
+  "Close the note, with all sent that was typed.
+An indirect buffer has the note go on."
+  (when (and vialshoal--note (not (buffer-base-buffer)))
     (when vialshoal--is-open
       (vialshoal--flush))
     (vialshoal--part)
@@ -1004,19 +1128,131 @@ The signal that ends Emacs may keep it from hearing that a process has."
                                   (process-attributes
                                    (process-id process)))))))
 
+;;;; What opens a note again
+
+(defvar desktop-save-buffer)
+(defvar bookmark-make-record-function)
+(declare-function recentf-add-file "recentf")
+(declare-function bookmark-make-record-default "bookmark")
+(declare-function bookmark-get-position "bookmark")
+(declare-function bookmark-prop-get "bookmark")
+
+(defun vialshoal--open-at (name place)
+  "Open the note NAME, with point at PLACE; return its buffer."
+  (let ((buffer (vialshoal-open name)))
+    (with-current-buffer buffer
+      (if vialshoal--is-open
+          (vialshoal--go-to (min place (point-max)))
+        (setq vialshoal--wanted-place place)))
+    buffer))
+
+(defun vialshoal--bookmark ()
+  "Return a bookmark of this place.
+It has no text beside it, which the file of bookmarks would have then."
+  `(,(format "note %s" vialshoal--note)
+    ,@(bookmark-make-record-default t t)
+    (vialshoal-note . ,vialshoal--note)
+    (handler . vialshoal-bookmark-jump)))
+
+;;;###autoload
+(defun vialshoal-bookmark-jump (bookmark)
+  "Open the note of BOOKMARK."
+  (set-buffer (vialshoal--open-at (bookmark-prop-get bookmark 'vialshoal-note)
+                                  (bookmark-get-position bookmark))))
+
+(defun vialshoal--for-desktop (_folder)
+  "Return what a desktop has of this note."
+  (unless (buffer-base-buffer)
+    (list 'vialshoal vialshoal--note (point))))
+
+(defun vialshoal--from-desktop (_file _name what)
+  "Open the note of which a desktop has WHAT, and return its buffer."
+  (pcase what
+    (`(vialshoal ,name ,place) (vialshoal--open-at name place))))
+
+(advice-add 'desktop-restore-file-buffer :before-until
+            #'vialshoal--from-desktop)
+
+(defconst vialshoal--file-pattern "\\`/vialshoal:\\([^/]*\\)\\'"
+  "By such a file's name a note is opened, too, as from `recentf-mode'.")
+
+(defun vialshoal--file-of (name)
+  "Return a file's name by which the note NAME is opened."
+  (concat "/vialshoal:" name))
+
+(defun vialshoal--file-handler (operation &rest arguments)
+  "Do OPERATION with ARGUMENTS, of which one is such a file's name.
+It is that of a folder, since folders are what other modes open."
+  (let ((is-of-note (and (stringp (car arguments))
+                         (string-match-p vialshoal--file-pattern
+                                         (car arguments)))))
+    (pcase operation
+      ((or 'write-region 'make-directory 'rename-file 'copy-file)
+       (user-error "A note is no file; `vialshoal-save-as' writes one"))
+      ((guard (not is-of-note))
+       (vialshoal--without-handler operation arguments))
+      ((or 'expand-file-name 'file-truename 'directory-file-name
+           'file-name-as-directory)
+       (car arguments))
+      ((or 'file-directory-p 'file-exists-p 'file-readable-p) t)
+      (_ (vialshoal--without-handler operation arguments)))))
+
+(defun vialshoal--without-handler (operation arguments)
+  "Do OPERATION with ARGUMENTS as if their files were ordinary ones."
+  (let ((inhibit-file-name-handlers
+         (cons #'vialshoal--file-handler
+               (and (eq inhibit-file-name-operation operation)
+                    inhibit-file-name-handlers)))
+        (inhibit-file-name-operation operation))
+    (apply operation arguments)))
+
+(defun vialshoal--visit (file)
+  "Open the note by whose FILE it is asked for, and return its buffer."
+  (save-match-data
+    (when (string-match vialshoal--file-pattern file)
+      (save-window-excursion
+        (vialshoal-open (match-string 1 file))))))
+
+(add-to-list 'file-name-handler-alist
+             (cons vialshoal--file-pattern #'vialshoal--file-handler))
+(add-hook 'find-directory-functions #'vialshoal--visit)
+
 ;;;; Commands
 
-(defun vialshoal-undo ()
-  "Take back your own last edit, whatever others wrote since."
-  (interactive)
-  (vialshoal--ask (vialshoal--unless-done "You have nothing to take back")
-                  :do "undo"))
+(defun vialshoal-undo (&optional arg)
+  "Take back your own last edit, whatever others wrote since.
+A numeric ARG says how many edits are taken back.  A note has no undo
+within the region, for which Emacs's own takes \\[universal-argument]:
+that is refused."
+  (interactive "P")
+  (when (or (consp arg)
+            (and (use-region-p)
+                 (not (and (symbolp last-command)
+                           (get last-command 'undo-inhibit-region)))))
+    (user-error "%s" (substitute-command-keys
+                      (concat "A note has no undo within a region; "
+                              "\\[keyboard-quit], then \\[vialshoal-undo] "
+                              "takes back your last edit"))))
+  (vialshoal--ask-times (prefix-numeric-value arg) "undo"
+                        "You have nothing to take back"))
 
-(defun vialshoal-redo ()
-  "Make again what `vialshoal-undo' took back."
-  (interactive)
-  (vialshoal--ask (vialshoal--unless-done "You have taken nothing back")
-                  :do "redo"))
+(defun vialshoal-redo (&optional arg)
+  "Make again what `vialshoal-undo' took back.
+A numeric ARG says how many edits are made again."
+  (interactive "P")
+  (vialshoal--ask-times (prefix-numeric-value arg) "redo"
+                        "You have taken nothing back"))
+
+(defconst vialshoal--most-times 1000
+  "So many edits are taken back at once at most.")
+
+(defun vialshoal--ask-times (times what words)
+  "Ask TIMES for WHAT, and tell WORDS if nothing is done."
+  (dotimes (number (min times vialshoal--most-times))
+    (vialshoal--ask (if (zerop number)
+                        (vialshoal--unless-done words)
+                      #'ignore)
+                    :do what)))
 
 (defun vialshoal--unless-done (words)
   "Return a function to tell WORDS if its answer has nothing done."
@@ -1058,8 +1294,10 @@ The signal that ends Emacs may keep it from hearing that a process has."
    (if (use-region-p)
        (list (region-beginning) (region-end))
      (list (line-beginning-position) (line-end-position))))
-  (vialshoal--ask #'vialshoal--say-who :do "who" :version vialshoal--version
-                  :begin (1- beg) :end (1- end)))
+  (vialshoal--in-note
+    (vialshoal--ask #'vialshoal--say-who
+                    :do "who" :version vialshoal--version
+                    :begin (1- beg) :end (1- end))))
 
 (defun vialshoal--say-who (line)
   "Tell who wrote what, as LINE has it."
@@ -1107,7 +1345,8 @@ The signal that ends Emacs may keep it from hearing that a process has."
 (defun vialshoal-history ()
   "Go through the older texts of this note."
   (interactive)
-  (vialshoal--ask-history (current-buffer) nil 0))
+  (vialshoal--in-note
+    (vialshoal--ask-history (current-buffer) nil 0)))
 
 (defun vialshoal--ask-history (note known from)
   "Ask for the history of NOTE behind what is KNOWN, from message FROM on."

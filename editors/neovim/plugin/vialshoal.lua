@@ -5,6 +5,15 @@ end
 vim.g.loaded_vialshoal = true
 
 local command = vim.api.nvim_create_user_command
+local group = vim.api.nvim_create_augroup('vialshoal_plugin', {})
+
+vim.api.nvim_create_autocmd('BufReadCmd', { group = group, pattern = 'vialshoal://*', callback = function(event)
+  require('vialshoal').load(event.buf)
+end })
+
+vim.api.nvim_create_autocmd('SessionLoadPost', { group = group, callback = function()
+  require('vialshoal').load_session()
+end })
 
 command('Vialshoal', function(given)
   require('vialshoal').open(given.fargs[1], given.fargs[2])

@@ -6,8 +6,8 @@ local NOTE = support.top .. '/../../bin/note'
 local Child = {}
 Child.__index = Child
 
---- Starts a Neovim that is opening the note picnic.
-function Child.opening(folder, person, log, link, program)
+--- Starts a Neovim that has the plug-in. Others see the person's name, or another one; where that is empty, none is set.
+function Child.started(folder, person, name, link, program)
   local job = vim.fn.jobstart({ vim.v.progpath, '--embed', '--headless', '-u', 'NONE', '-i', 'NONE', '-n' }, {
     rpc = true,
     env = { VIALSHOAL_DATA = folder .. '/' .. person, VIALSHOAL_LINK = link, VIALSHOAL_PROGRAM = program },
@@ -18,8 +18,16 @@ function Child.opening(folder, person, log, link, program)
     vim.cmd('runtime plugin/vialshoal.lua')
     v = require('vialshoal')
   ]], support.top)
-  self:run('v.setup({ name = ... })', person)
-  vim.rpcrequest(job, 'nvim_command', 'Vialshoal picnic ' .. (log or ''))
+  if name ~= '' then
+    self:run('v.setup({ name = ... })', name or person)
+  end
+  return self
+end
+
+--- Starts a Neovim that is opening the note picnic.
+function Child.opening(folder, person, log, link, program)
+  local self = Child.started(folder, person, nil, link, program)
+  vim.rpcrequest(self.job, 'nvim_command', 'Vialshoal picnic ' .. (log or ''))
   return self
 end
 
@@ -36,12 +44,23 @@ function Child:run(code, ...)
   return vim.rpcrequest(self.job, 'nvim_exec_lua', code, { ... })
 end
 
---- Types keys, as a terminal would send them, and waits until they are taken.
-function Child:type(keys)
+--- Types keys, as a terminal would send them.
+function Child:press(keys)
   while #keys > 0 do
     keys = keys:sub(vim.rpcrequest(self.job, 'nvim_input', keys) + 1)
   end
+end
+
+--- Types keys, and waits until they are taken, as no command is that wants another key.
+function Child:type(keys)
+  self:press(keys)
   vim.rpcrequest(self.job, 'nvim_eval', '1')
+end
+
+--- Types keys, and waits until the command wants another one.
+function Child:begin(keys)
+  self:press(keys)
+  support.wait(function() return vim.rpcrequest(self.job, 'nvim_get_mode').blocking end, keys)
 end
 
 --- Its text.

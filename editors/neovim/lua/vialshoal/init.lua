@@ -9,14 +9,18 @@ local engine = require('vialshoal.engine')
 local history = require('vialshoal.history')
 local interrupt = require('vialshoal.interrupt')
 local text = require('vialshoal.text')
+local undo = require('vialshoal.undo')
 
 local M = {}
 
 local PREFIX = 'vialshoal://'
+local MOST_NAME = 64
 -- An engine that ends sooner isn't started again.
 local STEADY_SECONDS = 2
 -- Neovim's end waits so long at most for an engine that has to read yet, as on a busy machine.
 local END_MILLISECONDS = 10000
+-- So often it is looked whether a command still holds places for which lines wait.
+local AGAIN_MILLISECONDS = 50
 
 -- The notes that are open, by their buffers.
 local notes = {}
@@ -31,7 +35,13 @@ local function program()
   return vim.fn.executable(beside) == 1 and beside or 'note'
 end
 
-M.options = { command = { program() }, name = vim.env.USER or '', colour = nil }
+--- The name that others see: what the environment says, or the account's.
+local function own_name()
+  local name = vim.env.VIALSHOAL_NAME
+  return name and name ~= '' and name or vim.env.USER or ''
+end
+
+M.options = { command = { program() }, name = own_name(), colour = nil }
 
 --- Sets options: `command`, a list; `name`, by which others see you; `colour`, as "#3366cc".
 function M.setup(options)
@@ -46,6 +56,11 @@ local function say(words)
   api.nvim_echo({ { tostring(words) } }, true, {})
 end
 
+--- The notes that are open, by their buffers.
+function M.notes()
+  return notes
+end
+
 --- The note of a buffer, the current one if none is given.
 function M.note(buffer)
   return notes[buffer or api.nvim_get_current_buf()]
@@ -56,7 +71,9 @@ local function beside(words)
   local buffer = api.nvim_create_buf(true, true)
   vim.bo[buffer].modeline = false
   api.nvim_buf_set_lines(buffer, 0, -1, false, vim.split(words, '\n', { plain = true }))
-  say(('The note has another text; that of before is in buffer %d.'):format(buffer))
+  local told = ('The note has another text; that of before is in buffer %d.'):format(buffer)
+  say(told)
+  return told
 end
 
 -- A buffer of a note.
@@ -67,12 +84,6 @@ local function set_options(buffer)
     undolevels = -1, modeline = false, fixendofline = false, fileformat = 'unix', buflisted = true }) do
     vim.bo[buffer][name] = value
   end
-end
-
-local function set_keys(buffer)
-  vim.keymap.set('n', 'u', M.undo, { buffer = buffer, desc = 'Take back your own last edit' })
-  vim.keymap.set('n', '<C-r>', M.redo, { buffer = buffer, desc = 'Make it again' })
-  vim.keymap.set('n', 'U', '<Nop>', { buffer = buffer })
 end
 
 --- Closes a note whose buffer goes, unless it is only read anew, as `:edit` does.
@@ -114,7 +125,6 @@ local function set_events(note)
     vim.schedule(function() let_in(note) end)
   end)
   on('BufWriteCmd', function(event) M.write(note, event.match) end)
-  on('BufReadCmd', function() interrupt.behind(M.read, note.buffer) end)
 end
 
 --- Saves a note as a file, which `:write` names.
@@ -131,13 +141,10 @@ function M.write(note, path)
 end
 
 --- Shows the text again that a command such as `:edit` has taken out of the buffer.
-function M.read(buffer)
-  local note = notes[buffer]
-  if note then
-    set_options(buffer)
-    note:fill(text.join(note.lines, note.has_end))
-    attach(note)
-  end
+local function refill(note)
+  set_options(note.buffer)
+  note:fill(text.join(note.lines, note.has_end))
+  attach(note)
 end
 
 --- Calls a function, and says why where that fails. CTRL-C ends what is called here, too; but the user's macro is
@@ -204,6 +211,15 @@ function let_in(note)
   while note.came[1] and not note:is_held() do
     take(note, table.remove(note.came, 1))
   end
+  note:tell_version(#note.came)
+  if note.came[1] and not note.looks_again then
+    -- Not every end of a command is told.
+    note.looks_again = true
+    vim.defer_fn(function()
+      note.looks_again = false
+      let_in(note)
+    end, AGAIN_MILLISECONDS)
+  end
 end
 
 --- Starts a note's engine, and has it open the note.
@@ -212,7 +228,9 @@ function start(note)
   local job
   job = engine.start(note.command, note.environment, function(line)
     if note.job == job then
-      table.insert(note.came, line)
+      if not note:take_ahead(line) then
+        table.insert(note.came, line)
+      end
       let_in(note)
     end
   end, function(words)
@@ -236,6 +254,17 @@ function start(note)
     colour = M.options.colour })
 end
 
+--- Tells once that the log can't be reached, and that all is sent again: a status line may not have that.
+local function tell_of_log(note, state)
+  if state.log == 'away' and not note.was_away then
+    note.was_away = true
+    vim.notify(('Note %s: offline. What you type is kept, and sent later.'):format(note.name), vim.log.levels.WARN)
+  elseif state.log == 'sent' and note.was_away then
+    note.was_away = false
+    vim.notify(('Note %s: online again, all is sent.'):format(note.name), vim.log.levels.INFO)
+  end
+end
+
 --- A note's buffer, which has no text yet.
 local function new_note(buffer, name, log, link)
   local note
@@ -249,6 +278,7 @@ local function new_note(buffer, name, log, link)
         note.types = state.types
         vim.bo[buffer].modifiable = state.types
       end
+      tell_of_log(note, state)
       vim.cmd('redrawstatus!')
     end,
   })
@@ -262,27 +292,72 @@ local function new_note(buffer, name, log, link)
   return note
 end
 
+--- Why a note can't have a name; nil where it can.
+local function name_fault(name)
+  if not name:find('^%w[%w._-]*$') or #name > MOST_NAME then
+    return ('A name has letters without accents, digits, dots, hyphens and underscores, %d at most.'):format(MOST_NAME)
+  end
+end
+
+--- Opens a note in a buffer that is loaded.
+local function open_in(buffer, name, log, link)
+  set_options(buffer)
+  api.nvim_buf_set_lines(buffer, 0, -1, false, {})
+  local note = new_note(buffer, name, log, link)
+  notes[buffer] = note
+  attach(note)
+  set_events(note)
+  undo.set_up(buffer)
+  vim.bo[buffer].modifiable = false
+  vim.on_key(before_key, keys)
+  start(note)
+end
+
+-- The log and the link of a note whose buffer is being loaded.
+local asked = {}
+
+--- Has a buffer be the note that its name says: Vim has just loaded it, or reads it anew.
+function M.load(buffer)
+  local note = notes[buffer]
+  if note then
+    return interrupt.behind(refill, note)
+  end
+  local name = api.nvim_buf_get_name(buffer):sub(#PREFIX + 1)
+  local fault = name_fault(name)
+  if fault then
+    vim.bo[buffer].buftype, vim.bo[buffer].bufhidden, vim.bo[buffer].modifiable = 'nofile', 'wipe', false
+    return say(fault)
+  end
+  open_in(buffer, name, unpack(asked[buffer] or {}))
+end
+
+--- Opens the notes that a session had in its windows.
+function M.load_session()
+  for _, buffer in ipairs(api.nvim_list_bufs()) do
+    local is_named = vim.startswith(api.nvim_buf_get_name(buffer), PREFIX)
+    if is_named and api.nvim_buf_is_loaded(buffer) and not notes[buffer] then
+      M.load(buffer)
+    end
+  end
+end
+
 --- Opens a note; `log` carries it between people, and by `link` another's is joined.
 function M.open(name, log, link)
-  if not name:find('^%w[%w._-]*$') then
-    return say('Letters, digits, dots, hyphens and underscores make a name.')
+  local fault = name_fault(name)
+  if fault then
+    return say(fault)
   end
   local buffer = vim.fn.bufadd(PREFIX .. name)
-  local note = notes[buffer]
-  if not note then
+  if not notes[buffer] then
+    asked[buffer] = { log or '', link }
     vim.fn.bufload(buffer)
-    set_options(buffer)
-    api.nvim_buf_set_lines(buffer, 0, -1, false, {})
-    note = new_note(buffer, name, log, link)
-    notes[buffer] = note
-    attach(note)
-    set_events(note)
-    set_keys(buffer)
-    vim.bo[buffer].modifiable = false
-  end
-  vim.on_key(before_key, keys)
-  if not note.job then
-    start(note)
+    if not notes[buffer] then
+      -- It was loaded, or no event told of it.
+      M.load(buffer)
+    end
+    asked[buffer] = nil
+  elseif not notes[buffer].job then
+    start(notes[buffer])
   end
   api.nvim_set_current_buf(buffer)
 end
@@ -340,24 +415,14 @@ local function with_note(call)
   say('This buffer is no note.')
 end
 
-local function ask_to_undo(what, words)
-  with_note(function(note)
-    note:ask({ ['do'] = what }, function(answer)
-      if not answer.done and not answer.error then
-        say(words)
-      end
-    end)
-  end)
-end
-
---- Takes back your own last edit, whatever others wrote since.
-function M.undo()
-  ask_to_undo('undo', 'You have nothing to take back.')
+--- Takes back your own last edit, or so many of them, whatever others wrote since.
+function M.undo(count)
+  with_note(function(note) undo.ask(note, 'undo', count) end)
 end
 
 --- Makes again what was taken back.
-function M.redo()
-  ask_to_undo('redo', 'You have taken nothing back.')
+function M.redo(count)
+  with_note(function(note) undo.ask(note, 'redo', count) end)
 end
 
 --- Goes through the older texts.
@@ -391,7 +456,7 @@ function M.who(first, last)
 end
 
 --- How a note is, in words.
-local function state_words(note)
+function M.state_words(note)
   local state = note.state
   if not note.job then
     return 'closed'
@@ -430,7 +495,7 @@ function M.statusline()
   local window = vim.g.statusline_winid
   local shown = window and api.nvim_win_is_valid(window) and api.nvim_win_get_buf(window) or nil
   local note = M.note(shown)
-  return note and ('Note:' .. state_words(note)):gsub('%%', '%%%%') or ''
+  return note and ('Note:' .. M.state_words(note)):gsub('%%', '%%%%') or ''
 end
 
 return M

@@ -20,6 +20,9 @@ local BUSY_SECONDS, PATIENCE_SECONDS = 0.5, 0.2
 -- An editor that only reads says after so many notices what it has seen.
 local SEEN = 100
 local CURSOR_SECONDS, LOST_SECONDS = 0.05, 0.1
+-- The modes in which a command holds places as numbers: an operator waits for its motion, a command line is typed, a
+-- prompt as that of `:s///c` waits, an insertion is completed.
+local HOLDING = { '^no', '^c', '^r', '^[iR]c' }
 
 --- A note that is not open yet. `send` sends a line, `clock` says the time in seconds, and `shows` has functions for
 --- what is to be shown: `words`, `cursors`, `state`, `beside` for a text that has to give way.
@@ -28,6 +31,8 @@ function Note.new(buffer, send, clock, shows)
     buffer = buffer, send = send, clock = clock, shows = shows,
     is_open = false, version = 0, made = 0, answered = 0, since = 0, lines = { '' }, has_end = false,
     changes = {}, state = {}, cursors = {}, waiting = {}, asked = 0, seen = 0, place_sent = 0,
+    -- What of the changes is undone together, by their numbers.
+    unit_of = setmetatable({}, { __mode = 'k' }),
   }, Note)
 end
 
@@ -35,6 +40,7 @@ end
 function Note:opened(line)
   self.version, self.made, self.answered = line.version, line.edits, line.edits
   self.changes, self.waiting, self.place, self.is_lost, self.is_open = {}, {}, nil, false, true
+  self.told_version = nil
   if self:size() == 0 then
     self:fill(line.text)
   else
@@ -122,6 +128,7 @@ function Note:add(change)
       last = last - 1
     end
     table.insert(self.changes, { from, to, new:sub(begin, last) })
+    self.unit_of[self.changes[#self.changes]] = self.unit
     from = from + last - begin + 1
     to, begin = from, last + 1
   until begin > #new
@@ -176,18 +183,35 @@ function Note:flush()
 end
 
 --- Changes in lists that are an edit each. Positions make lines long, too, where there are many changes.
-local function in_edits(changes)
-  local edits, size = { {} }, 0
+local function in_edits(changes, unit_of)
+  local edits, size, unit = { {} }, 0, unit_of[changes[1]]
   for _, change in ipairs(changes) do
     local more = 20 + #change[3]
-    if size > 0 and size + more > MOST_TEXT then
+    if size > 0 and (size + more > MOST_TEXT or unit_of[change] ~= unit) then
       table.insert(edits, {})
       size = 0
     end
     table.insert(edits[#edits], change)
-    size = size + more
+    size, unit = size + more, unit_of[change]
   end
   return edits
+end
+
+--- Has what is changed from now on be undone apart from what was.
+function Note:begin_unit()
+  self.unit = (self.unit or 0) + 1
+end
+
+--- Whether an edit, the first of those that are sent at once or not, is undone with the one before it; nil where the
+--- engine is to find that out, since nobody has typed a key.
+function Note:joins(edit, is_first)
+  local unit = self.unit_of[edit[1]]
+  if not unit then
+    return not is_first or nil
+  end
+  local joins = unit == self.sent_unit
+  self.sent_unit = unit
+  return joins
 end
 
 --- Sends what was gathered, whatever the buffer has by now.
@@ -195,7 +219,7 @@ function Note:send_changes()
   if #self.changes == 0 then
     return
   end
-  local edits = in_edits(self.changes)
+  local edits = in_edits(self.changes, self.unit_of)
   if self.answered == self.made then
     self.since = self.clock()
   end
@@ -203,7 +227,7 @@ function Note:send_changes()
   for number, edit in ipairs(edits) do
     self.made = self.made + 1
     self.send({ ['do'] = 'edit', version = self.version, edits = self.made, changes = edit,
-      join = number > 1 or nil })
+      join = self:joins(edit, number == 1) })
   end
 end
 
@@ -245,6 +269,10 @@ function Note:before_key()
       interrupt.press()
     end
   end
+  -- As Vim's own undo would: a key that is typed in normal mode begins anew, one of a macro or an insertion doesn't.
+  if vim.fn.undotree().synced == 1 and not self:is_held() then
+    self:begin_unit()
+  end
 end
 
 -- Commands that hold places as numbers.
@@ -254,10 +282,36 @@ function Note:mode_changed(old, new)
   self.in_block = old == '\22' and new:find('^[iR]') ~= nil or self.in_block and new ~= 'n'
 end
 
---- Whether a command holds places of this note: an operator that waits for its motion, or what is typed in a block.
+--- Whether a command holds places of this note: what is typed in a block, or a command by its mode.
 function Note:is_held()
-  return api.nvim_get_current_buf() == self.buffer
-    and (self.in_block or api.nvim_get_mode().mode:find('^no') ~= nil)
+  if api.nvim_get_current_buf() ~= self.buffer then
+    return false
+  end
+  local mode, holds = api.nvim_get_mode().mode, self.in_block or false
+  for _, each in ipairs(HOLDING) do
+    holds = holds or mode:find(each) ~= nil
+  end
+  return holds
+end
+
+--- Takes in a line that answers an edit ahead of those that wait, so that what a command does is sent while it goes on.
+function Note:take_ahead(line)
+  if line:find('^{"answer":"edit"') and self:is_held() then
+    local answer = vim.json.decode(line)
+    if not answer.error then
+      self:answer(answer)
+      return true
+    end
+  end
+  return false
+end
+
+--- Tells the engine which version is here where many lines wait: it keeps what carries edits over from there.
+function Note:tell_version(waiting)
+  if waiting >= SEEN and self.told_version ~= self.version then
+    self.told_version = self.version
+    self.send({ ['do'] = 'seen', version = self.version })
+  end
 end
 
 -- Lines.
@@ -297,13 +351,16 @@ end
 
 function Note:answer(line)
   if line.error then
-    self.shows.words(line.words)
+    self.shows.words(line.words .. (self.beside and ' ' .. self.beside or ''))
     if not line.edits and not line.id then
       self.send({ ['do'] = 'text', edits = self.made })
     end
   end
   if line.answer == 'edit' and line.edits then
     self.answered = line.edits
+    if not line.error then
+      self.beside = nil
+    end
     if self.answered == self.made then
       vim.bo[self.buffer].modified = false
     end
@@ -457,7 +514,7 @@ function Note:become(new)
   local before = text.join(self.lines, self.has_end)
   local found = text.change(before, new, 0)
   if #found == 1 and found[1][2] > found[1][1] then
-    self.shows.beside(before)
+    self.beside = self.shows.beside(before)
   end
   self:change(found)
 end
