@@ -1,6 +1,7 @@
 """What the toolchain compiles of crates that its gate has proved: the library for C, and the program for another processor.
 
-The gate leaves each library as it proved it. Over these the toolchain proves the crate itself once more, as it compiles it."""
+The gate leaves each library as it proved it. Over these the toolchain checks the crate itself once more, which the gate has proved too, as
+it compiles it: it compiles nothing else. For a further processor it begins with what it kept of that check, as rt lib does."""
 from __future__ import annotations
 
 from collections.abc import Iterator
@@ -31,8 +32,10 @@ def compiled(crate: str, target: str) -> Path:
             crates, sources = needed_crates(crate), build.sum_of_sources()
             build.log.write_bytes(b"")
             with progress(build, crates), proved_copy(crates, build) as room:
-                made = room / build.makes
-                words = ["--target", target, "-o", made, *ROOTS[crate], *libraries(crate, room / "crates")]
+                made, checked = room / build.makes, OUT / "checked" / crate
+                checked.mkdir(parents=True, exist_ok=True)
+                words: list[object] = ["--target", target, "--incremental", checked, "-o", made]
+                words += [*ROOTS[crate], *libraries(crate, room / "crates")]
                 build.call([*words_for_all(crate), *words], room / "crates" / crate)
                 build.keep(made, sources)
     return build.file
