@@ -38,7 +38,7 @@ class PipeSite:
 
     def __init__(self, site):
         sys.path.insert(0, str(TOP))
-        from share.program import Program, escaped
+        from share.program.process import Program, escaped
         self.program, self.escaped = Program(site), escaped
         self.process = self.program.process.pid
 

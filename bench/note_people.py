@@ -19,17 +19,17 @@ from typing import Any, NamedTuple
 
 from nacl import bindings
 
-from share import link as links
-from share import opening
-from share.chunks import packed
-from share.client import InPlace
-from share.disk import About, Client, make
-from share.entry import Author, Kind, digest
-from share.ledger import Row
-from share.lines import written
-from share.mirror import Mirror
-from share.session import Session
-from share.sqlite_log import SqliteLog
+from share.admission.ledger import Row
+from share.editors.client import InPlace
+from share.editors.mirror import Mirror
+from share.engine.protocol import written
+from share.format import link as links
+from share.format.chunk import packed
+from share.format.entry import Author, Kind, digest
+from share.log.sqlite import SqliteLog
+from share.store import notes
+from share.store.note_file import About, Client, make
+from share.sync.session import Session
 from share.tests.attacks import Attack, Hostile, typed
 from share.tests.editors import Editor
 from share.tests.support import engine_of
@@ -302,7 +302,7 @@ def calls_of_a_key(room: Room) -> int | None:
 def count_calls(data: str) -> int:
     """How often a key has Python call something in an engine that is in this process: the least of some keys."""
     os.environ["VIALSHOAL_DATA"] = data
-    way = InPlace("note", lambda wake: Session(opening.opened("note", None, None), None, lambda done, total: None, wake))
+    way = InPlace("note", lambda wake: Session(notes.opened("note", None, None), None, lambda done, total: None, wake))
     way.send(written({"do": "open", "id": 1, "protocol": 1, "units": ["utf-16"]}))
     lines = [json.loads(line) for line in way.receive(0.02).splitlines()]
     opened = next(line for line in lines if line.get("answer") == "open")

@@ -1,1 +1,3 @@
-"""Lets several people edit one note: drives the program by scripts of events, over a log that they share."""
+"""Lets several people edit one note: drives the program by scripts of events, over a log that they share.
+
+Its folders, each of which imports only those before it: text, format, admission, log, program, store, sync, engine, editors, cli."""

@@ -15,12 +15,12 @@ import time
 from collections.abc import Callable, Iterable, Iterator, Sequence
 from typing import NamedTuple
 
-from share import chunks
-from share.chunks import Run
-from share.heard import OF_BEFORE
-from share.entry import GREATEST_SITE, HEAD, MOST_BYTES, Author, Bad, Entry, Form, Kind, digest
-from share.looks import DEFAULT_BYTES
-from share.message import DELETE, INSERT, MOST_RANGES, Names
+from share.format import chunk
+from share.format.chunk import Run
+from share.format.entry import GREATEST_SITE, HEAD, MOST_BYTES, Author, Bad, Entry, Form, Kind, digest
+from share.format.heartbeat import OF_BEFORE
+from share.format.operation import DEFAULT_BYTES, DELETE, INSERT, MOST_RANGES
+from share.text.names import Names
 
 # Of what somebody types at the front so many letters fit an entry, each by itself; of what is typed on, so many.
 AT_THE_FRONT, TYPED = 5_300, 15_900
@@ -96,7 +96,7 @@ class Hostile:
 
     def entry(self, before: Entry, author: Author, runs: Sequence[Run], on: bytes = b"") -> Entry:
         """An entry of messages that follow an entry."""
-        writer = chunks.Writer()
+        writer = chunk.Writer()
         if not all(writer.add(run) for run in runs):
             raise ValueError("an entry has no room for so much")
         kind = Kind.CHUNK_BUILDING if on else Kind.CHUNK

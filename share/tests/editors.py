@@ -6,7 +6,7 @@ import select
 import subprocess
 import time
 
-from share.mirror import Line, Mirror
+from share.editors.mirror import Line, Mirror
 from share.tests.support import NOTE, Case, engine_of
 from share.tests.waiting import PATIENCE, wait_for
 

@@ -9,7 +9,7 @@ import shutil
 import tempfile
 import time
 
-from share import opening
+from share.store import notes
 from share.tests.editors import Editor
 from share.tests.keystroke import LINE, SIZE
 from share.tests.support import Person
@@ -57,7 +57,7 @@ def main() -> None:
         print(f"typed in one go: {SIZE:,} bytes in {time.perf_counter() - begin:.1f} s")
         second = Editor(folder / "ada")
         with Person(folder / "ada").here():
-            link = opening.link_of("note")
+            link = notes.link_of("note")
         third = Editor(folder / "bo", link=link)
         third.wait_for(lambda: third.text == first.text, "the note")
         measure("one engine", first, second)

@@ -14,9 +14,9 @@ import tempfile
 import termios
 import time
 
-from share import opening
+from share.store import notes
+from share.sync.session import Session
 from share.tests.note import Note
-from share.session import Session
 from share.tests.support import NOTE
 
 SIZE, KEYS, FEW = 1_000_000, 100, 15
@@ -56,7 +56,7 @@ def measure(terminal: int, what: str, key: bytes, count: int = KEYS) -> None:
 
 def opened() -> Note:
     """The note."""
-    return Note(Session(opening.opened("large", None, None)))
+    return Note(Session(notes.opened("large", None, None)))
 
 
 def type_beside(begun) -> None:

@@ -9,8 +9,8 @@ from dataclasses import dataclass
 from itertools import chain
 from typing import NamedTuple
 
-from share.entry import HEAD, NO_HASH, Author, Entry, Form, Kind
-from share.message import Message, typed
+from share.format.entry import HEAD, NO_HASH, Author, Entry, Form, Kind
+from share.format.operation import Message, typed
 
 LEAP = 1 << 20
 INSERT, DELETE, CHANGE_LOOKS, RESTORE = 1, 2, 3, 4

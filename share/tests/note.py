@@ -3,11 +3,12 @@ import re
 from collections.abc import Callable
 from dataclasses import dataclass
 
-from share.message import DELETE, RESTORE, Message, Names, names_of
-from share.note_text import LINE_END, Change, boundary, change, make
-from share.session import Session
-from share.site import Edited, Site, Told
-from share.words import Refused, Trouble
+from share.format.operation import DELETE, RESTORE, Message, names_of
+from share.program.site import Edited, Site, Told
+from share.sync.session import Session
+from share.text.change import LINE_END, Change, boundary, change, make
+from share.text.errors import Refused, Trouble
+from share.text.names import Names
 
 
 @dataclass

@@ -14,9 +14,8 @@ import signal
 import subprocess
 import time
 
-from share.mirror import Mirror
+from share.editors.mirror import Mirror
 from share.tests.editors import Editor
-from share.tests.servers import RedisServer
 from share.tests.support import NOTE, Case, Person, alive, engine_of, written
 from share.tests.terminals import children
 from share.tests.waiting import wait_for

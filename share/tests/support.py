@@ -12,16 +12,16 @@ import tempfile
 import unittest
 from collections.abc import Callable
 
-from share import link as links
-from share import opening
-from share.disk import Disk
-from share.entry import Form, Kind, Plain, in_entries
-from share.judging import Judge, rank
-from share.log import START, Log, open_log
-from share.program import Program
-from share.reading import found_in, shown
-from share.session import Session, Status
-from share.site import Edited, Site, Told
+from share.admission.judge import Judge, rank
+from share.format import link as links
+from share.format.entry import Form, Kind, Plain, in_entries
+from share.log.base import START, Log, open_log
+from share.program.process import Program
+from share.program.site import Edited, Site, Told
+from share.store import notes
+from share.store.note_file import Disk
+from share.store.read_only import found_in, shown
+from share.sync.session import Session, Status
 from share.tests.note import Note
 from share.tests.servers import RedisServer
 from share.tests.waiting import wait_for
@@ -50,17 +50,17 @@ class Person:
     def open(self, name: str = "note", url: str | None = None, link: str | None = None) -> Note:
         """A note, as an editor has it open."""
         with self.here():
-            return Note(Session(opening.opened(name, url, links.read(link) if link else None)))
+            return Note(Session(notes.opened(name, url, links.read(link) if link else None)))
 
     def link(self, name: str = "note") -> str:
         """A note's link."""
         with self.here():
-            return opening.link_of(name)
+            return notes.link_of(name)
 
     def path(self, name: str = "note") -> pathlib.Path:
         """A note's file."""
         with self.here():
-            return opening.path_of(name)
+            return notes.path_of(name)
 
     def text(self, name: str = "note") -> bytes:
         """What the file alone shows."""

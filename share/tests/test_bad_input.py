@@ -13,15 +13,15 @@ import threading
 import unittest
 from unittest import mock
 
-from share import reading
-from share.log import Unreachable
-from share.program import Ended, Program
-from share.sqlite_log import SqliteLog
+from share.log.base import Unreachable
+from share.log.sqlite import SqliteLog
+from share.program.process import Ended, Program
+from share.store import read_only
 from share.tests.naive import inserting, newer
 from share.tests.servers import Hostile
 from share.tests.support import NOTE, TOP, Case, change, python, raws_of, type_at_the_end, wait_for, written
 from share.tests.test_logs import WITHOUT_END
-from share.words import NEWER
+from share.text.errors import NEWER
 
 SOMEBODY = 65_534
 
@@ -29,10 +29,10 @@ SOMEBODY = 65_534
 # what is shown after it. Then there is room again.
 FILLS = """
 import json, resource
-from share import opening
+from share.store import notes
+from share.sync.session import Session
 from share.tests.note import Note
-from share.session import Session
-note = Note(Session(opening.opened("note", None, None)))
+note = Note(Session(notes.opened("note", None, None)))
 resource.setrlimit(resource.RLIMIT_FSIZE, (200_000, 300_000))
 while not note.notice:
     before = len(note.text)
@@ -151,7 +151,7 @@ class BadInput(Case):
                     program.process.send_signal(signal.SIGSTOP)
                 if starves:
                     self.starve(program.process.pid)
-                with mock.patch("share.patience.MOST_SECONDS", 1), contextlib.nullcontext() if starves else (
+                with mock.patch("share.program.patience.MOST_SECONDS", 1), contextlib.nullcontext() if starves else (
                         self.assertRaises(Ended)):
                     self.assertEqual(program.text(), b"")
 
@@ -222,8 +222,8 @@ class BadInput(Case):
                 run = self.note("cat", "note")
                 self.assertEqual((run.returncode, run.stdout), (3, "one two three "))
                 self.assertIn("The log can't be read", run.stderr)
-        with mock.patch("share.bounded.MOST_TIMES", 1):
-            found = reading.found_in(self.ann.path())
+        with mock.patch("share.log.bounded.MOST_TIMES", 1):
+            found = read_only.found_in(self.ann.path())
         self.assertRegex(found.faults[0], "damaged .interrupted.")
 
     def test_an_entry_of_a_kind_that_a_later_version_has(self) -> None:
@@ -307,7 +307,7 @@ class BadInput(Case):
 
     def test_a_note_that_is_full(self) -> None:
         note = self.opened(self.ann)
-        with mock.patch("share.site.MOST_MESSAGES", 5):
+        with mock.patch("share.program.site.MOST_MESSAGES", 5):
             written(note, "a")
             written(note, "b")
             note.type("c")

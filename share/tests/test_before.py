@@ -3,20 +3,19 @@ wrote: the files of two people, whose editors were killed with edits that weren'
 that they showed; `both` is what that version shows of all of it."""
 import contextlib
 import json
-import os
 import pathlib
 import shutil
 import subprocess
 import tarfile
 from unittest import mock
 
-from share import entry
-from share.ledger import Row
-from share.entry import Bad, Copied, Kind
+from share.admission.ledger import Row
+from share.format import entry
+from share.format.entry import Bad, Copied, Kind
 from share.tests.note import Note
 from share.tests.servers import RedisServer
 from share.tests.support import Case, are_alike, change, raws_of, type_at_the_end, wait_for, written
-from share.words import NEWER
+from share.text.errors import NEWER
 
 KEPT = pathlib.Path(__file__).parent / "data" / "notes_of_messages.tar.gz"
 OLD, NEW = {Kind.MESSAGES, Kind.BUILDING}, {Kind.CHUNK, Kind.CHUNK_BUILDING}

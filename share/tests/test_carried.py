@@ -7,8 +7,8 @@ import threading
 import unittest
 from unittest import mock
 
-from share.carried import Carried
-from share.sqlite_log import SqliteLog
+from share.log.sqlite import SqliteLog
+from share.sync.carried import Carried
 from share.tests.support import Case, change, damage, raws_of, type_at_the_end, wait_for, written
 
 SOON = 20
@@ -201,7 +201,7 @@ class Gaps(Case):
         anna.session.close()
         # One damaged entry, and its author is off.
         self.assertTrue(damage(path, b"007 ", b"00x "))
-        with mock.patch("share.holdings.ROOM", 40_000), mock.patch("share.sqlite_log.PAGE", 8):
+        with mock.patch("share.sync.state.ROOM", 40_000), mock.patch("share.log.sqlite.PAGE", 8):
             berta = self.opened(self.person("berta"), link=link)
             wait_for(lambda: (berta.take_in(), berta.session._holdings.waiting_for_room())[1], "entries to be dropped")
             self.assertEqual(berta.text.decode(), "".join(words[:7]))

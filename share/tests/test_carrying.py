@@ -5,16 +5,18 @@ import unittest
 from collections import deque
 from unittest import mock
 
-from share import carrying, measured
-from share.carrying import Carrying
-from share.lines import Line, Wrong
-from share.measured import Measured, Outside, Split, shown, swapped
-from share.mirror import Mirror
-from share.message import Names
-from share.note_text import Change, boundary
-from share.ops import carried_over, composed, growth, in_text, in_turn, moved, of_changes
-from share.undoing import united, without
-from share.units import UNITS, Units
+from share.editors.mirror import Mirror
+from share.engine import transform
+from share.engine.protocol import Wrong
+from share.engine.transform import Carrying
+from share.program.undo import united, without
+from share.text import rope
+from share.text.change import Change, boundary
+from share.text.delta import carried_over, composed, growth, in_text, in_turn, moved, of_changes
+from share.text.line import Line
+from share.text.names import Names
+from share.text.rope import Measured, Outside, Split, shown, swapped
+from share.text.units import UNITS, Units
 
 LETTERS = "ab\n\ré漢🎉\ufffd"
 
@@ -55,7 +57,7 @@ class Crossing(unittest.TestCase):
 
     def test_all_orders(self) -> None:
         for seed, most in itertools.product(range(60), (2_000, 4)):
-            with self.subTest(seed=seed, most=most), mock.patch.object(carrying, "MOST_SENT", most):
+            with self.subTest(seed=seed, most=most), mock.patch.object(transform, "MOST_SENT", most):
                 self.cross(random.Random(seed))
 
     def cross(self, chance: random.Random) -> None:
@@ -99,7 +101,7 @@ class Crossing(unittest.TestCase):
         except Wrong as why:
             # An editor is right; only what was joined can be missing.
             self.assertIn(why.code, ("version", "stale"))
-            self.assertEqual(carrying.MOST_SENT, 4)
+            self.assertEqual(transform.MOST_SENT, 4)
             carry.void(line["edits"])
             peer.to_editor.append({"answer": "edit", "edits": line["edits"], "error": why.code, "words": ""})
             return
@@ -165,7 +167,7 @@ class Parts(unittest.TestCase):
     def test_places_and_positions(self) -> None:
         chance = random.Random(4)
         rubbish = [b"\x80", b"\xc3", b"\xe6\xbc", b"\xf0\x9f", b"\xff"]
-        with mock.patch.object(measured, "PART", 8):
+        with mock.patch.object(rope, "PART", 8):
             for seed in range(60):
                 text, data = Measured(b""), b""
                 for _ in range(40):

@@ -4,12 +4,12 @@ import unittest
 from collections.abc import Iterable
 from unittest import mock
 
-from share.chunks import BEGIN, MOST_CHUNK, NoChunk, Writer, messages, of_message, packed, runs
-from share.entry import Author, Plain
-from share.ledger import Ledger, Line, Row
-from share.message import DELETE, Message
-from share.messages import Messages, Part
-from share.program import Program
+from share.admission.ledger import Ledger, Line, Row
+from share.format.chunk import BEGIN, MOST_CHUNK, NoChunk, Writer, messages, of_message, packed, runs
+from share.format.entry import Author, Plain
+from share.format.history import Messages, Part
+from share.format.operation import DELETE, Message
+from share.program.process import Program
 from share.tests.naive import about, inserting
 
 # Site 1 has a file of five characters, types an a after them, and then the byte 15, which is a code in a chunk.
@@ -196,7 +196,7 @@ class InARow(unittest.TestCase):
         self.assertEqual([*row], plain[:2])
 
     def test_chunks(self) -> None:
-        with mock.patch("share.messages.FEW", 6):
+        with mock.patch("share.format.history.FEW", 6):
             whole, both = [*self.row.chunks()], [*self.row[1:].chunks()]
         self.assertEqual(whole[0], (packed(self.plain[:6]), 6))
         self.assertEqual([count for _, count in whole], [6, 4])

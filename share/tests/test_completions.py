@@ -3,9 +3,9 @@ import re
 import subprocess
 import unittest
 
-from share import __main__ as note
-from share import installing
-from share.scripts import VERBS
+from share.cli import installing
+from share.cli import main as note
+from share.cli.verbs import VERBS
 from share.tests.support import NOTE, TOP, Case
 
 COMPLETIONS = TOP / "share" / "completions"

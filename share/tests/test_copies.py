@@ -8,12 +8,12 @@ from collections.abc import Sequence
 from typing import Any
 from unittest import mock
 
-from share import reading
-from share.anew import Done, make_anew
-from share.disk import Disk, Unkept
-from share.entry import LENGTH, Copy, Entry, Kind
-from share.judging import rank
-from share.message import Message
+from share.admission.judge import rank
+from share.format.entry import LENGTH, Copy, Entry, Kind
+from share.format.operation import Message
+from share.store import read_only
+from share.store.note_file import Disk, Unkept
+from share.sync.rebase import Done, make_anew
 from share.tests.editors import Editor
 from share.tests.note import Note
 from share.tests.support import Case, Person, are_alike, change, type_at_the_end, wait_for, written
@@ -29,7 +29,7 @@ class Copied(Case):
 
     def setUp(self) -> None:
         super().setUp()
-        quick = mock.patch("share.losses.OTHERS_SECONDS", 0.1)
+        quick = mock.patch("share.sync.backoff.OTHERS_SECONDS", 0.1)
         quick.start()
         self.addCleanup(quick.stop)
 
@@ -217,7 +217,7 @@ class Damaged(Copied):
                 raise Unkept("there is no room")
             return keep(disk, *given, hidings=hidings, **more)
 
-        with mock.patch.object(Disk, "keep", kept), mock.patch("share.session.AGAIN_SECONDS", 0):
+        with mock.patch.object(Disk, "keep", kept), mock.patch("share.sync.session.AGAIN_SECONDS", 0):
             first = self.opened(self.anna)
             self.assert_shown("one behind two", first, second)
         self.assertEqual(len(tried), 3)
@@ -241,7 +241,7 @@ class Damaged(Copied):
             wait_for(lambda: (firsts[0].take_in(), are_alike(firsts))[1], "all of the other one to be sent")
             return make_anew(*given)  # type: ignore[arg-type]
 
-        with mock.patch("share.session.make_anew", made_anew):
+        with mock.patch("share.sync.session.make_anew", made_anew):
             second = self.opened(self.berta)
             wait_for(lambda: (second.take_in(), firsts)[1], "it to be made anew")
         self.assert_shown("one behind two", firsts[0], second)
@@ -264,7 +264,7 @@ class Damaged(Copied):
     def beside_its_copy(self) -> None:
         """Has the log have the original beside its copy, which nobody who is on has made."""
         self.alone().session.close()
-        with mock.patch("share.losses.OTHERS_SECONDS", 1_000):
+        with mock.patch("share.sync.backoff.OTHERS_SECONDS", 1_000):
             first = self.anna.open()
             wait_for(lambda: are_alike([first]) and words(first.text) == ["behind", "behind", "one", "two"], "both to be shown")
             first.session.close()
@@ -319,7 +319,7 @@ class Renewed(Copied):
         self.assertEqual(text, b"one three two four ")
         self.assertEqual([first.session.is_own(number) for number in self.numbers], [False, False])
         self.assertNotIn(first.session.number, self.numbers)
-        self.assertEqual(reading.own_sites(anna.path()), {first.session.number})
+        self.assertEqual(read_only.own_sites(anna.path()), {first.session.number})
         second.moved_to(4)
         second.type("within ")
         written(first, "behind ")
@@ -423,7 +423,7 @@ class ClaimedAgainAndAgain(Copied):
 
     def test_it_is_made_anew_ever_later(self) -> None:
         anna, clock = self.person("anna"), Clock()
-        waits = mock.patch.multiple("share.losses", time=clock, FIRST_SECONDS=1_000, MOST_SECONDS=10**6, CALM_SECONDS=10**6)
+        waits = mock.patch.multiple("share.sync.backoff", time=clock, FIRST_SECONDS=1_000, MOST_SECONDS=10**6, CALM_SECONDS=10**6)
         waits.start()
         self.addCleanup(waits.stop)
         note = self.opened(anna, url=self.file_log())

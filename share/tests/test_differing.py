@@ -3,14 +3,14 @@ import contextlib
 import random
 import unittest
 
-from share.differing import Shown, differences, shown_by
-from share.entry import Entry, Plain
-from share.judging import Judge
-from share.message import Message, Names, inserted
-from share.messages import Messages
-from share.names import Name
-from share.site import Site
+from share.admission.judge import Judge
+from share.format.entry import Entry, Plain
+from share.format.history import Messages
+from share.format.operation import Message, inserted
+from share.program.difference import Shown, differences, shown_by
+from share.program.site import Site
 from share.tests.support import Carried
+from share.text.names import Name, Names
 
 SITES = (1, 2, 3)
 

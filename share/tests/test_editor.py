@@ -16,14 +16,14 @@ import time
 import unittest.mock
 from typing import Any
 
-from share import saving
-from share.controls import (ESCAPE_SECONDS, LONGEST_PASTE, PASTE_LOST_SECONDS, PASTE_QUIET_SECONDS,
-                            SEQUENCE_SECONDS, Event, Key, Keyboard, Pasted, shown)
-from share.editor import Bar, edit
-from share.session import Status
+from share.store import atomic
+from share.editors.terminal.keys import (ESCAPE_SECONDS, LONGEST_PASTE, PASTE_LOST_SECONDS, PASTE_QUIET_SECONDS,
+                                         SEQUENCE_SECONDS, Event, Key, Keyboard, Pasted, shown)
+from share.editors.terminal.app import Bar, edit
+from share.sync.session import Status
 from share.tests.support import TOP, Case, python, wait_for
 from share.tests.terminals import Terminal
-from share.words import Refused, Trouble
+from share.text.errors import Refused, Trouble
 
 BEGIN, END = b"\x1b[200~", b"\x1b[201~"
 SEQUENCES = {
@@ -220,7 +220,7 @@ class Shown(unittest.TestCase):
 # Saves, and is killed at the call of the system that is named by its number.
 KILLED = """
 import os, signal, sys
-from share import saving
+from share.store import atomic
 left = int(sys.argv[1])
 def counted(call):
     def counting(*words, **named):
@@ -232,7 +232,7 @@ def counted(call):
     return counting
 for name in "open", "write", "fsync", "fchmod", "close", "replace":
     setattr(os, name, counted(getattr(os, name)))
-saving.save(sys.argv[2], b"new" * 100_000)
+atomic.save(sys.argv[2], b"new" * 100_000)
 """
 
 
@@ -246,8 +246,8 @@ class Saving(Case):
     def refused(self, path: object, *words: str) -> None:
         """That nothing is saved under a name, with a sentence that has these words, and nothing is left."""
         before = self.files()
-        with self.assertRaises(saving.NotSaved) as refused:
-            saving.save(str(path), b"new")
+        with self.assertRaises(atomic.NotSaved) as refused:
+            atomic.save(str(path), b"new")
         for word in ("Not saved: ", *words):
             self.assertIn(word, str(refused.exception))
         self.assertEqual(self.files(), before)
@@ -259,13 +259,13 @@ class Saving(Case):
     def test_new_and_old(self) -> None:
         mask = os.umask(0o027)
         self.addCleanup(os.umask, mask)
-        self.assertFalse(saving.exists(str(self.file)))
-        self.assertEqual(saving.save(str(self.file), b"one"), self.file)
+        self.assertFalse(atomic.exists(str(self.file)))
+        self.assertEqual(atomic.save(str(self.file), b"one"), self.file)
         self.assertEqual(stat.S_IMODE(self.file.stat().st_mode), 0o640)
-        self.assertTrue(saving.exists(str(self.file)))
+        self.assertTrue(atomic.exists(str(self.file)))
         for mode in 0o600, 0o755, 0o664:
             self.file.chmod(mode)
-            saving.save(str(self.file), b"two" * 1_000_000)
+            atomic.save(str(self.file), b"two" * 1_000_000)
             self.assertEqual(stat.S_IMODE(self.file.stat().st_mode), mode)
         self.assertEqual(self.files(), {str(self.file): b"two" * 1_000_000})
 
@@ -274,7 +274,7 @@ class Saving(Case):
         link.symlink_to("target")
         second.symlink_to(link)
         for text in b"one", b"two":
-            saving.save(str(second), text)
+            atomic.save(str(second), text)
             self.assertTrue(link.is_symlink() and second.is_symlink())
             self.assertEqual(target.read_bytes(), text)
         loop = self.folder / "loop"
@@ -297,21 +297,21 @@ class Saving(Case):
         self.refused(self.folder / "pipe", "no file")
         self.refused("/proc/x")
         for name in "x" * 255, " a ", "é漢", "-":
-            self.assertEqual(saving.save(str(self.folder / name), b"x").read_bytes(), b"x")
+            self.assertEqual(atomic.save(str(self.folder / name), b"x").read_bytes(), b"x")
 
     def test_a_home_folder(self) -> None:
         home = os.environ.get("HOME")
         self.addCleanup(os.environ.update, {"HOME": home} if home else {})
         os.environ["HOME"] = str(self.folder)
-        self.assertEqual(saving.save("~/x", b"x"), self.folder / "x")
+        self.assertEqual(atomic.save("~/x", b"x"), self.folder / "x")
 
     def test_no_room(self) -> None:
         self.file.write_bytes(b"old")
         before = resource.getrlimit(resource.RLIMIT_FSIZE)
         resource.setrlimit(resource.RLIMIT_FSIZE, (100_000, before[1]))
         try:
-            with self.assertRaises(saving.NotSaved) as refused:
-                saving.save(str(self.file), b"x" * 100_001)
+            with self.assertRaises(atomic.NotSaved) as refused:
+                atomic.save(str(self.file), b"x" * 100_001)
         finally:
             resource.setrlimit(resource.RLIMIT_FSIZE, before)
         self.assertIn("File too large", str(refused.exception))
@@ -323,10 +323,10 @@ class Saving(Case):
         (closed / "file").write_bytes(b"old")
         (closed / "other").write_bytes(b"old")
         (closed / "other").chmod(0o444)
-        script = ("import os, sys\nfrom share import saving\nif not os.getuid():\n    os.setgroups([])\n"
+        script = ("import os, sys\nfrom share.store import atomic\nif not os.getuid():\n    os.setgroups([])\n"
                   "    os.setresgid(65534, 65534, 65534)\n    os.setresuid(65534, 65534, 65534)\n"
-                  "for path in sys.argv[1:]:\n    try:\n        saving.save(path, b'new')\n"
-                  "    except saving.NotSaved as why:\n        print(why)\n")
+                  "for path in sys.argv[1:]:\n    try:\n        atomic.save(path, b'new')\n"
+                  "    except atomic.NotSaved as why:\n        print(why)\n")
         owner = 65534 if not os.getuid() else os.getuid()
         os.chmod(self.folder, 0o755)
         for path in closed, closed / "file", closed / "other":
@@ -350,7 +350,7 @@ class Saving(Case):
         with contextlib.ExitStack() as patches:
             for name in "write", "fchmod", "fsync", "replace":
                 patches.enter_context(unittest.mock.patch.object(os, name, counted(name)))
-            saving.save(str(self.file), b"new")
+            atomic.save(str(self.file), b"new")
         self.assertEqual(calls, ["write", "fchmod", "fsync", "replace", "fsync"])
 
     def test_killed_at_any_moment(self) -> None:

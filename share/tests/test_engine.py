@@ -5,8 +5,9 @@ import os
 import random
 import stat
 
-from share import people, presence
-from share.mirror import Mirror
+from share.editors.mirror import Mirror
+from share.format import presence
+from share.store import nicknames
 from share.tests.editors import Editor, Engines
 from share.tests.support import TOP, wait_for
 
@@ -264,11 +265,11 @@ class Company(Engines):
         for data in (b"", b"\xff", b"[1]", b"{", b'{"x": "y"}', b"[" * 100_000, '{"7": 1, "70000": "x", "²": "y"}'.encode(),
                      b'{"-1": "x", "1e3": "y"}'):
             path.write_bytes(data)
-            self.assertEqual(people.known("note"), {})
+            self.assertEqual(nicknames.known("note"), {})
         path.write_text(json.dumps({"7": "A\x1b[1m\u202e" + "x" * 100}))
-        self.assertEqual(people.known("note"), {7: ("A[1m" + "x" * 100)[:40]})
-        people.remember("note", {site: "n" for site in range(1, 2_000)})
-        self.assertEqual([*people.known("note")], [*range(1_000, 2_000)])
+        self.assertEqual(nicknames.known("note"), {7: ("A[1m" + "x" * 100)[:40]})
+        nicknames.remember("note", {site: "n" for site in range(1, 2_000)})
+        self.assertEqual([*nicknames.known("note")], [*range(1_000, 2_000)])
 
     def test_what_is_said_may_be_anything(self) -> None:
         chance = random.Random(5)

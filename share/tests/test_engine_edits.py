@@ -9,13 +9,13 @@ import subprocess
 import time
 from unittest import mock
 
-from share import opening
-from share.engine import Engine
-from share.mirror import Mirror
-from share.session import Session
+from share.editors.mirror import Mirror
+from share.engine.engine import Engine
+from share.store import notes
+from share.sync.session import Session
 from share.tests.editors import Editor, Engines
 from share.tests.support import NOTE, wait_for
-from share.words import Trouble
+from share.text.errors import Trouble
 
 LETTERS = "abc  \n\t\r\\é߀ñ漢字🎉👍"
 
@@ -275,7 +275,7 @@ class Wrong(Engines):
         self.assertEqual(self.printed(), editor.text)
 
     def test_what_is_typed_beside_what_is_taken_out_stays_there(self) -> None:
-        engine = Engine("note", lambda: Session(opening.opened("note", None, None)), lambda: None)
+        engine = Engine("note", lambda: Session(notes.opened("note", None, None)), lambda: None)
         self.addCleanup(engine.close)
         sent: list[bytes] = []
         peer = engine.joined(sent.append, lambda: 0)
@@ -299,7 +299,7 @@ class Wrong(Engines):
         self.assertEqual(engine.session.text(), b"one twice two ")
 
     def test_a_program_that_can_not_be_started_again(self) -> None:
-        engine = Engine("note", lambda: Session(opening.opened("note", None, None)), lambda: None)
+        engine = Engine("note", lambda: Session(notes.opened("note", None, None)), lambda: None)
         self.addCleanup(engine.close)
         sent: list[bytes] = []
         peer = engine.joined(sent.append, lambda: 0)

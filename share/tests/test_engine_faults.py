@@ -10,24 +10,25 @@ from concurrent.futures import ThreadPoolExecutor
 from concurrent.futures import TimeoutError as FutureTimeout
 from unittest import mock
 
-from share import link as links
-from share import opening, serving
-from share.carrying import Carrying
-from share.disk import Disk, Unkept
-from share.engine import Engine
-from share.history import in_units, Wrote
-from share.measured import Measured
-from share.mirror import Line, Mirror
-from share.note_text import Change
-from share.presence import Present, written
-from share.program import Ended
-from share.scripts import differences
-from share.session import Session
+from share.cli.verbs import differences
+from share.editors.mirror import Line, Mirror
+from share.engine import server as serving
+from share.engine.engine import Engine
+from share.engine.transform import Carrying
+from share.format import link as links
+from share.format.presence import Present, written
+from share.program.process import Ended
+from share.program.replay import Wrote, in_units
+from share.store import notes
+from share.store.note_file import Disk, Unkept
+from share.sync.session import Session
 from share.tests.editors import Engines
 from share.tests.support import NOTE, Case, type_at_the_end
 from share.tests.terminals import children
 from share.tests.waiting import PATIENCE, wait_for
-from share.units import UNITS
+from share.text.change import Change
+from share.text.rope import Measured
+from share.text.units import UNITS
 
 
 class Here(Case):
@@ -35,7 +36,7 @@ class Here(Case):
 
     def setUp(self) -> None:
         super().setUp()
-        self.engine = Engine("note", lambda: Session(opening.opened("note", None, None)), lambda: None)
+        self.engine = Engine("note", lambda: Session(notes.opened("note", None, None)), lambda: None)
         self.addCleanup(self.engine.close)
         self.editors = [self.editor(units) for units in ("utf-16", "utf-8")]
 
@@ -84,7 +85,7 @@ class Here(Case):
                 raise Ended
             return ask(program, events)
 
-        with mock.patch("share.program.Program.ask", ends):
+        with mock.patch("share.program.process.Program.ask", ends):
             first.edit([(0, 0, "x" * 32_000)])
             got = self.meet()
         self.assertIn("failed", [line.get("error") for line in got[0]])

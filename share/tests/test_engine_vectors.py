@@ -3,10 +3,10 @@ import json
 import pathlib
 import unittest
 
-from share.mirror import Line, Mirror
-from share.units import UNITS, Units
+from share.editors.mirror import Line, Mirror
+from share.text.units import UNITS, Units
 
-VECTORS = pathlib.Path(__file__).resolve().parents[1] / "engine_vectors" / "client.json"
+VECTORS = pathlib.Path(__file__).resolve().parents[1] / "engine" / "vectors" / "client.json"
 
 
 class Vectors(unittest.TestCase):

@@ -3,10 +3,10 @@ import hashlib
 import random
 import unittest
 
-from share.chunks import BEGIN, MOST_CHUNK, number_of, packed
-from share.entry import (GREATEST_SITE, HEAD, LENGTH, MOST_BYTES, NO_HASH, Author, Bad, Copied, Entry, Kind, Plain, body_of,
-                         in_entries)
-from share.message import LONGEST_MESSAGE, MOST_RANGES, Message, is_spelled
+from share.format.chunk import BEGIN, MOST_CHUNK, number_of, packed
+from share.format.entry import (GREATEST_SITE, HEAD, LENGTH, MOST_BYTES, NO_HASH, Author, Bad, Copied, Entry, Kind, Plain, body_of,
+                                in_entries)
+from share.format.operation import LONGEST_MESSAGE, MOST_RANGES, Message, is_spelled
 from share.tests.naive import CHANGE_LOOKS, DELETE, about, inserting
 
 NOTE = bytes(range(100, 116))

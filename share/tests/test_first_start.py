@@ -8,10 +8,10 @@ import subprocess
 import sys
 from unittest import mock
 
-from share import program
-from share.editor import state_of_others
-from share.program import command, file_of, is_unproved
-from share.session import Status
+from share.editors.terminal.app import state_of_others
+from share.program import process
+from share.program.process import command, file_of, is_unproved
+from share.sync.session import Status
 from share.tests.support import TOP, Case
 from share.tests.test_terminal import Terminal
 
@@ -123,8 +123,8 @@ class FirstStart(Case):
                 ("", "proved", proved)):
             if last:
                 (self.folder / "out" / "last").write_text(f"{last}\n", encoding="utf-8")
-            with mock.patch.dict(os.environ, VIALSHOAL_BUILD=name), mock.patch.object(program, "TOP", self.folder), \
-                    mock.patch.object(program, "BUILT", self.folder / proved / "site_cli"):
-                self.assertEqual(program.built(), self.folder / folder / "site_cli")
+            with mock.patch.dict(os.environ, VIALSHOAL_BUILD=name), mock.patch.object(process, "TOP", self.folder), \
+                    mock.patch.object(process, "BUILT", self.folder / proved / "site_cli"):
+                self.assertEqual(process.built(), self.folder / folder / "site_cli")
         self.assertIn("not proved", state_of_others(Status(1, 1, 0, None, 0, unproved=True)))
         self.assertNotIn("proved", state_of_others(Status(1, 1, 0, None, 0)))

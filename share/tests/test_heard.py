@@ -6,24 +6,25 @@ import time
 import unittest
 from unittest import mock
 
-from share import heard, presence
-from share.courier import Courier
-from share.heard import OF_BEFORE, Heard, Lack, Others, Said, Voices, Way
-from share.log import MOST_PRESENCE, ON_SECONDS
-from share.presence import Present, Shows
-from share.redis_log import RedisLog
-from share.redis_wire import Wire
-from share.sealing import NONCE_BYTES, TAG_BYTES
+from share.format import heartbeat, presence
+from share.format.heartbeat import OF_BEFORE, Lack, Said, Way
+from share.format.presence import MOST_PRESENCE, Present
+from share.format.sealed import NONCE_BYTES, TAG_BYTES
+from share.log.base import ON_SECONDS
+from share.log.redis import RedisLog
+from share.log.resp import Wire
+from share.sync.heard import Heard, Others, Shows, Voices
+from share.sync.replicator import Courier
 from share.tests.support import Case, damage, type_at_the_end, wait_for, written
 
 SOON = 20
-ME, OTHER = heard.new_token(), heard.new_token()
+ME, OTHER = heartbeat.new_token(), heartbeat.new_token()
 LACK = Lack(Way.IT, bytes(range(32)))
 
 
 def said(number: int, asks: int, *lacks: Lack, token: bytes = OTHER) -> bytes:
     """What a courier says."""
-    return heard.written(Said(token, number, asks, lacks))
+    return heartbeat.written(Said(token, number, asks, lacks))
 
 
 class Words(unittest.TestCase):
@@ -31,23 +32,23 @@ class Words(unittest.TestCase):
 
     def test_what_is_written_is_read(self) -> None:
         one = Said(OTHER, 7, 3, [LACK, Lack(Way.AFTER, bytes(32))])
-        self.assertEqual(heard.read(heard.written(one)), one)
-        many = heard.written(one._replace(lacks=[LACK] * 20))
-        self.assertEqual(len(many), len(heard.written(one)))
+        self.assertEqual(heartbeat.read(heartbeat.written(one)), one)
+        many = heartbeat.written(one._replace(lacks=[LACK] * 20))
+        self.assertEqual(len(many), len(heartbeat.written(one)))
         self.assertEqual(len(many) + NONCE_BYTES + TAG_BYTES, MOST_PRESENCE)
         # Versions of before pass it over: it isn't their own word, nor a cursor.
         self.assertNotEqual(len(many), OF_BEFORE.size)
         self.assertIsNone(presence.read(many))
         for wrong in b"", many[1:], many + b"\0":
-            self.assertIsNone(heard.read(wrong))
-        self.assertEqual(heard.read(bytes([255]) * heard.BYTES), Said(b"\xff" * 16, 2**32 - 1, 2**32 - 1, []))
+            self.assertIsNone(heartbeat.read(wrong))
+        self.assertEqual(heartbeat.read(bytes([255]) * heartbeat.BYTES), Said(b"\xff" * 16, 2**32 - 1, 2**32 - 1, []))
 
     def test_only_what_is_greater_is_heard(self) -> None:
         voices = Voices()
         self.assertEqual([voices.hears(OTHER, count) for count in (5, 5, 4, 6, 5, 6, 9)],
                          [Heard.FIRST, Heard.NOTHING, Heard.NOTHING, Heard.MORE, Heard.NOTHING, Heard.NOTHING, Heard.MORE])
         self.assertFalse(voices.is_on(ME))
-        with mock.patch("share.heard.MOST_TOKENS", 3):
+        with mock.patch("share.sync.heard.MOST_TOKENS", 3):
             for number in range(3):
                 voices.hears(bytes([number]), 1)
             self.assertEqual(voices.hears(bytes([2]), 1), Heard.NOTHING)
@@ -63,10 +64,10 @@ class Words(unittest.TestCase):
 
     def test_who_says_nothing_new_is_off(self) -> None:
         others, now = Others(ME), time.monotonic()
-        with mock.patch("share.heard.time.monotonic", lambda: now):
+        with mock.patch("share.sync.heard.time.monotonic", lambda: now):
             others.heard([said(3, 0), said(1, 0, token=ME)])
             self.assertEqual(others.on, 2)
-        with mock.patch("share.heard.time.monotonic", lambda: now + ON_SECONDS + 1):
+        with mock.patch("share.sync.heard.time.monotonic", lambda: now + ON_SECONDS + 1):
             others.heard([said(3, 0), said(3, 0), said(2, 0)])
             self.assertEqual(others.on, 1)
             others.heard([said(4, 0)])
@@ -108,7 +109,7 @@ class OnAServer(Case):
         self.server = self.redis()
         self.wire = Wire(self.server.url)
         self.addCleanup(self.wire.close)
-        quick = mock.patch("share.courier.ON_SECONDS", 1)
+        quick = mock.patch("share.sync.replicator.ON_SECONDS", 1)
         quick.start()
         self.addCleanup(quick.stop)
         self.ann = self.opened(self.person("ann"), url=self.server.url)

@@ -4,9 +4,9 @@ import math
 import unittest
 from unittest import mock
 
-from share.disk import About, Client, Disk, make
-from share.entry import NOTE_BYTES, Author, Entry, Form
-from share.holdings import Holdings
+from share.format.entry import NOTE_BYTES, Author, Entry, Form
+from share.store.note_file import About, Client, Disk, make
+from share.sync.state import Holdings
 from share.tests.naive import inserting
 from share.tests.support import Case
 
@@ -59,7 +59,7 @@ class Read(Case):
     def test_what_has_no_room_comes_in_its_turn_after_something_was_withdrawn(self) -> None:
         self.disk.keep(self.mine, True)
         self.disk.keep([self.others_claim, *self.others[1:]], False)
-        with mock.patch("share.holdings.ROOM", 60_000):
+        with mock.patch("share.sync.state.ROOM", 60_000):
             holdings = self.read(Holdings(self.disk.form))
             self.assertGreater(holdings.waiting_for_room(), 0)
             self.assertEqual(holdings.judge.front(2), 0)

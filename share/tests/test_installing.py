@@ -9,13 +9,13 @@ import subprocess
 import sys
 from unittest import mock
 
-from share import installing
-from share.installing import LINKS
-from share.program import command, file_of
+from share.cli import installing
+from share.cli.installing import LINKS
+from share.program.process import command, file_of
 from share.tests.pages import Server
 from share.tests.support import TOP, Case
 from share.tests.test_terminal import Terminal
-from share.words import Trouble
+from share.text.errors import Trouble
 
 EMACS = '(progn (add-to-list (quote load-path) \\"SITE\\") (require (quote vialshoal)) (vialshoal-open \\"note\\"))'
 # What names another program than the installed one.
@@ -23,7 +23,7 @@ PROGRAMS = ("VIALSHOAL_PROGRAM", "VIALSHOAL_BUILD")
 KILLED = """
 import os, pathlib, signal, sys
 sys.path[0] = sys.argv[1]
-from share import installing
+from share.cli import installing
 left = int(sys.argv[3])
 def counting(does):
     def called(*words, **more):

@@ -5,14 +5,15 @@ import os
 import time
 from unittest import mock
 
-from share import opening
-from share import link as links
-from share.entry import Entry, Form
-from share.log import is_network, open_log
-from share.message import Message
+from share.format import link as links
+from share.format.entry import Entry, Form
+from share.format.link import is_network
+from share.format.operation import Message
+from share.log.base import open_log
+from share.program.process import Program
+from share.store import notes
+from share.sync.session import Session
 from share.tests.note import Note
-from share.program import Program
-from share.session import Session
 from share.tests.support import Case, Person, wait_for
 
 FIGURES = bool(os.environ.get("VIALSHOAL_FIGURES"))
@@ -60,7 +61,7 @@ class Joining(Case):
 
     def fill(self, url: str, rounds: list[list[Message]], backwards: bool = False) -> str:
         """Makes a log with the messages of rounds; the link of its note."""
-        about = opening.about_new(url)
+        about = notes.about_new(url)
         form = about.form()
         raws = in_entries(form, rounds)
         with contextlib.closing(open_log(url, form.note)) as log:
@@ -87,7 +88,7 @@ class Joining(Case):
 
         begin = time.monotonic()
         with person.here(), mock.patch.object(Program, "ask", counting):
-            disk = opening.opened("note", None, links.read(link) if link else None)
+            disk = notes.opened("note", None, links.read(link) if link else None)
             note = Note(Session(disk, None, lambda done, total: steps.append((done, total))))
             end = begin + PATIENCE
             while bytes(note.text) != text and time.monotonic() < end:

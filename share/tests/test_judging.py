@@ -15,11 +15,11 @@ from typing import NamedTuple
 from hypothesis import HealthCheck, given, settings
 from hypothesis import strategies as st
 
-from share.backlog import Backlog
-from share.entry import NO_HASH, Author, Bad, Copied, Entry, Kind, Plain
-from share.judging import LEAP, Judge, Rank, rank
-from share.message import Message
-from share.program import Program
+from share.admission.judge import LEAP, Judge, Rank, rank
+from share.format.entry import NO_HASH, Author, Bad, Copied, Entry, Kind, Plain
+from share.format.operation import Message
+from share.program.process import Program
+from share.sync.backlog import Backlog
 from share.tests import naive
 from share.tests.naive import CHANGE_LOOKS, DELETE, RESTORE, about, inserting
 

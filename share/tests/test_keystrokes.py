@@ -8,19 +8,20 @@ from collections.abc import Iterable
 from itertools import chain
 from unittest import mock
 
-from share import chunks, printing
-from share.chunks import MOST_CHUNK, Run
-from share.disk import About, Client, make
-from share.entry import Bad, Entry, Kind, Plain, check_entry
-from share.judging import AHEAD, Judge
-from share.keystrokes import Keystrokes
-from share.ledger import MOST_TYPED, Row
-from share.looks import DEFAULT_BYTES
-from share.message import DELETE, GREATEST_STAMP, INSERT, MOST_OF_A_SITE, Names
-from share.note_text import make as make_changes
-from share.sealing import Sealed
-from share.site import Site
+from share.admission.judge import AHEAD, Judge
+from share.admission.ledger import MOST_TYPED, Row
+from share.format import chunk as chunks
+from share.format.chunk import MOST_CHUNK, Run
+from share.format.entry import Bad, Entry, Kind, Plain, check_entry
+from share.format.keystrokes import Keystrokes
+from share.format.operation import DEFAULT_BYTES, DELETE, GREATEST_STAMP, INSERT, MOST_OF_A_SITE
+from share.format.sealed import Sealed
+from share.program.site import Site
+from share.store import contents
+from share.store.note_file import About, Client, make
 from share.tests.support import Case
+from share.text.change import make as make_changes
+from share.text.names import Names
 
 FORM = Plain(bytes(range(16)))
 OTHER_LOOKS = b"\4Sans\1\0"
@@ -315,17 +316,17 @@ class Opened(Case):
             note = self.opened(self.ann)
             self.assertEqual(note.session.text(), self.text)
             with self.ann.here():
-                self.assertEqual(printing.printed("note", None, None, None).text, self.text)
+                self.assertEqual(contents.printed("note", None, None, None).text, self.text)
 
     def test_none_is_opened_as_a_strangers(self) -> None:
         with self.ann.here(), mock.patch.object(Sealed, "_opened", side_effect=AssertionError):
-            self.assertEqual(printing.printed("note", None, None, None).text, self.text)
+            self.assertEqual(contents.printed("note", None, None, None).text, self.text)
 
     def test_none_is_kept_whole(self) -> None:
         with self.ann.here():
             tracemalloc.start()
             try:
-                printing.printed("note", None, None, None)
+                contents.printed("note", None, None, None)
                 _, most = tracemalloc.get_traced_memory()
             finally:
                 tracemalloc.stop()

@@ -12,7 +12,7 @@ import subprocess
 import threading
 import time
 
-from share.message import typed
+from share.format.operation import typed
 from share.tests.note import Note
 from share.tests.servers import RedisServer
 from share.tests.support import TOP, Case, Person, are_alike, python, type_at_the_end, wait_for, written

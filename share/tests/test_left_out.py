@@ -9,14 +9,15 @@ import shutil
 import subprocess
 import unittest
 
-from share import lost, printing
-from share.editor import state_of_others
-from share.entry import Author, Entry, Form, Kind, Plain, in_entries
-from share.judging import Judge, rank
-from share.leftout import LeftOut
-from share.message import Message, length_after, typed
-from share.session import Status
-from share.site import Site
+from share.admission.judge import Judge, rank
+from share.admission.left_out import LeftOut
+from share.editors.terminal.app import state_of_others
+from share.format.entry import Author, Entry, Form, Kind, Plain, in_entries
+from share.format.operation import Message, length_after, typed
+from share.program import retyping
+from share.program.site import Site
+from share.store import contents
+from share.sync.session import Status
 from share.tests.editors import Engines
 from share.tests.note import Note
 from share.tests.support import NOTE, Carried, Case, Person, edit_at_random, take, type_at_the_end, wait_for, written
@@ -192,7 +193,7 @@ class Taken(Case):
         found, missing = shown(self.anna)
         self.assertEqual((found.replace("!", ""), missing), (text, []))
 
-    def recovered(self, person: Person) -> list[lost.Lost]:
+    def recovered(self, person: Person) -> list[retyping.Lost]:
         """What somebody types again."""
         note = person.open()
         wait_for(lambda: (note.take_in(), note.session.status().can_type and note.session.lost())[1], "a number, and the log")
@@ -257,7 +258,7 @@ class AtRandom(unittest.TestCase):
             with self.subTest(seed=seed):
                 coming = iter(after)
                 self.assertTrue(all(letter in coming for letter in before) if deletes else after == before, (before, after))
-                self.assertEqual(lost.left_out(judge), [])
+                self.assertEqual(retyping.left_out(judge), [])
 
     def written(self, chance: random.Random, deletes: bool) -> tuple[bytes, list[Entry]]:
         """What three have come to who wrote, and their entries."""
@@ -281,7 +282,7 @@ class AtRandom(unittest.TestCase):
         """What a fourth one's text is who types all again that was left out, and what he says of it."""
         judge, author = Judge(entries), FORM.new_author()
         with contextlib.closing(Site(4, judge.count().messages)) as site:
-            again = lost.type_again(lost.lost(judge), entries, judge, site)
+            again = retyping.type_again(retyping.lost(judge), entries, judge, site)
             text = site.text()
         last, length = FORM.claim(4, author), 0
         judge.add(last)
@@ -289,7 +290,7 @@ class AtRandom(unittest.TestCase):
             last = FORM.entry(last, part, author, judge.built_on(part), length)
             length = length_after(part, length)
             judge.add(last)
-        for word in lost.words_of(again.copies, FORM, author, last):
+        for word in retyping.words_of(again.copies, FORM, author, last):
             judge.add(FORM.open(word.raw))
         return text, judge
 
@@ -321,14 +322,14 @@ FORM = Plain(bytes(16))
 def shown(person: Person) -> tuple[str, list[str]]:
     """What somebody's note and its log show, and what is missing in that."""
     with person.here():
-        found = printing.printed("note", None, None, None)
+        found = contents.printed("note", None, None, None)
     return found.text.decode(), found.missing
 
 
 def left_out(person: Person) -> list[dict]:
     """What is left out of somebody's note."""
     with person.here():
-        return printing.counted("note", printing.found("note", None, None, None)).left_out
+        return contents.counted("note", contents.found("note", None, None, None)).left_out
 
 
 def typed_at(site: int, data: bytes) -> list[Message]:

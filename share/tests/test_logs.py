@@ -20,11 +20,12 @@ from collections.abc import Callable
 from contextlib import closing
 from unittest import mock
 
-from share.entry import MOST_BYTES, Plain
-from share.log import MOST_PRESENCE, PAGE, START, Log, Lost, Unreachable, open_log
-from share.sqlite_log import SqliteLog
+from share.format.entry import MOST_BYTES, Plain
+from share.format.presence import MOST_PRESENCE
+from share.log.base import PAGE, START, Log, Lost, Unreachable, open_log
+from share.log.sqlite import SqliteLog
 from share.tests.servers import RedisServer, free_port
-from share.words import Trouble
+from share.text.errors import Trouble
 
 NOTE, OTHER = bytes(range(16)), bytes(16)
 # Who reads it never comes to its end.
@@ -169,7 +170,7 @@ class Shared:
             author = form.new_author()
             claims = [form.claim(site, author) for site in (7, 65_000, 7)]
             log.append([b"", b"\1", raw(1), *(one.raw for one in claims), form.made_anew(claims[1], author).raw])
-            with mock.patch("share.redis_log.PART", 2):
+            with mock.patch("share.log.redis.PART", 2):
                 self.assertIn(log.claimed(), ({7, 65_000}, None))
 
         def test_a_place_of_another_log_is_told(self) -> None:
@@ -410,7 +411,7 @@ class Files(Shared.Both):
 
     def test_views_without_end_end(self) -> None:
         self.closed_with(raw(1))
-        with closing(self.opened()) as log, mock.patch("share.bounded.MOST_TIMES", 1):
+        with closing(self.opened()) as log, mock.patch("share.log.bounded.MOST_TIMES", 1):
             self.file().executescript(f"ALTER TABLE entry RENAME TO before; {WITHOUT_END}")
             for call in (lambda: raws(log), lambda: log.watch(START, 0), log.size):
                 with self.assertRaisesRegex(Unreachable, "interrupted"):
@@ -480,7 +481,7 @@ class Files(Shared.Both):
 
     def test_kept_files_of_those_who_die(self) -> None:
         """What was appended stands, whenever who appended was killed."""
-        code = ("import sys\nfrom share.log import open_log\nlog = open_log(sys.argv[1], bytes(range(16)))\n"
+        code = ("import sys\nfrom share.log.base import open_log\nlog = open_log(sys.argv[1], bytes(range(16)))\n"
                 "for number in range(10 ** 6):\n"
                 "    log.append([b'%06d' % number]); print(number, flush=True)")
         for turn in range(5):

@@ -5,11 +5,12 @@ import random
 import shutil
 import subprocess
 
-from share.looks import DEFAULT, Looks, Run, is_bold, is_slanted, may_dress, setting, with_weight
-from share.message import Names, mentioned
-from share.site import Edited, Site
+from share.format.operation import may_dress, mentioned
+from share.program.site import Edited, Site
 from share.tests.editors import Editor, Engines
 from share.tests.support import NOTE, Case, wait_for
+from share.text.looks import DEFAULT, Looks, Run, is_bold, is_slanted, setting, with_weight
+from share.text.names import Names
 
 BOLD_RED = {"bold": True, "colour": 2}
 

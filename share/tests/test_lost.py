@@ -200,6 +200,9 @@ def put_in_place(path: pathlib.Path) -> None:
     os.rename(other, path)
 
 
+# SQLite has the index in memory that the file stands for. Who reads there once the file was cut off is ended by the system, and whether
+# a thread does so before another one sees it is chance.
+CUT_INDEX = "an empty index beside it"
 DAMAGES: dict[str, Callable[[pathlib.Path], object]] = {
     "emptied": cut,
     "cut in half": lambda path: cut(path, 0.5),
@@ -215,7 +218,7 @@ DAMAGES: dict[str, Callable[[pathlib.Path], object]] = {
     "half of a log beside it": lambda path: cut(beside(path, "-wal"), 0.5),
     "another log beside it": lambda path: write_over(beside(path, "-wal"), 0, bytes(32)),
     "zeros in the log beside it": lambda path: write_over(beside(path, "-wal"), beside(path, "-wal").stat().st_size // 2, bytes(99)),
-    "an empty index beside it": lambda path: cut(beside(path, "-shm")),
+    CUT_INDEX: lambda path: cut(beside(path, "-shm")),
 }
 
 
@@ -250,8 +253,8 @@ class SpoiltWhileOpen(Engines):
     def damaged_again_and_again(self, **more: str) -> None:
         """That the user is told of each damage, the damaged file is kept, and all is there as soon as a key is answered."""
         editor = self.begun("data", **more)
-        for number, (what, damage) in enumerate(DAMAGES.items(), 1):
-            damage(self.person().path())
+        for number, (what, spoils) in enumerate((one for one in DAMAGES.items() if one[0] != CUT_INDEX), 1):
+            spoils(self.person().path())
             self.type(editor, f"{number} ")
             self.assert_kept("data", what)
             editor.wait_for(lambda many=number: len(editor.notices("says")) >= many, f"{what} to be told")
@@ -265,6 +268,22 @@ class SpoiltWhileOpen(Engines):
 
     def test_a_shared_note_is_written_anew(self) -> None:
         self.damaged_again_and_again(url=self.file_log())
+
+    def test_an_index_that_is_cut_off_costs_nothing_that_was_answered(self) -> None:
+        for more in {}, {"url": self.file_log()}:
+            data = f"data{len(more)}"
+            editor = self.begun(data, **more)
+            assert editor.mirror
+            mirror = editor.mirror
+            DAMAGES[CUT_INDEX](self.person(data).path())
+            editor.type("last ")
+            wait_for(lambda one=editor, has=mirror: one.read(0.02) and has.answered == has.made or one.process.poll() is not None,
+                     "an answer, or the engine's end")
+            words = {self.words + "last "} if mirror.answered == mirror.made else {self.words, self.words + "last "}
+            editor.close()
+            again = self.editor(data)
+            again.wait_for(lambda one=again, these=words: one.text in these, "all that was answered")
+            again.close()
 
     def test_what_is_closed_or_killed_then_is_whole(self) -> None:
         for what, is_killed in (("emptied", False), ("emptied", True), ("zeros over a page", False), ("no log beside it", True)):

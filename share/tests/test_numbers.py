@@ -8,17 +8,17 @@ import time
 from collections.abc import Sequence
 from unittest import mock
 
-from share.courier import Courier
-from share.disk import Client, Disk
-from share.ledger import Row
-from share.entry import LENGTH, Entry, Form, Kind
-from share.judging import rank
-from share.log import Log
-from share.message import DELETE, Message
-from share.program import Program
-from share.session import Session
-from share.site import Edited, Site
-from share.sqlite_log import SqliteLog
+from share.admission.judge import rank
+from share.admission.ledger import Row
+from share.format.entry import LENGTH, Entry, Form, Kind
+from share.format.operation import DELETE, Message
+from share.log.base import Log
+from share.log.sqlite import SqliteLog
+from share.program.process import Program
+from share.program.site import Edited, Site
+from share.store.note_file import Client, Disk
+from share.sync.replicator import Courier
+from share.sync.session import Session
 from share.tests.naive import about
 from share.tests.note import Note
 from share.tests.servers import RedisServer
@@ -261,7 +261,7 @@ class Numbers(Case):
         def stands_there(courier: Courier, entry: Entry) -> bool:
             return courier is first.session._courier and stands(courier, entry)
 
-        with mock.patch.object(Courier, "stands", stands_there), mock.patch("share.session.OPEN_SECONDS", 0):
+        with mock.patch.object(Courier, "stands", stands_there), mock.patch("share.sync.session.OPEN_SECONDS", 0):
             second = self.opened(self.anna)
             wait_for(lambda: (first.take_in(), second.session.number in stood(self.anna))[1], "it to be noted in the file")
             self.assertFalse(second.session.status().can_type)
@@ -349,7 +349,7 @@ class Numbers(Case):
         for url in None, self.url:
             person = self.person(f"person{bool(url)}")
             note = self.opened(person, url=url)
-            with mock.patch.multiple("share.numbers", MOST_OF_A_SITE=1_000, ROOM=100, AGAIN_SECONDS=0):
+            with mock.patch.multiple("share.sync.numbers", MOST_OF_A_SITE=1_000, ROOM=100, AGAIN_SECONDS=0):
                 for _ in range(3):
                     before = note.session.number
                     type_at_the_end(note, "x" * 950)

@@ -13,11 +13,11 @@ import unittest
 import zlib
 from unittest import mock
 
-from share.message import DELETE, Message
-from share.old import JOURNAL_BEGIN, RECORD, Old, is_old_note, messages_of_old_note, messages_of_old_server
+from share.format.operation import DELETE, Message
+from share.store.old import JOURNAL_BEGIN, RECORD, Old, is_old_note, messages_of_old_note, messages_of_old_server
 from share.tests.naive import about
 from share.tests.servers import RedisServer
-from share.words import Trouble
+from share.text.errors import Trouble
 
 FIXTURES = pathlib.Path(__file__).parent / "data" / "old_notes.tar.gz"
 LOCAL, SERVED = "e1dbd51f7c5d1601", "14bb5b4405555f78"
@@ -228,7 +228,7 @@ class Files(OldCase):
         with mock.patch("shutil.copyfile", copied):
             self.assertEqual(counts(self.read()), {1: 5, 2: 2, 3: 2})
         self.assertGreaterEqual(copies, 6)
-        with mock.patch("share.old.TRIES", 2), mock.patch("share.old._stats", side_effect=range(100)):
+        with mock.patch("share.store.old.TRIES", 2), mock.patch("share.store.old._stats", side_effect=range(100)):
             with self.assertRaisesRegex(Trouble, "is being written to"):
                 self.read()
 

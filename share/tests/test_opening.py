@@ -10,11 +10,11 @@ import subprocess
 import tarfile
 import unittest
 
-from share import opening
-from share.disk import Unkept
-from share.link import read
+from share.format.link import read
+from share.store import notes
+from share.store.note_file import Unkept
+from share.sync.session import Session
 from share.tests.note import Note
-from share.session import Session
 from share.tests.servers import RedisServer
 from share.tests.support import NOTE, Case, Person, change, raws_of, type_at_the_end, wait_for, written
 
@@ -117,7 +117,7 @@ class Links(Opening):
         (self.folder / "password").write_text("open sesame\n")
         ann = self.person("ann")
         with ann.here():
-            note = Note(Session(opening.opened("note", server.url, None, "open sesame"), "open sesame"))
+            note = Note(Session(notes.opened("note", server.url, None, "open sesame"), "open sesame"))
         written(note, "one ")
         note.session.close()
         bob, link = self.person("bob"), ann.link()
@@ -146,8 +146,8 @@ class Links(Opening):
 
     def test_a_folder_that_can_not_be_written(self) -> None:
         (self.folder / "data").write_text("no folder")
-        with self.person().here(), self.assertRaisesRegex((opening.Trouble, Unkept), "Not a directory|File exists"):
-            opening.opened("note", None, None)
+        with self.person().here(), self.assertRaisesRegex((notes.Trouble, Unkept), "Not a directory|File exists"):
+            notes.opened("note", None, None)
 
 
 class Moved(Opening):
@@ -180,8 +180,8 @@ class Moved(Opening):
     def test_nothing_plain_goes_to_a_server(self) -> None:
         ann = self.made("ann", self.file_log())
         server = self.redis()
-        with ann.here(), self.assertRaisesRegex(opening.Trouble, "isn't sealed.*bin/note renew note --log redis"):
-            opening.opened("note", server.url, None)
+        with ann.here(), self.assertRaisesRegex(notes.Trouble, "isn't sealed.*bin/note renew note --log redis"):
+            notes.opened("note", server.url, None)
         self.assertEqual(read(ann.link()).url, self.file_log())
 
 
@@ -260,7 +260,7 @@ class Before(Opening):
         self.assertFalse((self.folder / "data" / "notes").exists())
         told: list[str] = []
         with self.ann.here():
-            session = Session(opening.opened("diary", None, None, None, told.append))
+            session = Session(notes.opened("diary", None, None, None, told.append))
         self.addCleanup(session.close)
         self.assertEqual(session.text().replace(b"\r", b"\n").decode(), printed.stdout)
         self.assertRegex(" ".join(told), "3.left has 2 edits")
@@ -268,7 +268,7 @@ class Before(Opening):
         written(note, "and more")
         self.assertTrue(self.ann.text("diary").endswith(b"and more"))
         self.assertEqual(self.files(), self.old_files)
-        self.assertEqual(opening.opened("diary", None, None).about.url, "")
+        self.assertEqual(notes.opened("diary", None, None).about.url, "")
 
     def test_renewed_at_once(self) -> None:
         run = self.run_as(self.ann, "renew", "diary", "--log", self.file_log())
@@ -280,8 +280,8 @@ class Before(Opening):
     def test_on_a_server_it_is_read_only_until_it_was_copied(self) -> None:
         server = self.server()
         stranger = self.person("stranger")
-        with stranger.here(), self.assertRaisesRegex(opening.Trouble, "is read only.*bin/note renew diary --log"):
-            opening.opened("diary", server.url, None)
+        with stranger.here(), self.assertRaisesRegex(notes.Trouble, "is read only.*bin/note renew diary --log"):
+            notes.opened("diary", server.url, None)
         digest = server.cli("DEBUG", "DIGEST")
         printed = self.run_as(stranger, "diary", "--print", "--log", server.url)
         self.assertTrue(printed.stdout)
@@ -381,8 +381,8 @@ class Recovered(Opening):
     def test_a_damaged_file_is_told(self) -> None:
         ann = self.made("ann")
         ann.path().write_bytes(b"words")
-        with ann.here(), self.assertRaisesRegex(opening.Trouble, "bin/note recover .*join the note again"):
-            opening.opened("note", None, None)
+        with ann.here(), self.assertRaisesRegex(notes.Trouble, "bin/note recover .*join the note again"):
+            notes.opened("note", None, None)
 
 
 if __name__ == "__main__":

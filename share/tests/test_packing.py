@@ -9,14 +9,14 @@ import sqlite3
 import subprocess
 from unittest import mock
 
-from share import packing
-from share.disk import Unkept
-from share.entry import Author, Plain, digest
-from share.judging import Judge
-from share.packing import FRONT, KEPT, LEFT
-from share.program import Ended, Program
-from share.session import Session
-from share.site import Site
+from share.admission.judge import Judge
+from share.format.entry import Author, Plain, digest
+from share.program.process import Ended, Program
+from share.program.site import Site
+from share.store import snapshot
+from share.store.note_file import Unkept
+from share.store.snapshot import FRONT, KEPT, LEFT
+from share.sync.session import Session
 from share.tests.naive import inserting
 from share.tests.note import Note
 from share.tests.support import TOP, Case, change, python, type_at_the_end, wait_for, written
@@ -25,12 +25,12 @@ from share.tests.support import TOP, Case, change, python, type_at_the_end, wait
 DIES = """
 import os, sys
 from unittest import mock
-from share import opening, packing
-from share.disk import Disk
-from share.program import Program
-from share.session import Session
+from share.program.process import Program
+from share.program.site import Site
+from share.store import notes, snapshot
+from share.store.note_file import Disk
+from share.sync.session import Session
 from share.tests.note import Note
-from share.site import Site
 
 point = sys.argv[1]
 keep, noted, ask = Site.keep, Disk.note_packed, Program.ask
@@ -50,7 +50,7 @@ def keeps(site):
     fronts = keep(site)
     return dies() if point == "written" else fronts
 
-def notes(*words):
+def noted_then_dies(*words):
     if point == "transaction":
         with words[0]._words(), words[0]._transaction():
             words[0]._file.execute("INSERT OR REPLACE INTO packed VALUES (?, x'00', x'00')", words[1:2])
@@ -58,9 +58,9 @@ def notes(*words):
     noted(*words)
     dies()
 
-packing.AT_END = 1
-Site.keep, Disk.note_packed, Program.ask = keeps, notes, asks
-note = Note(Session(opening.opened("note", None, None)))
+snapshot.AT_END = 1
+Site.keep, Disk.note_packed, Program.ask = keeps, noted_then_dies, asks
+note = Note(Session(notes.opened("note", None, None)))
 note.moved_to(len(note.text))
 note.type(f"{point} ")
 note.session.close()
@@ -73,7 +73,7 @@ class Packing(Case):
 
     def setUp(self) -> None:
         super().setUp()
-        patch = mock.patch.object(packing, "AT_END", 1)
+        patch = mock.patch.object(snapshot, "AT_END", 1)
         patch.start()
         self.addCleanup(patch.stop)
         self.ann = self.person()
@@ -116,7 +116,7 @@ class Packing(Case):
     def test_no_message_is_handed_in_that_it_has(self) -> None:
         events: list[bytes] = []
         ask = Program.ask
-        with mock.patch.object(packing, "AT_END", 100):
+        with mock.patch.object(snapshot, "AT_END", 100):
             self.closed("and more")
         with mock.patch.object(Program, "ask", lambda program, asked: (events.extend(asked), ask(program, asked))[1]):
             note = self.opened(self.ann)
@@ -223,9 +223,9 @@ class Packing(Case):
         judge = Judge([claim, branches[1]])
         self.file().write_bytes(b"packed")
         disk = mock.Mock(packed=lambda _: (digest(b"packed"), FRONT.pack(7, 1, branches[1].hash)))
-        self.assertEqual(packing.fronts_of(disk, judge, 7, self.file().parent), {7: 1})
+        self.assertEqual(snapshot.fronts_of(disk, judge, 7, self.file().parent), {7: 1})
         for judge in Judge([claim, *branches]), Judge([claim]), Judge():
-            self.assertEqual(packing.fronts_of(disk, judge, 7, self.file().parent), {})
+            self.assertEqual(snapshot.fronts_of(disk, judge, 7, self.file().parent), {})
 
     def test_no_room_for_it(self) -> None:
         # The name is taken by what can't be replaced.
@@ -234,10 +234,10 @@ class Packing(Case):
         self.closed("and more ")
         self.shows("begin and more ", False)
         shutil.rmtree(self.file())
-        with mock.patch("share.disk.Disk.note_packed", side_effect=Unkept("database or disk is full")):
+        with mock.patch("share.store.note_file.Disk.note_packed", side_effect=Unkept("database or disk is full")):
             self.closed("still more ")
         self.shows("begin and more still more ", False)
-        with mock.patch("share.packing.make_folder", side_effect=OSError(28, "No space left on device")):
+        with mock.patch("share.store.snapshot.make_folder", side_effect=OSError(28, "No space left on device")):
             self.closed("end")
         # It is as it was before that.
         self.shows("begin and more still more end", True)
@@ -274,7 +274,7 @@ class Packing(Case):
 
     def test_it_is_written_while_much_comes(self) -> None:
         note = self.opened(self.ann)
-        with mock.patch.object(packing, "MANY", 3), mock.patch.object(Site, "keep", autospec=True,
+        with mock.patch.object(snapshot, "MANY", 3), mock.patch.object(Site, "keep", autospec=True,
                                                                      side_effect=Site.keep) as kept:
             for number in range(6):
                 type_at_the_end(note, str(number))
@@ -295,13 +295,13 @@ class Packing(Case):
         self.shows("begin more ", True)
 
     def test_a_folder_without_a_file_is_taken_away(self) -> None:
-        with mock.patch.object(packing, "AT_END", 100):
+        with mock.patch.object(snapshot, "AT_END", 100):
             self.ann.open("other").session.close()
             self.assertEqual([path.name for path in self.ann.path("other").parent.glob("other.packed")], [])
 
     def test_a_joined_note_is_packed(self) -> None:
         one = self.opened(self.person("one"), url=self.file_log())
-        with mock.patch.object(packing, "MANY", 5):
+        with mock.patch.object(snapshot, "MANY", 5):
             written(one, "some words")
             for word in "a few more words".split():
                 written(one, word)
@@ -310,7 +310,7 @@ class Packing(Case):
             wait_for(lambda: (two.take_in(), two.session._packed)[1], "it to be packed")
 
     def test_a_session_whose_file_can_not_be_read(self) -> None:
-        with mock.patch("share.disk.Disk.packed", side_effect=Unkept("busy")):
+        with mock.patch("share.store.note_file.Disk.packed", side_effect=Unkept("busy")):
             note = self.opened(self.ann)
             self.assertEqual(bytes(note.text), b"begin ")
             self.assertIsInstance(note.session, Session)

@@ -12,9 +12,9 @@ import tempfile
 import threading
 import unittest
 
-from share.measured import swapped
 from share.tests.pages import Server
 from share.tests.support import NOTE, Case, Person, engine_of, take, type_at_the_end, wait_for, written
+from share.text.rope import swapped
 
 try:
     from selenium.webdriver.common.keys import Keys

@@ -7,12 +7,12 @@ import unittest.mock
 from collections.abc import Iterator
 from types import ModuleType
 
-from share import layout
-from share.layout import (NEAR, PART, Layout, Text, cluster_after, cluster_before, decoded, drawn, word_after,
-                          word_before)
-from share.note_text import Change, boundary, make
-from share.site import MOST_BYTES, split
+from share.editors.terminal import layout
+from share.editors.terminal.layout import (NEAR, PART, Layout, Text, cluster_after, cluster_before, decoded, drawn, word_after,
+                                           word_before)
+from share.program.site import MOST_BYTES, split
 from share.tests.support import Case
+from share.text.change import Change, boundary, make
 
 WIDTH = 20
 ALPHABET = "abc  \r\té漢🎉e\u0301\u200d🇩🇪"

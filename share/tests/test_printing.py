@@ -7,7 +7,7 @@ import subprocess
 import unittest
 from contextlib import closing
 
-from share.message import DELETE
+from share.format.operation import DELETE
 from share.tests.naive import about
 from share.tests.support import NOTE, Case, Person, change, type_at_the_end, written
 

@@ -7,15 +7,15 @@ import pty
 import subprocess
 from unittest import mock
 
-from share import opening, people, renewing
-from share.judging import Judge
-from share.looks import Looks
-from share.messages import Messages
-from share.reading import found_in
-from share.site import Site
+from share.admission.judge import Judge
+from share.format.history import Messages
+from share.program.site import Site
+from share.store import nicknames, notes, renewal
+from share.store.read_only import found_in
 from share.tests.editors import Editor
 from share.tests.support import NOTE, Case, Person, type_at_the_end, wait_for, written
-from share.words import Trouble
+from share.text.errors import Trouble
+from share.text.looks import Looks
 
 REFUSED = r"refused \(21\).*bin/note renew NAME --fresh"
 
@@ -60,14 +60,14 @@ class Renewing(Case):
     def test_all_that_the_others_wrote_is_there_in_its_order(self) -> None:
         numbers = self.written()
         with self.ann.here():
-            people.remember("note", {numbers["mallory"]: "Mallory", numbers["bob"]: "Bob"})
+            nicknames.remember("note", {numbers["mallory"]: "Mallory", numbers["bob"]: "Bob"})
         self.run_as(self.ann, "renew", "note", "--without", str(numbers["mallory"]), status=2)
         self.assertIn("--yes", self.said)
         told = self.run_as(self.ann, "renew", "note", "--without", str(numbers["mallory"]), "--yes")
         self.assertIn("Its history begins there", told)
         self.assertIn(f"Not in it: 15 characters of Mallory (site {numbers['mallory']}).", told)
         with self.ann.here():
-            self.assertEqual(people.known("note"), {numbers["bob"]: "Bob"})
+            self.assertEqual(nicknames.known("note"), {numbers["bob"]: "Bob"})
         note = self.opened(self.ann)
         self.assert_comes_to(note, b"zero one two and so three ")
         # Who wrote what is known as before, and nothing of the history is there.
@@ -110,7 +110,7 @@ class Renewing(Case):
             one.take(messages)
             for looks, at in (Looks("Oberon12b.Scn.Fnt", 5, -3), 0), (Looks(None, 3, None), 20):
                 messages += one.look(looks, one.names(at, at + 25)).messages
-            made = renewing.fresh(Messages(messages), frozenset())
+            made = renewal.fresh(Messages(messages), frozenset())
             self.assertEqual({*made.sizes}, {7, 9})
             with contextlib.closing(Site(1, made.messages)) as new:
                 self.assertEqual((new.text(), new.runs()), (one.text(), one.runs()))
@@ -121,22 +121,22 @@ class Renewing(Case):
         note = self.opened(self.ann)
         for number in range(10):
             type_at_the_end(note, f"{number}")
-        with mock.patch("share.site.MOST_MESSAGES", 10):
+        with mock.patch("share.program.site.MOST_MESSAGES", 10):
             note.type("!")
             self.assertRegex(note.notice, REFUSED)
             note.session.close()
             # A copy with the history would be full, too.
             with self.ann.here(), self.assertRaisesRegex(Trouble, "has 10 messages.*bin/note renew note --fresh"):
-                opening.renew("note", None, None)
+                notes.renew("note", None, None)
             self.assertFalse(self.ann.path("note.old-1").exists())
             with self.ann.here():
-                opening.renew("note", None, None, begins=lambda messages: renewing.fresh(messages, frozenset()).messages)
+                notes.renew("note", None, None, begins=lambda messages: renewal.fresh(messages, frozenset()).messages)
             note = self.opened(self.ann)
             type_at_the_end(note, "!")
             self.assertEqual((bytes(note.text), note.notice), (b"0123456789!", ""))
 
     def test_that_a_note_is_nearly_full_is_told_once(self) -> None:
-        with mock.patch("share.site.MOST_MESSAGES", 21):
+        with mock.patch("share.program.site.MOST_MESSAGES", 21):
             note = self.opened(self.ann)
             for number in range(18):
                 type_at_the_end(note, "x")
@@ -183,9 +183,9 @@ class Renewing(Case):
             rows = [row.entry for row in disk.rows()]
         stranger = form.new_author()
         judge = Judge([*rows, form.renewed("Ann", client.site, stranger), form.renewed("Ann", 9, stranger)])
-        self.assertIsNone(renewing.renewed_by(judge, set()))
+        self.assertIsNone(renewal.renewed_by(judge, set()))
         judge.add(form.renewed("A\x1b[31m" + "n" * 300, client.site, client.author))
-        said = renewing.renewed_by(judge, set())
+        said = renewal.renewed_by(judge, set())
         self.assertEqual((said["site"], said["own"], len(said["name"])), (client.site, False, 40))
         self.assertEqual(judge.count().messages, Judge(rows).count().messages)
 

@@ -7,22 +7,22 @@ import subprocess
 import time
 from unittest import mock
 
-from share.disk import Anew, Disk, Overtaken, Unkept, make
-from share.judging import rank
-from share.tests.note import Note
-from share.session import Session
-from share.site import MOST_BYTES, Edited, Site
+from share.admission.judge import rank
+from share.program.site import MOST_BYTES, Edited, Site
+from share.store.note_file import Anew, Disk, Overtaken, Unkept, make
+from share.sync.session import Session
 from share.tests import test_numbers
+from share.tests.note import Note
 from share.tests.support import TOP, Case, change, python, type_at_the_end, wait_for, written
-from share.words import Trouble
+from share.text.errors import Trouble
 
 # Types words under a name until a second is over; then prints how many.
 TYPES = """
 import sys, time
-from share import opening
+from share.store import notes
+from share.sync.session import Session
 from share.tests.note import Note
-from share.session import Session
-note, number = Note(Session(opening.opened("note", None, None))), 0
+note, number = Note(Session(notes.opened("note", None, None))), 0
 print("open", flush=True)
 sys.stdin.readline()
 end = time.monotonic() + 1
@@ -189,7 +189,7 @@ class GivenUp(Case):
                 for note, words in (first, "F "), (second, "S "):
                     wait_for(lambda one=note: one.session.status().offline, "the log to be away")
                     type_at_the_end(note, words)
-                with mock.patch("share.session.AGAIN_SECONDS", 0.3):
+                with mock.patch("share.sync.session.AGAIN_SECONDS", 0.3):
                     with mock.patch.object(Disk, step, side_effect=Unkept("full")):
                         self.back()
                         end = time.monotonic() + 1.2

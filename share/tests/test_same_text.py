@@ -1,9 +1,9 @@
 """Sites that share a note show the same, however their entries come."""
 import random
 
-from share.message import inserted
-from share.note_text import change
+from share.format.operation import inserted
 from share.tests.support import Case, Pair, edit_at_random, plain_text
+from share.text.change import change
 
 EDITS = 600
 OFFLINE = range(200, 400)

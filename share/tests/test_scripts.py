@@ -4,8 +4,8 @@ import json
 import os
 import subprocess
 
-from share.as_html import Run, page
-from share.scripts import differences
+from share.cli.html import Run, page
+from share.cli.verbs import differences
 from share.tests.editors import Editor
 from share.tests.support import NOTE, Case, Person, raws_of, wait_for
 

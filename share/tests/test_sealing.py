@@ -6,16 +6,16 @@ import random
 import unittest
 from unittest import mock
 
-import share.sealing
-from share import link
-from share.chunks import MOST_CHUNK
-from share.entry import HEAD, MOST_BYTES, Author, Bad, Entry, Form, Plain, in_entries
-from share.link import Link, url_of
-from share.log import MOST_PRESENCE
-from share.message import DELETE, Message
-from share.sealing import KEY_BYTES, SIGNATURE_BYTES, Sealed, identity_of, new_key
+import share.format.sealed
+from share.format import link
+from share.format.chunk import MOST_CHUNK
+from share.format.entry import HEAD, MOST_BYTES, Author, Bad, Entry, Form, Plain, in_entries
+from share.format.link import Link, url_of
+from share.format.operation import DELETE, Message
+from share.format.presence import MOST_PRESENCE
+from share.format.sealed import KEY_BYTES, SIGNATURE_BYTES, Sealed, identity_of, new_key
 from share.tests.naive import about
-from share.words import Trouble
+from share.text.errors import Trouble
 
 KEY = bytes(range(KEY_BYTES))
 
@@ -151,12 +151,12 @@ class Opened(unittest.TestCase):
         self.assertNotIn(self.form.note, KEY)
 
     def test_without_nacl_it_is_told_how_to_have_it(self) -> None:
-        share.sealing.HAS_NACL = False
+        share.format.sealed.HAS_NACL = False
         try:
             with self.assertRaisesRegex(Trouble, "apt-get install python3-nacl"):
                 Sealed(KEY)
         finally:
-            share.sealing.HAS_NACL = True
+            share.format.sealed.HAS_NACL = True
 
 
 class Presence(unittest.TestCase):

@@ -15,19 +15,18 @@ import time
 import unittest
 from unittest import mock
 
-from share.disk import About
-from share.entry import MOST_BYTES, Author, Entry, Form
-from share.heard import OF_BEFORE
-from share.judging import rank
-from share.link import Link, read
-from share.message import DELETE, Message
+from share.admission.judge import rank
+from share.format.entry import MOST_BYTES, Author, Entry, Form
+from share.format.heartbeat import OF_BEFORE
+from share.format.link import Link, read
+from share.format.operation import DELETE, Message
+from share.store.note_file import About
 from share.tests.naive import about, inserting
 from share.tests.note import Note
 from share.tests.servers import Hostile
 from share.tests.servers import RedisServer as Server
 from share.tests.support import (NOTE, TOP, Case, Person, python, raws_of, type_at_the_end, wait_for,
                                  written)
-from share.words import Trouble
 
 HUGE = 100_000_000
 # More than the 100 MB of one entry that must not be held.
@@ -38,9 +37,10 @@ CONTROLS = "\x1b[31m\x1b]0;title\x07\x1b]52;c;d29yZHM=\x07\x9b31m\x08\x7f"
 # Joins a note, and prints what it shows as soon as it has some words, and how much memory that took.
 JOINS = """
 import json, os, pathlib, re, sys, time
-from share import link, opening
-from share.session import Session
-session = Session(opening.opened("note", None, link.read(os.environ["VIALSHOAL_LINK"])))
+from share.format import link
+from share.store import notes
+from share.sync.session import Session
+session = Session(notes.opened("note", None, link.read(os.environ["VIALSHOAL_LINK"])))
 end = time.monotonic() + 120
 told = []
 while time.monotonic() < end and not (session.text() == b"one two " and (told or sys.argv[1] == "quiet")):
@@ -335,7 +335,7 @@ class Peers(Shared):
 
     def test_claims_of_all_numbers_keep_a_newcomer_out(self) -> None:
         numbers = range(1, 3)
-        with mock.patch("share.numbers.GREATEST_SITE", len(numbers)):
+        with mock.patch("share.sync.numbers.GREATEST_SITE", len(numbers)):
             # Of many claims of each number the one that wins.
             claims = [[self.form.claim(site, self.form.new_author()) for _ in range(3_000)] for site in numbers]
             self.append(*(min(of_site, key=rank).raw for of_site in claims))

@@ -5,20 +5,20 @@ import random
 import unittest
 from unittest import mock
 
-from share import chunks
-from share.chunks import MOST_CHUNK, Writer, of_message
-from share.coming import PLACE, Coming
-from share.entry import Kind, Plain
-from share.ledger import Ledger, Line, Row
-from share.message import DELETE, Message
-from share.messages import Messages, Part
-from share.site import Site
+from share.admission.ledger import Ledger, Line, Row
+from share.format import chunk as chunks
+from share.format.chunk import MOST_CHUNK, Writer, of_message
+from share.format.entry import Kind, Plain
+from share.format.history import Messages, Part
+from share.format.operation import DELETE, Message
+from share.program.intake import PLACE, Coming
+from share.program.site import Site
 from share.tests.attacks import AT_THE_FRONT, LETTERS, Hostile, square
 from share.tests.editors import Engines
 from share.tests.naive import about, inserting
-from share.tests.test_chunks import line_of
 from share.tests.support import Case, edit_at_random, wait_for, written
-from share.words import Trouble
+from share.tests.test_chunks import line_of
+from share.text.errors import Trouble
 
 EDITS, SOME, FEW = 60, 60, 3
 WORDS = "The first words of the note. "
@@ -111,7 +111,7 @@ class Meanwhile(Case):
 
     def test_what_is_typed_meanwhile_counts_everywhere(self) -> None:
         chance = random.Random(6)
-        with mock.patch.multiple("share.coming", BEGIN=PLACE, MOST=PLACE):
+        with mock.patch.multiple("share.program.intake", BEGIN=PLACE, MOST=PLACE):
             anna, berta = self.together(self.file_log(), "anna", "berta")
         berta.session.turn_seconds, between = 0.0, 0
         for _ in range(3):

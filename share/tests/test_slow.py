@@ -4,9 +4,9 @@ import threading
 import time
 from unittest import mock
 
-from share import link as links
-from share import opening
-from share.log import open_log
+from share.format import link as links
+from share.log.base import open_log
+from share.store import notes
 from share.tests.naive import inserting
 from share.tests.support import Case, raws_of, wait_for, written
 from share.tests.test_joining import history, in_entries
@@ -23,7 +23,7 @@ class SlowLine(Case):
     def setUp(self) -> None:
         super().setUp()
         self.server = self.redis()
-        about = opening.about_new(self.server.url)
+        about = notes.about_new(self.server.url)
         self.form = about.form()
         self.link = links.Link("sealed", about.secret, self.server.url)
         rounds, self.text = history(LONG)
@@ -48,7 +48,7 @@ class SlowLine(Case):
         self.fill()
         line = self.slow(sum(map(len, self.raws)) / 60)
         begin = time.monotonic()
-        with mock.patch("share.session.OPEN_SECONDS", 30), mock.patch("share.redis_log.LEAST_ROOM", 2**12):
+        with mock.patch("share.sync.session.OPEN_SECONDS", 30), mock.patch("share.log.redis.LEAST_ROOM", 2**12):
             note = self.opened(ann, url=line.url)
         self.assertLess(time.monotonic() - begin, 15)
         self.assertTrue(note.session.status().can_type)

@@ -9,12 +9,13 @@ import pathlib
 import random
 import unittest
 
-from share import chunks
-from share import message as messages
-from share.message import (CHANGE_LOOKS, DELETE, INSERT, LONGEST_MESSAGE, RESTORE, Message, Names, inserted,
-                           is_spelled, mentioned, names_of)
-from share.program import Program
+from share.format import chunk
+from share.format import operation as messages
+from share.format.operation import (CHANGE_LOOKS, DELETE, INSERT, LONGEST_MESSAGE, RESTORE, Message, inserted,
+                                    is_spelled, mentioned, names_of)
+from share.program.process import Program
 from share.tests.naive import about, head, reading
+from share.text.names import Names
 
 TIMES = int(os.environ.get("VIALSHOAL_EXAMPLES", "0"))
 TRIES = 4_000 * max(TIMES, 1)
@@ -218,11 +219,11 @@ class TheProgramAlone(unittest.TestCase):
     """Messages are made by the program, and read here; one file unfolds them from chunks, as the program does."""
 
     def test_no_file_packs_a_message(self) -> None:
-        reads, unfolds = pathlib.Path(messages.__file__), pathlib.Path(chunks.__file__)
-        for path in [*reads.parent.glob("*.py"), *reads.parent.glob("web/*.py")]:
+        reads, unfolds = pathlib.Path(messages.__file__), pathlib.Path(chunk.__file__)
+        for path in (path for path in reads.parents[1].rglob("*.py") if path.parent.name != "tests"):
             nodes = [*ast.walk(ast.parse(path.read_bytes()))]
             packs = {ast.unparse(one.value) for one in nodes if isinstance(one, ast.Attribute) and one.attr.startswith("pack")}
-            forms = {name.name for one in nodes if isinstance(one, ast.ImportFrom) and one.module == "share.message"
+            forms = {name.name for one in nodes if isinstance(one, ast.ImportFrom) and one.module == "share.format.operation"
                      for name in one.names}
             tags = [one for one in nodes if isinstance(one, ast.Constant) and one.value == messages.TAG]
             self.assertEqual(packs if path == reads else packs & forms,

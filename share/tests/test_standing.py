@@ -3,12 +3,12 @@ import itertools
 import random
 import unittest
 
-from share.disk import Client, Row
-from share.entry import Author, Copied, Copy, Entry, Plain
-from share.judging import Judge
-from share.message import Message
-from share.recovered import Recovered
-from share.standing import Standing, in_stretches, said
+from share.admission.judge import Judge
+from share.format.entry import Author, Copied, Copy, Entry, Plain
+from share.format.operation import Message
+from share.store.note_file import Client, Row
+from share.sync.recovered import Recovered
+from share.sync.standing import Standing, in_stretches, said
 from share.tests.naive import inserting
 
 FORM = Plain(bytes(16))

@@ -4,7 +4,7 @@ import shlex
 import signal
 from unittest import mock
 
-from share.program import command
+from share.program.process import command
 from share.tests.editors import Editor
 from share.tests.support import Case, python, wait_for
 from share.tests.terminals import Terminal

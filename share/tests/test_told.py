@@ -5,14 +5,15 @@ import shlex
 import unittest
 from unittest import mock
 
-from share.message import MOST_OF_A_SITE, MOST_RANGES, Names, names_of
-from share.note_text import boundary, make
-from share.program import Program, command
-from share.site import MOST_BYTES, MOST_NAMES, TOO_MANY, Edited, Site, Told
-from share.telling import stretches
+from share.format.operation import MOST_OF_A_SITE, MOST_RANGES, names_of
+from share.program.effects import stretches
+from share.program.process import Program, command
+from share.program.site import MOST_BYTES, MOST_NAMES, TOO_MANY, Edited, Site, Told
 from share.tests.note import Note
 from share.tests.support import Pair, edit_at_random
-from share.words import Trouble
+from share.text.change import boundary, make
+from share.text.errors import Trouble
+from share.text.names import Names
 
 ROUNDS = 150
 # The number by which the program refuses names that aren't here.
@@ -153,8 +154,8 @@ class Tells(Pair):
 
     def test_a_program_that_took_all_its_lines_is_started_again(self) -> None:
         one, two = self.notes
-        with (mock.patch("share.site.MOST_LINES", 200),
-              mock.patch("share.site.Program", side_effect=Program) as started):
+        with (mock.patch("share.program.site.MOST_LINES", 200),
+              mock.patch("share.program.site.Program", side_effect=Program) as started):
             for number in range(50):
                 one.moved_to(number)
                 one.type(str(number % 10))
@@ -191,7 +192,7 @@ class Tells(Pair):
         with mock.patch.object(Site, "cut", lambda site, *_: Edited(
                 cut(site, 2, 4).messages + cut(site, 0, 2).messages)):
             one.erase(0, 4)
-        with mock.patch("share.site.MOST_MESSAGES", len(one.session.site.history) + 1):
+        with mock.patch("share.program.site.MOST_MESSAGES", len(one.session.site.history) + 1):
             one.take_back()
             self.assertRegex(one.notice, r"refused \(21\)")
             self.shows("ab")
@@ -215,7 +216,7 @@ class Tells(Pair):
     def test_what_is_typed_behind_a_refused_paste_is_an_edit_of_its_own(self) -> None:
         one, _ = self.notes
         one.type("a")
-        with mock.patch("share.site.MOST_MESSAGES", len(one.session.site.history) + 1):
+        with mock.patch("share.program.site.MOST_MESSAGES", len(one.session.site.history) + 1):
             one.type("b" * (MOST_BYTES + 1))
             self.assertRegex(one.notice, r"refused \(21\)")
         one.type("c")
@@ -295,7 +296,7 @@ class ByNames(unittest.TestCase):
 
     def test_what_is_refused_leaves_what_was_done_before(self) -> None:
         self.typed(b"ab" * 2_000)
-        with mock.patch("share.site.MOST_MESSAGES", len(self.site.history) + 1):
+        with mock.patch("share.program.site.MOST_MESSAGES", len(self.site.history) + 1):
             edited, told = self.site.delete(Names(1, 2 * at, 1) for at in range(2_000))
         self.assertEqual((len(edited.messages), edited.refused), (1, TOO_MANY))
         assert isinstance(told, list)

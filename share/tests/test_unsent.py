@@ -7,8 +7,8 @@ import subprocess
 from collections.abc import Sequence
 from unittest import mock
 
-from share.log import Unreachable
-from share.sqlite_log import SqliteLog
+from share.log.base import Unreachable
+from share.log.sqlite import SqliteLog
 from share.tests.support import Case, Person, type_at_the_end, wait_for, written
 
 
@@ -71,7 +71,7 @@ class InAFile(Case):
             sent.append(len(raws))
             append(log, raws)
 
-        with mock.patch.object(SqliteLog, "append", appended), mock.patch("share.session.CLOSE_SECONDS", 0):
+        with mock.patch.object(SqliteLog, "append", appended), mock.patch("share.sync.session.CLOSE_SECONDS", 0):
             note = person.open()
             wait_for(lambda: (note.take_in(), len(sent) == after and note.session.status().offline)[1], "it to be stopped")
             note.session.close()

@@ -13,14 +13,14 @@ from unittest import mock
 
 import aiohttp
 
-from share.lines import MOST_LINE
+from share.editors.web import guard
+from share.editors.web.bridge import MOST_MESSAGE, NO_FIELDS, Assembler, refusal
+from share.editors.web.opening import redirect
+from share.editors.web.server import files
+from share.engine.protocol import MOST_LINE
 from share.tests.pages import Server, talking
 from share.tests.support import TOP, Case, Person, engine_of, python, wait_for
-from share.web import guard
-from share.web.bridge import MOST_MESSAGE, NO_FIELDS, Assembler, refusal
-from share.web.opening import redirect
-from share.web.server import files
-from share.words import Trouble
+from share.text.errors import Trouble
 
 VECTORS = TOP / "share" / "tests" / "vectors.mjs"
 UPGRADE = ["Connection: Upgrade", "Upgrade: websocket", "Sec-WebSocket-Version: 13",
@@ -91,7 +91,7 @@ class Missing(unittest.TestCase):
     """A machine that hasn't all."""
 
     def test_a_package_that_isn_t_here_is_named(self) -> None:
-        with mock.patch("share.web.server.CODEMIRROR", pathlib.Path("/none")):
+        with mock.patch("share.editors.web.server.CODEMIRROR", pathlib.Path("/none")):
             with self.assertRaisesRegex(Trouble, "libjs-codemirror"):
                 files()
 

@@ -10,11 +10,11 @@ from collections.abc import Callable
 from contextlib import closing
 from unittest import mock
 
-from share.entry import MOST_BYTES
-from share.log import START, Carried, Log, Lost, Unreachable, open_log
+from share.format.entry import MOST_BYTES
+from share.log.base import START, Carried, Log, Lost, Unreachable, open_log
 from share.tests.servers import Hostile, RedisServer, SocketServer, TlsServer
 from share.tests.test_logs import NOTE, Case, raw, raws
-from share.words import Trouble
+from share.text.errors import Trouble
 
 
 class Ways(Case):
@@ -93,7 +93,7 @@ class Ways(Case):
 
     def test_tls_and_none_are_told_apart(self) -> None:
         plain = self.server(RedisServer)
-        with mock.patch("share.redis_wire.CONNECT_SECONDS", 1), self.assertRaises(Unreachable):
+        with mock.patch("share.log.resp.CONNECT_SECONDS", 1), self.assertRaises(Unreachable):
             open_log(plain.url.replace("redis://", "rediss://"), NOTE)
 
 
@@ -117,7 +117,7 @@ class HostileServers(Case):
     def ends_in_words(self, answer: bytes, *which: int) -> None:
         """That each call gives something of its type, or what is told, and those of these numbers the latter."""
         log = self.answering(answer)
-        with mock.patch("share.redis_wire.ANSWER_SECONDS", 0.05):
+        with mock.patch("share.log.resp.ANSWER_SECONDS", 0.05):
             for number, call in enumerate(self.calls(log)):
                 told = self.told(number, call)
                 if number in which:
@@ -184,7 +184,7 @@ class HostileServers(Case):
 
     def test_a_slow_answer_has_an_end(self) -> None:
         log = self.answering(b"*")
-        with mock.patch("share.redis_wire.ANSWER_SECONDS", 0.2):
+        with mock.patch("share.log.resp.ANSWER_SECONDS", 0.2):
             begin = time.monotonic()
             with self.assertRaisesRegex(Unreachable, "in time"):
                 log.append([raw(1)])

@@ -13,10 +13,10 @@ import sys
 from collections import defaultdict
 from typing import NamedTuple
 
-from share.disk import about_of, as_text
-from share.entry import Bad, Entry, Kind
-from share.judging import Judge
-from share.message import CHANGE_LOOKS, DELETE, INSERT, Message, mentioned, typed
+from share.admission.judge import Judge
+from share.format.entry import Bad, Entry, Kind
+from share.format.operation import CHANGE_LOOKS, DELETE, INSERT, Message, mentioned, typed
+from share.store.note_file import about_of, as_text
 
 ENTRIES = "SELECT hash, raw, made, offered, hash IN (SELECT hash FROM withdrawn) FROM entry ORDER BY place"
 

@@ -7,10 +7,10 @@ import random
 import sys
 import time
 
-from share import link as links
-from share import opening
+from share.format import link as links
+from share.store import notes
+from share.sync.session import Session
 from share.tests.note import Note
-from share.session import Session
 
 
 def say(word: str, number: int) -> None:
@@ -21,7 +21,7 @@ def say(word: str, number: int) -> None:
 def main(tag: str, link: str, seed: str) -> None:
     """Types for as long as it is let."""
     chance = random.Random(seed)
-    note = Note(Session(opening.opened("note", None, links.read(link))))
+    note = Note(Session(notes.opened("note", None, links.read(link))))
     say("open", 0)
     number = 0
     while True:

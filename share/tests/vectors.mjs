@@ -1,9 +1,9 @@
-// Runs what share/engine_vectors/client.json says of an editor that counts in UTF-16 by the page's client.
+// Runs what share/engine/vectors/client.json says of an editor that counts in UTF-16 by the page's client.
 import assert from "node:assert/strict";
 import { readFileSync } from "node:fs";
-import { changed, Client, Lines, pieces } from "../web/client.js";
+import { changed, Client, Lines, pieces } from "../editors/web/client.js";
 
-const VECTORS = new URL("../engine_vectors/client.json", import.meta.url);
+const VECTORS = new URL("../engine/vectors/client.json", import.meta.url);
 
 /** What a page shows, as plain values. */
 class Shown {

@@ -9,7 +9,7 @@
 (require 'vialshoal-support)
 
 (defconst vialshoal-vectors--file
-  (expand-file-name "../../../share/engine_vectors/client.json"
+  (expand-file-name "../../../share/engine/vectors/client.json"
                     (file-name-directory (or load-file-name buffer-file-name)))
   "The file that has the cases.")
 

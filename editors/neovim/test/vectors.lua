@@ -59,7 +59,7 @@ end
 
 -- Else a cursor can't be behind a line's last character, where one is typing.
 vim.o.virtualedit = 'onemore'
-local cases = read(support.top .. '/../../share/engine_vectors/client.json').cases
+local cases = read(support.top .. '/../../share/engine/vectors/client.json').cases
 assert(#cases > 20)
 for _, case in ipairs(cases) do
   if case.units == 'any' or case.units == 'utf-8' then

@@ -1,0 +1,96 @@
+"""Which messages stand for which, as entries say it."""
+from collections.abc import Callable, Iterator
+from typing import NamedTuple, Protocol
+
+from share.format.entry import NO_HASH, Copy, Entry
+from share.format.operation import Message, typed
+
+Who = tuple[int, bytes]
+# Of what stands for a message by the word of another than its author this much is looked at, message by message.
+MOST_OF_OTHERS = 4_096
+
+
+class Counting(Protocol):
+    """What says which messages count."""
+
+    def front_up_to(self, author: bytes, site: int, last: bytes) -> int:
+        """How many messages of an author and site are let through that an entry has, or one to which it is chained; all where it
+        isn't said which."""
+
+    def message(self, site: int, seq: int) -> Message:
+        """A message that is let through."""
+
+    def is_chained(self, of: bytes, last: bytes) -> bool:
+        """Whether an entry is the last of some, or one to which that is chained."""
+
+
+class _Said(NamedTuple):
+    """A stretch of messages from a seq on, how many they are, and the first of their copies, with the seq 0 where nothing remained
+    of them; and the last of their entries, or none where it is said of each that has such seqs, and the last of the copies'."""
+
+    seq: int
+    size: int
+    by: Copy
+    last: bytes
+    by_last: bytes
+
+    def end(self, counting: Counting) -> int:
+        """The seq after the last message whose copy counts."""
+        if not self.by.seq:
+            return self.seq + self.size
+        front = counting.front_up_to(self.by.author, self.by.site, self.by_last)
+        return self.seq + min(self.size, front - self.by.seq + 1)
+
+
+class Copies:
+    """What entries say of copies: their authors, whose word is taken, and others, where all is in the copy."""
+
+    def __init__(self) -> None:
+        self._by_authors: dict[Who, list[_Said]] = {}
+        self._by_others: dict[Who, list[_Said]] = {}
+        # The sites whose messages stand for others, and the seq of the last one that does.
+        self.sites: dict[int, int] = {}
+
+    def add(self, entry: Entry) -> None:
+        """Takes over what an entry says."""
+        copied = entry.copied
+        last = max((by + size - 1 for _, by, size in copied.stretches if by), default=0)
+        self.sites[copied.by_site] = max(self.sites.get(copied.by_site, 0), last)
+        whose = copied.site, copied.author
+        said = self._by_authors if (entry.site, entry.author) == whose else self._by_others
+        said.setdefault(whose, []).extend(_Said(seq, size, Copy(copied.by, copied.by_site, by), entry.before, copied.last)
+                                          for seq, by, size in copied.stretches)
+
+    def speak_of(self, author: bytes, site: int) -> bool:
+        """Whether copies of an author's messages are spoken of."""
+        return (site, author) in self._by_authors or (site, author) in self._by_others
+
+    def are_told_by(self, site: int, author: bytes) -> bool:
+        """Whether an author says of own messages what stands for them."""
+        return (site, author) in self._by_authors
+
+    def of(self, author: bytes, site: int, seq: int, suits: Callable[[bytes], bool]) -> list[Copy]:
+        """The messages that stand for one, as its author says, where it is the one of a history that suits, of which the hash of the
+        last entry is known; that of the least number and seq first."""
+        found = {one.by._replace(seq=one.by.seq + seq - one.seq) for one in self._by_authors.get((site, author), ())
+                 if one.by.seq and one.seq <= seq < one.seq + one.size and suits(one.last)}
+        return sorted(found, key=lambda copy: (copy.site, copy.seq, copy.author))
+
+    def stretches(self, entry: Entry, counting: Counting) -> Iterator[tuple[int, int]]:
+        """The seqs of an entry's messages for which copies stand that count."""
+        who = entry.site, entry.author
+        for one in self._by_authors.get(who, ()):
+            first, last = max(entry.first, one.seq), min(entry.last, one.end(counting) - 1)
+            if first <= last and (one.last == NO_HASH or counting.is_chained(entry.hash, one.last)):
+                yield first, last
+        # Each who copied has all of a message, in one copy or in several that follow one another.
+        found: dict[tuple[int, int, bytes], dict[int, bytes]] = {}
+        for one in self._by_others.get(who, ()):
+            first, last = max(entry.first, one.seq), min(entry.last, one.end(counting) - 1)
+            for seq in range(first, min(last, first + MOST_OF_OTHERS) + 1) if one.by.seq else ():
+                by = one.by.seq + seq - one.seq
+                found.setdefault((seq, one.by.site, one.by.author), {})[by] = typed(counting.message(one.by.site, by))
+        for (seq, _, _), parts in found.items():
+            data = typed(entry.messages[seq - entry.first])
+            if data and data in (b"".join(parts.values()), *parts.values()):
+                yield seq, seq

@@ -1,0 +1,306 @@
+"""The entries of a note that are in chains, in some 200 bytes each, and the chains themselves.
+
+What can be computed again isn't kept: of an entry's bytes a ledger has the signature and the chunk of its messages alone, where it
+knows the note's form, and makes the others anew when they are asked for. So a file that was emptied can be written anew from
+memory, and a note in which each keystroke is an entry fits there.
+"""
+from array import array
+from bisect import bisect_left
+from collections.abc import Iterator, Sequence
+from typing import NamedTuple
+
+from share.format.chunk import Run
+from share.format.entry import CHUNKS, NO_HASH, SAY_WHAT_THEY_BUILD_ON, Entry, Form, Kind, messages_of, runs_of
+from share.format.operation import Message
+
+HASH_BYTES = 32
+# How many places the index begins with; at least every third one stays free. A place has the upper half of a hash of Python's, and
+# an entry's number.
+PLACES, NUMBER_BITS = 1 << 8, 32
+MARK, NUMBER = 0xFFFF_FFFF << NUMBER_BITS, (1 << NUMBER_BITS) - 1
+# Letters of so many entries or more that type on are one run, so that each chunk has room for it.
+MOST_TYPED = 1_000
+
+
+class Row(NamedTuple):
+    """An entry of a note's file, and its place there. `made` says that this person made it here, `types_on` that it is known to
+    type on after the entry before it."""
+
+    place: int
+    entry: Entry
+    made: bool
+    types_on: bool = False
+
+
+class Ledger:
+    """Entries, each by a number of its own; they are added and never change."""
+
+    def __init__(self, form: Form | None = None):
+        self._form = form
+        self._hashes = bytearray()
+        # The numbers by their hashes, one more than each, so that 0 is a free place.
+        self._index, self._mask = array("Q", bytes(8 * PLACES)), PLACES - 1
+        # The sites and authors, and which of them each entry is of.
+        self._clients: list[tuple[int, bytes]] = []
+        self._client_of: dict[tuple[int, bytes], int] = {}
+        self._whose = array("I")
+        self._kinds, self._made, self._types_on = bytearray(), bytearray(), bytearray()
+        self._befores, self._firsts, self._sizes = array("I"), array("I"), array("H")
+        self._places, self._ends = array("Q"), array("Q")
+        # What can't be computed again of each entry, what it builds on, and its messages.
+        self._kept = bytearray()
+        # How long the bytes of each entry are, where all of them are kept, since the form isn't known.
+        self._whole = array("I")
+
+    def __len__(self) -> int:
+        return len(self._kinds)
+
+    def add(self, row: Row, before: int) -> int:
+        """Adds an entry that follows the one of a number, which says nothing of a claim; its own number."""
+        entry, number = row.entry, len(self)
+        self._hashes += entry.hash
+        client = (entry.site, entry.author)
+        if (whose := self._client_of.get(client)) is None:
+            whose = self._client_of[client] = len(self._clients)
+            self._clients.append(client)
+        self._whose.append(whose)
+        self._kinds.append(entry.kind)
+        self._made.append(row.made)
+        self._types_on.append(row.types_on)
+        self._befores.append(before)
+        self._firsts.append(entry.first)
+        self._sizes.append(entry.size)
+        self._places.append(row.place)
+        kept = self._kept
+        if self._form is None:
+            kept += entry.raw
+            self._whole.append(len(entry.raw))
+        else:
+            kept += self._form.tail(entry.raw)
+        kept += entry.on
+        kept += entry.spelled
+        self._ends.append(len(kept))
+        self._enter(entry.hash, number)
+        return number
+
+    def number(self, of: bytes) -> int | None:
+        """The number of the entry that has a hash; None where there is none."""
+        found = self._index[self._seat(of, hash(of) & MARK)]
+        return (found & NUMBER) - 1 if found else None
+
+    def hash(self, number: int) -> bytes:
+        """An entry's hash."""
+        return bytes(self._hashes[HASH_BYTES * number:HASH_BYTES * (number + 1)])
+
+    def client(self, number: int) -> tuple[int, bytes]:
+        """An entry's site and author."""
+        return self._clients[self._whose[number]]
+
+    def last(self, number: int) -> int:
+        """The seq of an entry's last message, 0 of a claim."""
+        return self._firsts[number] + self._sizes[number] - 1 if self._sizes[number] else 0
+
+    def size(self, number: int) -> int:
+        """How many messages an entry has."""
+        return self._sizes[number]
+
+    def place(self, number: int) -> int:
+        """An entry's place in the file."""
+        return self._places[number]
+
+    def made(self, number: int) -> bool:
+        """Whether this person made an entry here."""
+        return bool(self._made[number])
+
+    def types_on(self, number: int) -> bool:
+        """Whether an entry is known to type on after the one before it."""
+        return bool(self._types_on[number])
+
+    def weight(self, number: int) -> int:
+        """How many bytes are kept of an entry beside its columns."""
+        return self._ends[number] - self._begin(number)
+
+    def on(self, number: int) -> bytes:
+        """What an entry says that its messages build on; nothing where it doesn't."""
+        if self._kinds[number] not in SAY_WHAT_THEY_BUILD_ON:
+            return b""
+        begin = self._begin(number) + self._tail(number)
+        return bytes(self._kept[begin:begin + HASH_BYTES])
+
+    def spelled(self, number: int) -> bytes:
+        """An entry's messages, as it has them."""
+        begin = self._begin(number) + self._tail(number)
+        return bytes(self._kept[begin + self._on_bytes(number):self._ends[number]])
+
+    def chunk(self, number: int) -> bytes:
+        """The chunk of an entry's messages, where it has them in one."""
+        return self.spelled(number) if self._kinds[number] in CHUNKS else b""
+
+    def runs(self, number: int) -> Sequence[Run]:
+        """An entry's messages, those in one that are letters typed one after the other."""
+        return runs_of(Kind(self._kinds[number]), self.spelled(number))
+
+    def typed(self, number: int) -> bytes:
+        """The letters of an entry that types on."""
+        end = self._ends[number]
+        return bytes(self._kept[end - self._sizes[number]:end])
+
+    def messages(self, number: int) -> Sequence[Message]:
+        """An entry's messages."""
+        return messages_of(Kind(self._kinds[number]), self.spelled(number))
+
+    def entry(self, number: int) -> Entry:
+        """An entry as it was."""
+        site, author = self.client(number)
+        kind, of = Kind(self._kinds[number]), self.hash(number)
+        before = NO_HASH if kind is Kind.CLAIM else self.hash(self._befores[number])
+        on, spelled = self.on(number), self.spelled(number)
+        begin = self._begin(number)
+        tail = bytes(self._kept[begin:begin + self._tail(number)])
+        entry = Entry(kind, site, self._firsts[number], self._sizes[number], before, author, on, spelled, tail, of)
+        return entry if self._form is None else entry._replace(raw=self._form.whole(entry, tail))
+
+    def row(self, number: int) -> Row:
+        """An entry with its place."""
+        return Row(self.place(number), self.entry(number), self.made(number), self.types_on(number))
+
+    def _begin(self, number: int) -> int:
+        return self._ends[number - 1] if number else 0
+
+    def _on_bytes(self, number: int) -> int:
+        return HASH_BYTES if self._kinds[number] in SAY_WHAT_THEY_BUILD_ON else 0
+
+    def _tail(self, number: int) -> int:
+        """How many bytes are kept of an entry that can't be computed again."""
+        return self._form.tail_bytes if self._form else self._whole[number]
+
+    def _seat(self, of: bytes, mark: int) -> int:
+        """The place of a hash in the index, or the free one that it would have. Nobody else can tell where hashes meet:
+        Python's own hash of bytes has a secret of the process."""
+        seat = mark >> NUMBER_BITS & self._mask
+        while (found := self._index[seat]) and (found & MARK != mark or self.hash((found & NUMBER) - 1) != of):
+            seat = seat + 1 & self._mask
+        return seat
+
+    def _enter(self, of: bytes, number: int) -> None:
+        if 3 * (number + 1) > 2 * len(self._index):
+            self._grow()
+        mark = hash(of) & MARK
+        self._index[self._seat(of, mark)] = mark | number + 1
+
+    def _grow(self) -> None:
+        """Makes the index twice as long."""
+        before, self._mask = self._index, 2 * len(self._index) - 1
+        self._index = index = array("Q", bytes(16 * len(before)))
+        for found in filter(None, before):
+            seat = found >> NUMBER_BITS & self._mask
+            while index[seat]:
+                seat = seat + 1 & self._mask
+            index[seat] = found
+
+
+class Line:
+    """Entries of a site that follow one another, the first of which is its claim. More are added, and none is taken away:
+    where others take their place that is another line."""
+
+    __slots__ = ("ledger", "site", "numbers", "lasts", "types_on")
+
+    def __init__(self, ledger: Ledger, site: int):
+        self.ledger, self.site = ledger, site
+        # The entries' numbers, which rise, and the seqs of their last messages.
+        self.numbers, self.lasts = array("I"), array("I")
+        # Whether each types on after the one before it.
+        self.types_on = bytearray()
+
+    def __len__(self) -> int:
+        return len(self.numbers)
+
+    def add(self, number: int) -> None:
+        """Adds an entry."""
+        self.numbers.append(number)
+        self.lasts.append(self.ledger.last(number))
+        self.types_on.append(self.ledger.types_on(number))
+
+    def shorten(self, at: int) -> None:
+        """Takes away what nobody has looked at: the entries from a place on."""
+        del self.numbers[at:], self.lasts[at:], self.types_on[at:]
+
+    def until(self, at: int) -> "Line":
+        """The first entries as a line of its own."""
+        line = Line(self.ledger, self.site)
+        line.numbers, line.lasts, line.types_on = self.numbers[:at], self.lasts[:at], self.types_on[:at]
+        return line
+
+    def at(self, number: int) -> int | None:
+        """Where the entry of a number is; None where it isn't here."""
+        at = bisect_left(self.numbers, number)
+        return at if at < len(self.numbers) and self.numbers[at] == number else None
+
+    def at_seq(self, seq: int) -> int:
+        """Where the entry is that has a message."""
+        return bisect_left(self.lasts, seq)
+
+    def first(self, at: int) -> int:
+        """The seq of an entry's first message."""
+        return self.lasts[at - 1] + 1
+
+    def message(self, seq: int) -> Message:
+        """A message."""
+        at = self.at_seq(seq)
+        return self.ledger.messages(self.numbers[at])[seq - self.first(at)]
+
+    def between(self, begin: int, end: int) -> Iterator[Message]:
+        """The messages from one place to another; the first one has place 0."""
+        for at, begins, ends in self._within(begin, end):
+            yield from self.ledger.messages(self.numbers[at])[begins:ends]
+
+    def parts(self, begin: int, end: int) -> Iterator[tuple[bytes, Sequence[Run], int]]:
+        """The same in parts: a chunk, or the runs where there is none of just these messages; and how many they are."""
+        while begin < end:
+            at = self.at_seq(begin + 1)
+            if run := self._typed(at, begin, end):
+                yield b"", [run], run.size
+                begin += run.size
+                continue
+            first, number = self.first(at) - 1, self.numbers[at]
+            size = min(self.lasts[at], end) - begin
+            if size == self.ledger.size(number):
+                chunk = self.ledger.chunk(number)
+                yield chunk, () if chunk else self.ledger.runs(number), size
+            else:
+                yield b"", [*_within(self.ledger.runs(number), begin - first, begin - first + size)], size
+            begin += size
+
+    def typed_until(self, at: int) -> int:
+        """The end of the entries from one on that type on one after the other."""
+        end = self.types_on.find(0, at)
+        return len(self) if end < 0 else end
+
+    def _typed(self, at: int, begin: int, end: int) -> Run | None:
+        """The messages from one place on, to another at most, as one run: those of entries that type on one after the other, of which
+        the first is whole. None where they are those of fewer than two."""
+        if not self.types_on[at] or begin >= self.first(at):
+            return None
+        last = min(self.typed_until(at), self.at_seq(min(end, begin + MOST_TYPED) + 1))
+        if last < at + 2:
+            return None
+        data = b"".join(map(self.ledger.typed, self.numbers[at:last]))
+        return self.ledger.runs(self.numbers[at])[0]._replace(size=len(data), data=data)
+
+    def _within(self, begin: int, end: int) -> Iterator[tuple[int, int, int]]:
+        """The entries that have messages from one place to another, and from where to where in each of them."""
+        at = self.at_seq(begin + 1)
+        while begin < end:
+            first = self.first(at) - 1
+            ends = min(self.lasts[at], end)
+            yield at, begin - first, ends - first
+            begin, at = ends, at + 1
+
+
+def _within(runs: Sequence[Run], begin: int, end: int) -> Iterator[Run]:
+    """The messages of runs from one place to another."""
+    at = 0
+    for run in runs:
+        if at < end and begin < at + run.size:
+            yield run.part(max(begin - at, 0), min(end - at, run.size))
+        at += run.size

@@ -1,0 +1,176 @@
+"""A script's way to a note: by the engine that has it open, where one does, so that no number is spent; else by the
+file here. Both are spoken to as docs/ENGINE.md has it."""
+import os
+import select
+import socket
+import time
+from collections.abc import Callable, Iterator
+from contextlib import contextmanager
+from typing import Protocol
+
+from share.engine import protocol, server
+from share.engine.engine import Engine
+from share.sync.session import CLOSE_SECONDS, Session
+from share.text.errors import Trouble
+from share.text.line import Line
+
+# How long an engine may take for an answer, and a log for a number.
+ANSWER_SECONDS, NUMBER_SECONDS = 120.0, 5.0
+TURN_SECONDS = 0.02
+PIECE = 1 << 18
+Opens = Callable[[Callable[[], None]], Session]
+
+
+class Way(Protocol):
+    """What lines go through."""
+
+    def send(self, data: bytes) -> None:
+        """Sends a line."""
+
+    def receive(self, seconds: float) -> bytes:
+        """What has come, within some time; raises Trouble where nothing can come any more."""
+
+    def close(self) -> None:
+        """Ends it."""
+
+
+class BySocket:
+    """The way to an engine that runs."""
+
+    def __init__(self, line: socket.socket):
+        self._line = line
+
+    def send(self, data: bytes) -> None:
+        """Sends a line."""
+        self._line.sendall(data)
+
+    def receive(self, seconds: float) -> bytes:
+        """What has come."""
+        if not select.select([self._line], [], [], seconds)[0]:
+            return b""
+        if not (data := self._line.recv(PIECE)):
+            raise Trouble("The note's engine has ended.")
+        return data
+
+    def close(self) -> None:
+        """Ends it."""
+        self._line.close()
+
+
+class InPlace:
+    """An engine in this process."""
+
+    def __init__(self, name: str, opens: Opens):
+        self._woken, self._waking = os.pipe()
+        self._out = bytearray()
+        self._engine = Engine(name, lambda: opens(self._wake), self._wake)
+        self._peer = self._engine.joined(self._out.extend, lambda: 0)
+
+    def _wake(self) -> None:
+        os.write(self._waking, b"!")
+
+    def send(self, data: bytes) -> None:
+        """Does what a line says."""
+        self._engine.take(self._peer, [data])
+
+    def receive(self, seconds: float) -> bytes:
+        """What came of it, and of others' edits."""
+        self._engine.turn()
+        if not self._out and select.select([self._woken], [], [], min(seconds, TURN_SECONDS))[0]:
+            os.read(self._woken, PIECE)
+        data = bytes(self._out)
+        self._out.clear()
+        return data
+
+    def close(self) -> None:
+        """Closes the note."""
+        self._engine.close()
+        os.close(self._woken)
+        os.close(self._waking)
+
+
+class Client:
+    """A note that is open for a script."""
+
+    def __init__(self, way: Way):
+        self._way, self._coming, self._asked = way, b"", 0
+        self.state: Line = {}
+        # What the user is to be told.
+        self.says: list[str] = []
+        self.opened = self.ask("open", protocol=1, units=["utf-32"])
+
+    @property
+    def text(self) -> str:
+        """The text as it was opened."""
+        text: str = self.opened["text"]
+        return text
+
+    def ask(self, what: str, **more: object) -> Line:
+        """What a request is answered; Trouble where that is an error."""
+        self._asked += 1
+        self._way.send(protocol.written({"do": what, "id": self._asked, **more}))
+        answer = self._until(lambda line: line.get("id") == self._asked, ANSWER_SECONDS)
+        if answer is None:
+            raise Trouble("The note's engine doesn't answer.")
+        if "error" in answer:
+            raise Trouble(answer["words"])
+        return answer
+
+    def edit(self, changes: list[tuple[int, int, str]]) -> None:
+        """Changes the text as it was opened, once; it is on the disk then."""
+        if sum(len(protocol.written({"": text})) for _, _, text in changes) > protocol.MOST_LINE // 2:
+            raise Trouble("This is more than a note takes at once.")
+        self._wait_for_number()
+        self.ask("edit", version=0, edits=1, changes=changes)
+
+    def recover(self) -> list[Line]:
+        """Has what was left out be typed again; what that was."""
+        self._wait_for_number()
+        found: list[Line] = self.ask("recover")["lost"]
+        return found
+
+    def is_sent(self) -> bool:
+        """Whether all that was typed is sent, as soon as it is, or after some seconds; where there is no log nothing has
+        to be."""
+        # The state of after the edit comes before this is answered.
+        self.ask("on")
+        self._until(lambda line: self.state.get("log") != "sending", 0.1)
+        if self.state.get("log") == "sending":
+            self._until(lambda line: line.get("notice") == "state" and line["log"] != "sending", CLOSE_SECONDS)
+        return self.state.get("log") in ("sent", "none")
+
+    def _wait_for_number(self) -> None:
+        """Waits until something can be typed."""
+        if not self.state.get("types"):
+            self._until(lambda line: line.get("notice") == "state" and line["types"], NUMBER_SECONDS)
+
+    def _until(self, is_it: Callable[[Line], object], seconds: float) -> Line | None:
+        """The first line that is the one; None where none comes."""
+        end = time.monotonic() + seconds
+        while time.monotonic() < end:
+            *whole, self._coming = (self._coming + self._way.receive(TURN_SECONDS)).split(b"\n")
+            found = None
+            for line in map(protocol.read, whole):
+                if line.get("notice") == "state":
+                    self.state = line
+                elif line.get("notice") == "says":
+                    self.says.append(line["words"])
+                if found is None and is_it(line):
+                    found = line
+            if found is not None:
+                return found
+        return None
+
+
+@contextmanager
+def opened(name: str, opens: Opens) -> Iterator[Client]:
+    """A note, by its engine or by itself."""
+    way: Way
+    if line := server.connected(name):
+        way = BySocket(line)
+    else:
+        way = InPlace(name, opens)
+    try:
+        yield Client(way)
+    finally:
+        way.close()

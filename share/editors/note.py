@@ -1,0 +1,277 @@
+"""A note that is open at an engine, as the terminal editor has it. Positions count bytes, and stand between characters.
+
+What is typed is shown at once by who calls, and on the disk when the call returns.
+"""
+import re
+import select
+import socket
+import threading
+import time
+from collections.abc import Callable, Sequence
+from contextlib import suppress
+
+from share.editors.mirror import Mirror, Replacement
+from share.engine import protocol
+from share.sync.session import CLOSE_SECONDS, Bar, Status
+from share.text.change import Change, boundary, found
+from share.text.errors import Trouble
+from share.text.line import Line
+from share.text.rope import swapped
+from share.text.units import UNITS
+
+ENDED = ("The note's engine has ended. Open the note again: all that was typed before is kept, and what isn't there can "
+         "be saved from here.")
+PIECE = 1 << 18
+# Where the cursor is, is said so often at most.
+CURSOR_SECONDS = 0.1
+# A watcher looks again after so long, where nobody has read what came.
+AGAIN_SECONDS = 0.5
+UTF_8 = UNITS["utf-8"]
+
+
+class _Mirror(Mirror):
+    """The engine's lines, with a note that follows them."""
+
+    def __init__(self, opened: Line, send: Callable[[Line], None], note: "EngineNote"):
+        self._note = note
+        super().__init__(opened, send, UTF_8)
+
+    def follow(self, begin: int, end: int, data: bytes) -> None:
+        self._note.follow(Change(begin, end, swapped(data)))
+
+    def follow_all(self) -> None:
+        self._note.show_all(UTF_8.encode(self.text))
+
+
+class AtEngine:
+    """What the editor asks of a session: how things are, and the end."""
+
+    def __init__(self, note: "EngineNote"):
+        self._note = note
+
+    def status(self) -> Status:
+        """How things are."""
+        state = self._note.mirror.state
+        offline = state.get("why", "away") if state["log"] == "away" else None
+        return Status(state["site"], state["on"], state["unsent"], offline, state["waiting"], state.get("trouble"),
+                      state["types"], state["log"] != "none", (state["read"], state["of"]) if "of" in state else None,
+                      state.get("left_out", []), state.get("renewed"), state.get("unproved", False))
+
+    def close(self) -> None:
+        """Closes the note; what isn't sent stays in its file."""
+        self._note.close()
+
+
+class EngineNote:
+    """The text as the engine's site shows it."""
+
+    def __init__(self, line: socket.socket, bar: Bar, wake: Callable[[], None], name: str = ""):
+        self._line, self._bar, self._wake = line, bar, wake
+        self.text = bytearray()
+        self.cursor = self.top = 0
+        # The other end of what is selected.
+        self.anchor: int | None = None
+        self.notice = ""
+        self._coming, self._goes_on, self._is_closed = b"", False, False
+        self._has_read = threading.Event()
+        self._said_cursor: tuple[int, int | None] = (0, None)
+        self._cursor_due = 0.0
+        # Answers that nobody has looked at; all lines, as long as the note isn't open.
+        self._answers: list[Line] = []
+        self._is_open = False
+        self._send({"do": "open", "protocol": 1, "units": ["utf-8"], "name": name})
+        opened = self._opened()
+        self.show_all(UTF_8.encode(opened["text"]))
+        self.mirror = _Mirror(opened, self._send, self)
+        self.session, self._is_open = AtEngine(self), True
+        early, self._answers = self._answers, []
+        for one in early:
+            self._take(one)
+        while not self.mirror.state:
+            self._receive(AGAIN_SECONDS)
+        threading.Thread(target=self._watch, daemon=True).start()
+
+    def type(self, characters: str) -> None:
+        """Types characters at the cursor. What is typed in one go, up to a line end, is taken back as one."""
+        text = re.sub("\r\n|\r", "\n", characters).encode("utf-8", "ignore").decode()
+        begin, end = self.selected() or (self.cursor, self.cursor)
+        self.anchor = None
+        if text:
+            self._goes_on = self._edit([(begin, end, text)], self._goes_on and begin == end) and not text.endswith("\n")
+
+    def erase(self, begin: int, end: int) -> None:
+        """Deletes a stretch."""
+        self.anchor = None
+        if begin != end:
+            self._edit([(begin, end, "")], False)
+            self._goes_on = False
+
+    def selected(self) -> tuple[int, int] | None:
+        """The stretch that is selected."""
+        if self.anchor is None or self.anchor == self.cursor:
+            return None
+        return min(self.anchor, self.cursor), max(self.anchor, self.cursor)
+
+    def replace(self, old: str, new: str) -> int:
+        """Puts words in the place of others, wherever they stand; how often."""
+        wanted, changes = old.replace("\r", "\n").encode("utf-8", "ignore"), list[Replacement]()
+        data, put = swapped(bytes(self.text)), new.replace("\r", "\n").encode("utf-8", "ignore").decode()
+        place = data.rfind(wanted) if wanted else -1
+        while place >= 0:
+            changes.append((place, place + len(wanted), put))
+            place = data.rfind(wanted, 0, place)
+        if changes:
+            self._edit(changes, False)
+        self._goes_on = False
+        return len(changes)
+
+    def take_back(self) -> bool:
+        """Takes back this editor's last edit that stands, by names: nobody else's is touched. False where there is
+        none."""
+        return self._by_names("undo")
+
+    def do_again(self) -> bool:
+        """Does again what was taken back last. False where there is nothing."""
+        return self._by_names("redo")
+
+    def take_in(self) -> bool:
+        """Takes in what came from the others; whether the text changed."""
+        version: int = self.mirror.version
+        while self._receive(0):
+            pass
+        self._say_cursor()
+        if self.mirror.words:
+            self.notice, self.mirror.words = self.mirror.words, ""
+        return bool(version != self.mirror.version)
+
+    def moved_to(self, position: int) -> None:
+        """Puts the cursor at a position. What is typed there is an edit of its own."""
+        self.cursor, self._goes_on = position, False
+
+    def find(self, words: str) -> bool:
+        """Puts the cursor at the next place of words after it, or from the front on. False where there is none."""
+        place = found(self.text, self.cursor, words)
+        if place >= 0:
+            self.moved_to(place)
+        return place >= 0
+
+    def others(self) -> list[tuple[int, str]]:
+        """Where others' cursors are, and whose."""
+        return [(min(one["at"], len(self.text)), one["name"]) for one in self.mirror.cursors]
+
+    def close(self) -> None:
+        """Closes the note, when all is sent or after some seconds."""
+        end = time.monotonic() + CLOSE_SECONDS
+        with suppress(Trouble, OSError):
+            while self.mirror.state["log"] == "sending" and time.monotonic() < end:
+                self._receive(0.05)
+        self._is_closed = True
+        self._line.close()
+
+    def follow(self, change: Change) -> None:
+        """Has the text and the places follow a change."""
+        self.text[change.begin:change.end] = change.new
+        self.cursor, self.top = change.moved(self.cursor), change.moved(self.top)
+        self.cursor, self.top = boundary(self.text, self.cursor), boundary(self.text, self.top)
+        if self.anchor is not None:
+            self.anchor = boundary(self.text, change.moved(self.anchor))
+
+    def show_all(self, data: bytes) -> None:
+        """Shows another text, of an editor's bytes."""
+        self.text[:] = swapped(data)
+        self.cursor, self.top = (boundary(self.text, min(place, len(self.text))) for place in (self.cursor, self.top))
+        self.anchor = None
+
+    def _edit(self, changes: Sequence[Replacement], joins: bool) -> bool:
+        """Makes an edit and waits until it is on the disk; False where it was taken out again."""
+        begin, _, text = changes[0]
+        self.mirror.edit(changes, join=joins)
+        if len(changes) == 1:
+            self.cursor = begin + len(text.encode())
+        answer = self._until("edit")
+        if "error" in answer:
+            self.notice, self.mirror.words = answer["words"], ""
+        return "error" not in answer
+
+    def _by_names(self, what: str) -> bool:
+        self._goes_on, self.mirror.cursor = False, None
+        self._send({"do": what})
+        answer = self._until(what)
+        if "error" in answer:
+            self.notice, self.mirror.words = answer["words"], ""
+            return True
+        if self.mirror.cursor is not None:
+            self.cursor = boundary(self.text, min(self.mirror.cursor, len(self.text)))
+        return bool(answer["done"])
+
+    def _say_cursor(self) -> None:
+        """Says where the cursor is, so that others see it."""
+        now, places = time.monotonic(), (self.cursor, self.anchor)
+        if places != self._said_cursor and now >= self._cursor_due:
+            self._said_cursor, self._cursor_due = places, now + CURSOR_SECONDS
+            line = {"do": "cursor", "version": self.mirror.version, "at": self.cursor}
+            self._send(line if self.anchor is None else line | {"anchor": self.anchor})
+
+    def _opened(self) -> Line:
+        """What the opening is answered."""
+        while True:
+            self._receive(AGAIN_SECONDS)
+            for line in [*self._answers]:
+                self._answers.remove(line)
+                if line.get("answer") == "open":
+                    if "error" in line:
+                        raise Trouble(line["words"])
+                    return line
+                if line.get("notice") == "opening":
+                    self._bar(line["done"], line["of"])
+
+    def _until(self, what: str) -> Line:
+        """The answer to the last request of a kind; there is one at a time."""
+        while True:
+            for line in self._answers:
+                # One that wasn't understood was the last one.
+                if line["answer"] in (what, ""):
+                    self._answers.remove(line)
+                    return line
+            self._receive(AGAIN_SECONDS)
+
+    def _send(self, line: Line) -> None:
+        try:
+            self._line.sendall(protocol.written(line))
+        except OSError as why:
+            raise Trouble(ENDED) from why
+
+    def _receive(self, seconds: float) -> bool:
+        """Takes in what comes within some time; whether something did."""
+        if not select.select([self._line], [], [], seconds)[0]:
+            return False
+        try:
+            data = self._line.recv(PIECE)
+        except OSError as why:
+            raise Trouble(ENDED) from why
+        self._has_read.set()
+        if not data:
+            raise Trouble(ENDED)
+        *whole, self._coming = (self._coming + data).split(b"\n")
+        for line in map(protocol.read, whole):
+            self._take(line)
+        return True
+
+    def _take(self, line: Line) -> None:
+        if not self._is_open:
+            self._answers.append(line)
+            return
+        if line.get("notice") == "opening":
+            self._bar(line["done"], line["of"])
+        if line.get("answer") in ("edit", "undo", "redo", ""):
+            self._answers.append(line)
+        self.mirror.take(line)
+
+    def _watch(self) -> None:
+        """Wakes the editor when something comes."""
+        with suppress(OSError, ValueError):
+            while not self._is_closed:
+                if select.select([self._line], [], [], AGAIN_SECONDS)[0]:
+                    self._has_read.clear()
+                    self._wake()
+                    self._has_read.wait(AGAIN_SECONDS)

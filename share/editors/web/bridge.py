@@ -1,0 +1,159 @@
+"""The way between a page's WebSocket and the note's engine: each WebSocket is one editor.
+
+Lines are handed on as they are, in pieces; of those that come from a page only those that a page may send.
+"""
+import asyncio
+import contextlib
+from asyncio.subprocess import PIPE, Process
+from collections.abc import AsyncIterator, Sequence
+
+from aiohttp import WSCloseCode, WSMsgType, web
+
+from share.engine.protocol import MOST_LINE, Wrong, read, written
+from share.text.line import Line
+
+# What a page may ask for. It names no file: who has the secret alone is to reach this note and nothing else.
+REQUESTS = {"open", "edit", "undo", "redo", "looks", "cursor", "seen", "text", "on", "who", "history", "past", "close"}
+NO_FIELDS = {"path", "replace", "link", "log", "url"}
+# A page's messages have so many bytes at most, so that who hasn't said the secret can't fill the memory.
+MOST_MESSAGE = 1 << 18
+PIECE = 1 << 18
+# What the engine's command says at its end, and how much of that a WebSocket's last words may be.
+MOST_SAID, MOST_REASON = 4_096, 120
+# An engine's command that doesn't end by itself is ended after so long.
+END_SECONDS = 5
+
+
+def refusal(data: bytes | None) -> Line | None:
+    """What a page is answered whose line isn't handed on; None where it is. None is a line that was too long."""
+    try:
+        if data is None:
+            raise Wrong("long", f"The line has more than {MOST_LINE:,} bytes.")
+        request = read(data)
+    except Wrong as why:
+        return {"answer": "", "error": why.code, "words": str(why)}
+    what = request.get("do")
+    if isinstance(what, str) and what in REQUESTS and not NO_FIELDS & set(request):
+        return None
+    line: Line = {"answer": "", "error": "unknown", "words": "A page can't ask for that."}
+    if type(request.get("id")) is int:
+        line["id"] = request["id"]
+    return line
+
+
+class Assembler:
+    """Makes lines of a page's messages."""
+
+    def __init__(self) -> None:
+        self._in = bytearray()
+        self._skips = False
+
+    def lines(self, data: bytes) -> list[bytes | None]:
+        """The lines that end in a message; None is one that was too long."""
+        *ended, rest = data.split(b"\n")
+        found = [self._line(end) for end in ended]
+        self._add(rest)
+        return found
+
+    def _line(self, end: bytes) -> bytes | None:
+        self._add(end)
+        line = None if self._skips else bytes(self._in)
+        self._in.clear()
+        self._skips = False
+        return line
+
+    def _add(self, data: bytes) -> None:
+        self._skips = self._skips or len(self._in) + len(data) > MOST_LINE
+        if self._skips:
+            self._in.clear()
+        else:
+            self._in += data
+
+
+async def messages(socket: web.WebSocketResponse) -> AsyncIterator[bytes]:
+    """What a page sends, until it is something else than bytes."""
+    async for message in socket:
+        if message.type != WSMsgType.BINARY:
+            break
+        yield message.data
+
+
+class Bridge:
+    """One WebSocket, whose page has said the secret, with an engine's command for it alone.
+
+    What the engine says goes to the page as it comes, in binary messages; a text message is a line of the bridge's own.
+    """
+
+    def __init__(self, socket: web.WebSocketResponse, engine: Process):
+        self._socket, self._engine = socket, engine
+        self._said = b""
+
+    async def run(self) -> None:
+        """Hands on until one of both ends."""
+        up, down, listening = (asyncio.create_task(one) for one in (self._up(), self._down(), self._listen()))
+        try:
+            await asyncio.wait([up, down], return_when=asyncio.FIRST_COMPLETED)
+        finally:
+            down.cancel()
+            await self._end_engine()
+            await asyncio.wait([listening], timeout=1)
+            up.cancel()
+            listening.cancel()
+            await asyncio.gather(up, down, listening, return_exceptions=True)
+        await self._close()
+
+    async def _end_engine(self) -> None:
+        """Has the engine's command hand on what it has, and end."""
+        assert self._engine.stdin
+        self._engine.stdin.close()
+        try:
+            await asyncio.wait_for(self._rest(), END_SECONDS)
+        except asyncio.TimeoutError:
+            self._engine.kill()
+
+    async def _rest(self) -> None:
+        """Lets what else the engine says go by."""
+        assert self._engine.stdout
+        while await self._engine.stdout.read(PIECE):
+            pass
+        await self._engine.wait()
+
+    async def _close(self) -> None:
+        """Says why, where the page is still there."""
+        words = self._said.decode("utf-8", "replace").strip().rpartition("\n")[2].removeprefix("note: ")
+        reason = (words or "The engine has ended.").encode()[:MOST_REASON].decode("utf-8", "ignore")
+        with contextlib.suppress(ConnectionError, RuntimeError):
+            await self._socket.close(code=WSCloseCode.INTERNAL_ERROR, message=reason.encode())
+
+    async def _up(self) -> None:
+        """From the page to the engine."""
+        assert self._engine.stdin
+        assembler = Assembler()
+        async for data in messages(self._socket):
+            for line in assembler.lines(data):
+                answer = refusal(line)
+                if answer is not None:
+                    await self._socket.send_str(written(answer).decode())
+                elif line is not None:
+                    self._engine.stdin.write(line + b"\n")
+            await self._engine.stdin.drain()
+
+    async def _down(self) -> None:
+        """From the engine to the page."""
+        assert self._engine.stdout
+        while data := await self._engine.stdout.read(PIECE):
+            await self._socket.send_bytes(data)
+
+    async def _listen(self) -> None:
+        """Keeps what the engine's command says last."""
+        assert self._engine.stderr
+        while data := await self._engine.stderr.read(MOST_SAID):
+            self._said = (self._said + data)[-MOST_SAID:]
+
+
+async def bridged(socket: web.WebSocketResponse, command: Sequence[str]) -> None:
+    """Is the way between a page and the engine that a command is the way to."""
+    # Of a session of its own, so that Ctrl-C ends it by its line's end, when all has gone through.
+    engine = await asyncio.create_subprocess_exec(*command, stdin=PIPE, stdout=PIPE, stderr=PIPE, limit=PIECE,
+                                                  start_new_session=True)
+    await Bridge(socket, engine).run()

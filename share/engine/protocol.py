@@ -1,0 +1,111 @@
+"""Lines of the engine's protocol, and what is wrong with one."""
+import json
+import re
+
+from share.text.line import Line
+from share.text.looks import MOST_COLOUR
+
+# A line has so many bytes at most.
+MOST_LINE = 1 << 25
+# An edit has so many changes at most, which take some seconds.
+MOST_CHANGES = 50_000
+# Greater numbers aren't the same in all languages.
+MOST_NUMBER = 2**53 - 1
+MOST_ID = 64
+COLOUR = re.compile(r"#[0-9a-fA-F]{6}")
+
+
+class Wrong(Exception):
+    """A request can't be done: the code of why, and words."""
+
+    def __init__(self, code: str, words: str, **more: object):
+        super().__init__(words)
+        self.code, self.more = code, more
+
+
+def read(data: bytes) -> Line:
+    """The object that a line has."""
+    try:
+        line = json.loads(data.decode())
+    except (ValueError, RecursionError):
+        line = None
+    if not isinstance(line, dict):
+        raise Wrong("json", "The line is no JSON object in UTF-8.")
+    return line
+
+
+def written(line: Line) -> bytes:
+    """A line of an object."""
+    return json.dumps(line, ensure_ascii=False, separators=(",", ":")).encode("utf-8", "replace") + b"\n"
+
+
+def number(request: Line, name: str, default: int | None = None) -> int:
+    """A field that is a number from 0 on."""
+    value = request.get(name, default)
+    if type(value) is not int or not 0 <= value <= MOST_NUMBER:
+        raise Wrong("field", f"{name} has to be a number from 0 on.")
+    return value
+
+
+def words(request: Line, name: str) -> str:
+    """A field that is a string."""
+    value = request.get(name)
+    if not isinstance(value, str) or not is_whole(value):
+        raise Wrong("field", f"{name} has to be a string of whole characters.")
+    return value
+
+
+def is_id(given: object) -> bool:
+    """Whether a request may have this as its id."""
+    if isinstance(given, str):
+        return len(given) <= MOST_ID and is_whole(given)
+    return type(given) is int and abs(given) <= MOST_NUMBER
+
+
+def is_whole(text: str) -> bool:
+    """Whether a text has no half of a surrogate pair."""
+    return not any("\ud800" <= letter <= "\udfff" for letter in text)
+
+
+def replacements(request: Line) -> list[tuple[int, int, str]]:
+    """The changes of an edit."""
+    found = request.get("changes")
+    if not isinstance(found, list) or not all(_is_replacement(one) for one in found):
+        raise Wrong("field", "changes has to be a list of [begin, end, text].")
+    if len(found) > MOST_CHANGES:
+        raise Wrong("long", f"An edit has {MOST_CHANGES:,} changes at most.")
+    return [(begin, end, text) for begin, end, text in found]
+
+
+def ranges(request: Line) -> list[tuple[int, int]]:
+    """The stretches that are to have looks."""
+    found = request.get("ranges")
+    if not isinstance(found, list) or len(found) > MOST_CHANGES or not all(_is_range(one) for one in found):
+        raise Wrong("field", f"ranges has to be a list of [begin, end], of {MOST_CHANGES:,} at most.")
+    return [(begin, end) for begin, end in found]
+
+
+def _is_range(one: object) -> bool:
+    return (isinstance(one, list) and len(one) == 2 and all(type(place) is int for place in one)
+            and 0 <= one[0] <= one[1] <= MOST_NUMBER)
+
+
+def looks(request: Line) -> tuple[bool | None, int | None]:
+    """The looks that are to be set: whether they are bold, and a colour."""
+    bold, colour = request.get("bold"), request.get("colour")
+    if bold is None and colour is None:
+        raise Wrong("field", "bold or colour has to be given.")
+    is_colour = colour is None or type(colour) is int and 0 <= colour <= MOST_COLOUR
+    if not (bold is None or type(bold) is bool) or not is_colour:
+        raise Wrong("field", f"bold has to be true or false, and colour a number up to {MOST_COLOUR}.")
+    return bold, colour
+
+
+def _is_replacement(one: object) -> bool:
+    if not isinstance(one, list) or len(one) != 3:
+        return False
+    begin, end, text = one
+    return (type(begin) is int and type(end) is int and isinstance(text, str)
+            and max(abs(begin), abs(end)) <= MOST_NUMBER)
+
+

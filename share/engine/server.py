@@ -1,0 +1,421 @@
+"""Where an engine meets its editors: a Unix socket in the data folder, which nobody but this account reaches.
+
+An editor starts `bin/note engine NAME`, which hands lines on between its standard input and output and the socket.
+Where no engine listens there, it leaves one running on its own, which ends after its last editor. So no editor's end
+takes the engine from the others.
+"""
+import contextlib
+import fcntl
+import os
+import pathlib
+import select
+import selectors
+import signal
+import socket
+import struct
+import time
+from collections.abc import Callable, Iterator
+
+from share.engine.editor import Peer
+from share.engine.engine import Engine
+from share.engine.protocol import MOST_LINE
+from share.format.link import Link
+from share.store import notes, read_only
+from share.store.note_file import make_folder
+from share.sync.session import Bar, Session
+from share.text.errors import Trouble
+
+# How long a relay waits for an engine to listen, and an engine for one that is ending.
+START_SECONDS = 60
+AGAIN_SECONDS = 0.01
+# An engine to which nobody has come for so long ends.
+ALONE_SECONDS = 10
+# The note is looked at so often where nothing comes, and at least so often where editors send without a pause.
+TURN_SECONDS, BUSY_SECONDS = 0.5, 0.05
+PIECE, MOST_FILES = 1 << 18, 1_024
+# A pipe that takes something takes so much without making the writer wait.
+OF_A_PIPE = 4_096
+# So many lines of an editor wait to be done at most, before no more is read.
+MOST_LINES = 1_000
+CREDENTIALS = struct.Struct("iII")
+Opens = Callable[[Bar, Callable[[], None]], Session]
+
+
+def run_folder() -> pathlib.Path:
+    """The folder of the sockets of this person's engines."""
+    return notes.data_folder() / "run"
+
+
+@contextlib.contextmanager
+def _socket_path(name: str) -> Iterator[str]:
+    """The path of a note's socket, which is short, whatever the folder's is: a socket's may have 107 bytes."""
+    folder = os.open(run_folder(), os.O_RDONLY | os.O_DIRECTORY | os.O_CLOEXEC)
+    try:
+        yield f"/proc/self/fd/{folder}/{name}.sock"
+    finally:
+        os.close(folder)
+
+
+def connected(name: str) -> socket.socket | None:
+    """A connection to the engine that has a note open; None where there is none."""
+    line = socket.socket(socket.AF_UNIX, socket.SOCK_STREAM)
+    try:
+        with _socket_path(name) as path:
+            line.connect(path)
+        return line
+    except OSError:
+        line.close()
+        return None
+
+
+def agree(name: str, url: str | None, link: Link | None) -> None:
+    """Sees that a link and a log are those of the note that an engine has open, where one does. An engine that has just
+    been started makes the note as its first editor opens that."""
+    if line := connected(name):
+        with line:
+            path, end = notes.path_of(name), time.monotonic() + START_SECONDS
+            while not path.exists():
+                if time.monotonic() > end:
+                    raise _silent(name)
+                time.sleep(AGAIN_SECONDS)
+        about = read_only.about(path)
+        notes.agree(about, name, url, link)
+        if url and url != about.url:
+            raise Trouble(f"The note {name} is open with another log. Quit its editors first.")
+
+
+def _silent(name: str) -> Trouble:
+    return Trouble(f"The engine of {name} doesn't answer. Look for a process that hangs.")
+
+
+def connected_or_started(name: str, opens: Opens) -> socket.socket:
+    """A connection to the engine of a note, which is started where it isn't there."""
+    notes.path_of(name)
+    folder = run_folder()
+    make_folder(folder)
+    os.chmod(folder, 0o700)
+    end, child = time.monotonic() + START_SECONDS, 0
+    while not (line := connected(name)):
+        if not child or os.waitpid(child, os.WNOHANG)[0]:
+            child = _started(name, opens)
+        if time.monotonic() > end:
+            raise _silent(name)
+        time.sleep(AGAIN_SECONDS)
+    return line
+
+
+def _started(name: str, opens: Opens) -> int:
+    """Leaves an engine running on its own; the process that waits for its begin."""
+    if child := os.fork():
+        return child
+    status = 1
+    try:
+        os.setsid()
+        for number in signal.SIGHUP, signal.SIGTERM, signal.SIGINT:
+            signal.signal(number, signal.SIG_DFL)
+        nothing = os.open(os.devnull, os.O_RDWR)
+        for standard in range(3):
+            os.dup2(nothing, standard)
+        # Who waits for the end of something that the editor has open doesn't wait for the engine's.
+        os.closerange(3, MOST_FILES)
+        serve(name, opens)
+        status = 0
+    finally:
+        # What the relay has to do at its end isn't the engine's.
+        os._exit(status)
+
+
+def serve(name: str, opens: Opens) -> None:
+    """Is the engine of a note until its last editor has left, unless another process is it."""
+    with _lock(name) as has_lock:
+        if has_lock:
+            Server(name, opens).run()
+
+
+@contextlib.contextmanager
+def _lock(name: str) -> Iterator[bool]:
+    """Has one process at a time be a note's engine; an engine that is ending is waited for."""
+    file = os.open(run_folder() / f"{name}.lock", os.O_RDWR | os.O_CREAT | os.O_CLOEXEC, 0o600)
+    try:
+        end = time.monotonic() + START_SECONDS
+        while time.monotonic() < end:
+            with contextlib.suppress(BlockingIOError):
+                fcntl.flock(file, fcntl.LOCK_EX | fcntl.LOCK_NB)
+                yield True
+                return
+            if line := connected(name):
+                line.close()
+                break
+            time.sleep(AGAIN_SECONDS)
+        yield False
+    finally:
+        os.close(file)
+
+
+class Connection:
+    """A connection to an editor, as the engine's end of it."""
+
+    def __init__(self, end: socket.socket):
+        self.end = end
+        self.out, self._in = bytearray(), bytearray()
+        self._skips = False
+        # Whether nothing more comes, and whether nothing can be sent either.
+        self.has_ended = self.is_broken = False
+        # Lines that came and wait to be done; None is one that was too long.
+        self.lines: list[bytes | None] = []
+        end.setblocking(False)
+
+    def write(self, data: bytes) -> None:
+        """Sends bytes, now or as soon as the editor reads."""
+        self.out += data
+
+    def waiting(self) -> int:
+        """How many bytes the editor hasn't read."""
+        return len(self.out)
+
+    def send(self) -> None:
+        """Sends as much as goes."""
+        try:
+            while self.out:
+                del self.out[:self.end.send(memoryview(self.out)[:PIECE].tobytes())]
+        except BlockingIOError:
+            pass
+        except OSError:
+            self.out.clear()
+            self.has_ended = self.is_broken = True
+
+    def receive(self) -> None:
+        """Takes in what has come."""
+        try:
+            data = self.end.recv(PIECE)
+        except BlockingIOError:
+            return
+        except OSError:
+            data = b""
+        if not data:
+            self.has_ended = True
+            return
+        begin = len(self._in)
+        self._in += data
+        if b"\n" in data:
+            self._part(self._in.find(b"\n", begin))
+        elif self._skips or len(self._in) > MOST_LINE:
+            self._skips = True
+            self._in.clear()
+
+    def _part(self, end: int) -> None:
+        """Takes out whole lines."""
+        begin = 0
+        while end >= 0:
+            self.lines.append(None if self._skips or end - begin > MOST_LINE else bytes(self._in[begin:end]))
+            self._skips, begin = False, end + 1
+            end = self._in.find(b"\n", begin)
+        del self._in[:begin]
+
+
+class Server:
+    """An engine with its editors' connections."""
+
+    def __init__(self, name: str, opens: Opens):
+        self._name = name
+        self._woken, self._waking = os.pipe()
+        os.set_blocking(self._woken, False)
+        os.set_blocking(self._waking, False)
+        self._engine = Engine(name, lambda: opens(self._progress, self._wake), self._wake, self._send_now)
+        self._editors: dict[Connection, Peer] = {}
+        self._selector = selectors.DefaultSelector()
+        self._selector.register(self._woken, selectors.EVENT_READ)
+        self._listener = socket.socket(socket.AF_UNIX, socket.SOCK_STREAM)
+        self._stops = False
+
+    def run(self) -> None:
+        """Serves editors until the last one has left."""
+        for number in signal.SIGTERM, signal.SIGINT:
+            signal.signal(number, lambda *_: self._stop())
+        self._listen()
+        end = time.monotonic() + ALONE_SECONDS
+        try:
+            while not self._stops and (self._editors or time.monotonic() < end or not self._is_left_alone()):
+                self._turn()
+                if self._editors:
+                    end = 0
+        finally:
+            self._listener.close()
+            self._engine.close()
+
+    def _stop(self) -> None:
+        self._stops = True
+        self._wake()
+
+    def _is_left_alone(self) -> bool:
+        """Has nobody come any more, unless somebody has come in this moment. Who comes later starts another engine,
+        which waits for the end of this one."""
+        with _socket_path(self._name) as path:
+            os.unlink(path)
+        self._accept()
+        if self._editors:
+            self._selector.unregister(self._listener)
+            self._listener.close()
+            self._listener = socket.socket(socket.AF_UNIX, socket.SOCK_STREAM)
+            self._listen()
+        return not self._editors
+
+    def _listen(self) -> None:
+        """Puts the note's socket in its place once it listens, so that who finds it is heard."""
+        with _socket_path(self._name) as path, _socket_path(f".{os.getpid()}") as fresh:
+            with contextlib.suppress(FileNotFoundError):
+                os.unlink(fresh)
+            before = os.umask(0o177)
+            try:
+                self._listener.bind(fresh)
+            finally:
+                os.umask(before)
+            self._listener.listen()
+            self._listener.setblocking(False)
+            os.replace(fresh, path)
+        self._selector.register(self._listener, selectors.EVENT_READ)
+
+    def _progress(self, done: int, total: int) -> None:
+        """Says how far a long history is read: as the note is opened, and where much comes at once."""
+        self._engine.progress(done, total)
+        self._send_now()
+
+    def _send_now(self) -> None:
+        """Sends what goes in the midst of something that takes long."""
+        for editor in [*self._editors]:
+            editor.send()
+
+    def _wake(self) -> None:
+        with contextlib.suppress(BlockingIOError):
+            os.write(self._waking, b"!")
+
+    def _turn(self) -> None:
+        for editor in self._editors:
+            self._wait_for(editor)
+        goes_on = self._engine.has_more() or any(editor.lines for editor in self._editors)
+        seconds = 0 if goes_on else BUSY_SECONDS if self._engine.is_restless() else TURN_SECONDS
+        for key, events in self._selector.select(seconds):
+            if key.fileobj is self._listener:
+                self._accept()
+            elif key.fileobj == self._woken:
+                with contextlib.suppress(BlockingIOError):
+                    os.read(self._woken, PIECE)
+            elif events & selectors.EVENT_READ:
+                key.data.receive()
+        self._do_lines()
+        self._engine.turn()
+        self._send()
+
+    def _wait_for(self, editor: Connection) -> None:
+        """Has the next turn begin as soon as an editor sends something, or takes something."""
+        # Who sends more than is done is read later.
+        reads = not editor.has_ended and len(editor.lines) < MOST_LINES
+        wanted = (selectors.EVENT_READ if reads else 0) | (selectors.EVENT_WRITE if editor.out else 0)
+        known = self._selector.get_map().get(editor.end.fileno())
+        if known and known.events == wanted:
+            return
+        if known:
+            self._selector.unregister(editor.end)
+        if wanted:
+            self._selector.register(editor.end, wanted, editor)
+
+    def _accept(self) -> None:
+        """Takes on all who have come."""
+        with contextlib.suppress(OSError):
+            while True:
+                self._take_on(self._listener.accept()[0])
+
+    def _take_on(self, end: socket.socket) -> None:
+        _, user, _ = CREDENTIALS.unpack(end.getsockopt(socket.SOL_SOCKET, socket.SO_PEERCRED, CREDENTIALS.size))
+        if user != os.getuid():
+            end.close()
+            return
+        editor = Connection(end)
+        self._editors[editor] = self._engine.joined(editor.write, editor.waiting)
+
+    def _do_lines(self) -> None:
+        """Does what has come, editor by editor, until what came from others has to be looked at."""
+        end = time.monotonic() + BUSY_SECONDS
+        while time.monotonic() < end:
+            waiting = [editor for editor in self._editors if editor.lines]
+            if not waiting:
+                break
+            for editor in waiting:
+                self._engine.take(self._editors[editor], editor.lines)
+
+    def _send(self) -> None:
+        for editor, peer in [*self._editors.items()]:
+            editor.send()
+            is_done = not (editor.lines or editor.out or peer.waits)
+            if editor.is_broken or is_done and (editor.has_ended or peer.closes):
+                del self._editors[editor]
+                if editor.end.fileno() in self._selector.get_map():
+                    self._selector.unregister(editor.end)
+                editor.end.close()
+                self._engine.left(peer)
+
+
+class Relay:
+    """Hands bytes on between standard input and output and a socket, both ways at once."""
+
+    def __init__(self, line: socket.socket):
+        self._line = line
+        self._to_engine, self._to_editor = bytearray(), bytearray()
+        self._reads, self._is_over = True, False
+        line.setblocking(False)
+
+    def run(self) -> None:
+        """Hands on until the engine ends the line."""
+        poll = select.poll()
+        while not (self._is_over and not self._to_editor):
+            for end, wanted in self._wanted():
+                poll.register(end, wanted)
+            for end, events in poll.poll():
+                self._does(end, events)
+            for end in 0, 1, self._line.fileno():
+                with contextlib.suppress(KeyError):
+                    poll.unregister(end)
+
+    def _wanted(self) -> Iterator[tuple[int, int]]:
+        if self._reads and len(self._to_engine) < PIECE:
+            yield 0, select.POLLIN
+        if self._to_editor:
+            yield 1, select.POLLOUT
+        reads = select.POLLIN if not self._is_over and len(self._to_editor) < PIECE else 0
+        writes = select.POLLOUT if self._to_engine else 0
+        if reads or writes:
+            yield self._line.fileno(), reads | writes
+
+    def _does(self, end: int, events: int) -> None:
+        if end == 0:
+            data = os.read(0, PIECE)
+            self._to_engine += data
+            self._reads = bool(data)
+        elif end == 1:
+            del self._to_editor[:os.write(1, self._to_editor[:OF_A_PIPE])]
+        else:
+            self._exchange(events)
+        if not self._reads and not self._to_engine:
+            with contextlib.suppress(OSError):
+                self._line.shutdown(socket.SHUT_WR)
+
+    def _exchange(self, events: int) -> None:
+        """Reads and writes as much as goes."""
+        try:
+            if events & select.POLLOUT:
+                del self._to_engine[:self._line.send(self._to_engine[:PIECE])]
+            if events & ~select.POLLOUT:
+                data = self._line.recv(PIECE)
+                self._to_editor += data
+                self._is_over = not data
+        except BlockingIOError:
+            pass
+        except OSError:
+            self._is_over = True
+            self._to_engine.clear()
+
+
+def relayed(name: str, opens: Opens) -> None:
+    """Is an editor's way to the engine of a note."""
+    with connected_or_started(name, opens) as line:
+        Relay(line).run()

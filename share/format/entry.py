@@ -1,0 +1,468 @@
+"""Entries: what a log carries and each person's disk keeps. An entry is a claim of a site's number, some messages of a
+site that follow one another, a word that messages were made anew, or which messages stand for which.
+
+All numbers are big-endian. An entry has this head:
+
+    form      1      1 plain, 2 sealed
+    kind      1      1 a claim, 4 made anew, 5 a chunk of messages, 6 a chunk that says what they build on, 7 copies,
+                     8 renewed
+    note      16     the note's identity
+    site      2      1 to 65,528
+    first     4      the seq of its first message; 0 without messages
+    count     2      how many messages
+    before    32     the hash of this site's entry before it; zeros in a claim
+    author    16/32  who claims or writes: 128 random bits where plain, an Ed25519 public key where sealed
+
+Then, in kind 6, 32 bytes that say what the messages build on, and the chunk of them (docs/FORMATS.md): as they are, where
+the form is plain, with a digest of all before it; else sealed, with the head as what is authenticated beside them, and
+signed. Kinds 2 and 3 are 5 and 6 as versions of before wrote them: with the messages, each after its length in two bytes, in
+place of the chunk.
+The hash of an entry is that of all its bytes. So the entries of a site make a chain that begins with its claim. What
+says that messages were made anew is in no chain: it names the last entry of those that it speaks of.
+What speaks of copies is in no chain either. It is said by the author of messages or by that of their copies, and has who
+wrote the messages and their site (2 bytes), who wrote the copies and their site, the hash of the last entry that has such
+copies (zeros where that isn't said), and then numbers (as in chunks) three by three: the seq of the first message of a
+stretch, that of its copy, and how many they are. What was typed in one go may have come apart and have several copies; 0 in
+place of the copy's seq says that nothing remained of them that had to be made anew. It names the last entry that has such
+messages as the one before it: two histories of one number have the same seqs. With zeros there it speaks of each. Where what
+stands for a message is a deletion it was made to hide that, which is a copy itself.
+Renewed (kind 8) says that the note goes on under a new key, in no chain, too: its body is what its author is called, in 200
+bytes at most.
+An entry of another kind is a newer version's: it is kept and carried as it is, and says nothing here.
+
+What messages build on is said where they mention characters of other sites: of each of these sites, in the order of
+their numbers, the entry in which the last mentioned one of its characters was inserted; 32 bytes are the hash of
+these entries' hashes. Names alone don't say it, since two copies of one number give theirs the same ones. Entries of
+kind 2 may mention characters of other sites: those were made before there was kind 3.
+"""
+import hashlib
+import secrets
+import struct
+from abc import ABC, abstractmethod
+from collections.abc import Sequence
+from enum import IntEnum
+from functools import lru_cache
+from typing import NamedTuple
+
+from share.format import chunk
+from share.format.chunk import GREATEST_SEQ, UNFOLDED, NoChunk, Run, Writer, number_of, of_message, packed
+from share.format.operation import Message, is_spelled, length_after
+from share.format.presence import MOST_PRESENCE
+
+HEAD = struct.Struct(">BB16sHIH32s")
+LENGTH = struct.Struct(">H")
+SITE = struct.Struct(">H")
+# An entry has so many bytes at most.
+MOST_BYTES = 16_384
+NOTE_BYTES = 16
+NO_HASH = bytes(32)
+MOST_AUTHOR_BYTES = 32
+DIGEST_BYTES = 16
+# Sites have these numbers, as the program's option says.
+GREATEST_SITE = 65_528
+
+
+class Kind(IntEnum):
+    """What an entry is; `NEWER` are all kinds that this version doesn't know, whatever their number."""
+
+    NEWER = 0
+    CLAIM = 1
+    MESSAGES = 2
+    BUILDING = 3
+    ANEW = 4
+    CHUNK = 5
+    CHUNK_BUILDING = 6
+    COPIES = 7
+    RENEWED = 8
+
+
+KINDS = {int(kind): kind for kind in Kind if kind is not Kind.NEWER}
+SAY_WHAT_THEY_BUILD_ON = (Kind.BUILDING, Kind.CHUNK_BUILDING)
+CHUNKS, ONE_BY_ONE = (Kind.CHUNK, Kind.CHUNK_BUILDING), (Kind.MESSAGES, Kind.BUILDING)
+# What says what became of messages or of the note, and is in no chain; and what doesn't show that its author goes on under
+# the number.
+SAY_WHAT_BECAME = (Kind.ANEW, Kind.COPIES, Kind.RENEWED)
+NOT_UNDER_A_NUMBER = (Kind.CLAIM, *SAY_WHAT_BECAME)
+# What is said of a renewed note has so many bytes at most.
+MOST_SAID = 200
+
+
+class Copy(NamedTuple):
+    """A message that stands for another one."""
+
+    author: bytes
+    site: int
+    seq: int
+
+
+class Copied(NamedTuple):
+    """What an entry says of copies: whose messages they stand for, whose they are, stretches of both: where each begins,
+    and how many messages it has; and the hash of the last entry of the copies."""
+
+    author: bytes
+    site: int
+    by: bytes
+    by_site: int
+    stretches: tuple[tuple[int, int, int], ...]
+    last: bytes = NO_HASH
+
+
+class Bad(Exception):
+    """Bytes that are no entry of this note, and why, in words that follow `An entry`."""
+
+
+class Entry(NamedTuple):
+    """An entry that was opened: its form, its size, its messages' spelling and their places were found right.
+    """
+
+    kind: Kind
+    site: int
+    first: int
+    # How many messages there are.
+    size: int
+    before: bytes
+    author: bytes
+    # What the messages build on, where the entry says it; all that is after the head of what is newer.
+    on: bytes
+    # The messages, as the entry has them.
+    spelled: bytes
+    raw: bytes
+    hash: bytes
+
+    @property
+    def last(self) -> int:
+        """The seq of the last message, 0 without messages."""
+        return self.first + self.size - 1 if self.size else 0
+
+    @property
+    def body(self) -> bytes:
+        """What the messages build on, and they themselves."""
+        return self.on + self.spelled
+
+    @property
+    def chunk(self) -> bytes:
+        """The chunk of the messages, where the entry has them in one."""
+        return self.spelled if self.kind in CHUNKS else b""
+
+    @property
+    def messages(self) -> tuple[Message, ...]:
+        """The messages."""
+        return messages_of(self.kind, self.spelled)
+
+    @property
+    def copied(self) -> Copied:
+        """What an entry of copies says; ValueError where it isn't spelled rightly."""
+        size = len(self.author)
+        begin = 2 * (size + SITE.size)
+        end = begin + len(NO_HASH)
+        if len(self.spelled) < end:
+            raise ValueError("cut short")
+        numbers = chunk.numbers_in(self.spelled[end:])
+        stretches = tuple(zip(numbers[::3], numbers[1::3], numbers[2::3]))
+        if not numbers or len(numbers) % 3 or not all(map(_is_stretch, stretches)):
+            raise ValueError("no stretches")
+        site, by = SITE.unpack_from(self.spelled, size)[0], self.spelled[size + SITE.size:begin - SITE.size]
+        by_site = SITE.unpack_from(self.spelled, begin - SITE.size)[0]
+        return Copied(self.spelled[:size], site, by, by_site, stretches, self.spelled[begin:end])
+
+    @property
+    def runs(self) -> tuple[Run, ...]:
+        """The messages, those in one that are letters typed one after the other."""
+        return runs_of(self.kind, self.spelled)
+
+
+class Author(NamedTuple):
+    """Who makes entries: the name that stands in them, and the secret that signs them, where they are
+    signed."""
+
+    name: bytes
+    secret: bytes
+
+
+class Form(ABC):
+    """How entries of one note are spelled: plain, or sealed with the note's key."""
+
+    number: int
+    author_bytes: int
+    # How many of an entry's last bytes can't be computed from the others.
+    tail_bytes: int
+
+    def __init__(self, note: bytes):
+        self.note = note
+
+    @abstractmethod
+    def new_author(self) -> Author:
+        """An author whom nobody else can be."""
+
+    @abstractmethod
+    def presence(self, data: bytes) -> bytes:
+        """What an editor says of itself, as a log may have it."""
+
+    @abstractmethod
+    def present(self, raw: bytes) -> bytes | None:
+        """What an editor said of itself; None where nobody of this note can have said it."""
+
+    def body(self, raw: bytes) -> bytes:
+        """What is after the head of an entry that was opened before, unsealed."""
+        return self._checked(raw)
+
+    def tail(self, raw: bytes) -> bytes:
+        """The last bytes of an entry, which can't be computed from the others."""
+        return raw[len(raw) - self.tail_bytes:]
+
+    def whole(self, entry: "Entry", tail: bytes) -> bytes:
+        """The bytes of an entry that was opened before, by what it says and these last ones."""
+        return self._unsigned(self._head(entry.kind, entry.site, entry.first, entry.size, entry.before) + entry.author,
+                              entry.body) + tail
+
+    def _head(self, kind: Kind, site: int, first: int, count: int, before: bytes) -> bytes:
+        return HEAD.pack(self.number, kind, self.note, site, first, count, before)
+
+    @abstractmethod
+    def _unsigned(self, head: bytes, body: bytes) -> bytes:
+        """The bytes of an entry of this head and this body that everybody of the note could write."""
+
+    @abstractmethod
+    def _closed(self, head: bytes, body: bytes, author: Author) -> bytes:
+        """The bytes of an entry of this head and this body."""
+
+    @abstractmethod
+    def _opened(self, head: bytes, rest: bytes, author: bytes) -> bytes:
+        """The body of an entry; raises Bad where it isn't right."""
+
+    def claim(self, site: int, author: Author) -> Entry:
+        """The entry with which an author claims a site's number."""
+        return self._made(Kind.CLAIM, site, 0, 0, NO_HASH, author, b"", b"")
+
+    def entry(self, before: Entry, messages: Sequence[Message], author: Author, on: bytes = b"", length: int = 0) -> Entry:
+        """The entry of messages that follow those of an author's entry before it, where the site had so many characters,
+        and of what they build on. They fit one. Those that no chunk has are spelled as versions of before did."""
+        chunk = packed(messages, length)
+        kind = (Kind.CHUNK_BUILDING if on else Kind.CHUNK) if chunk else Kind.BUILDING if on else Kind.MESSAGES
+        return self._made(kind, before.site, messages[0].seq, len(messages), before.hash, author, on,
+                          chunk or body_of(messages))
+
+    def made_anew(self, last: Entry, author: Author) -> Entry:
+        """The entry with which an author says that of his entries up to this one all that doesn't count was made
+        anew."""
+        return self._made(Kind.ANEW, last.site, 0, 0, last.hash, author, b"", b"")
+
+    def copies(self, copied: Copied, author: Author, site: int, before: bytes = NO_HASH) -> Entry:
+        """The entry with which the author of messages, or that of their copies, says which stand for which. `before` is the
+        hash of the last entry that has such messages."""
+        numbers = b"".join(number_of(number) for stretch in copied.stretches for number in stretch)
+        body = copied.author + SITE.pack(copied.site) + copied.by + SITE.pack(copied.by_site) + copied.last + numbers
+        return self._made(Kind.COPIES, site, 0, 0, before, author, b"", body)
+
+    def renewed(self, name: str, site: int, author: Author) -> Entry:
+        """The entry by which an author of this name says that the note goes on under a new key."""
+        said = name.encode("utf-8", "ignore")[:MOST_SAID].decode("utf-8", "ignore").encode()
+        return self._made(Kind.RENEWED, site, 0, 0, NO_HASH, author, b"", said)
+
+    def open(self, raw: bytes) -> Entry:
+        """The entry that has these bytes; Bad where they are none of this note's."""
+        entry = self.reopened(raw, self._checked(raw), digest(raw))
+        check_entry(entry)
+        return entry
+
+    def kind(self, raw: bytes) -> Kind:
+        """The kind of an entry that was opened before, by its first bytes."""
+        return kind_of(raw[1])
+
+    def author(self, raw: bytes) -> bytes:
+        """The author of such an entry."""
+        return raw[HEAD.size:HEAD.size + self.author_bytes]
+
+    def open_many(self, raws: Sequence[bytes]) -> list["Entry | Bad"]:
+        """What each of these bytes are."""
+        return [self._found(raw) for raw in raws]
+
+    def _found(self, raw: bytes) -> "Entry | Bad":
+        try:
+            return self.open(raw)
+        except Bad as why:
+            return why
+
+    def reopened(self, raw: bytes, body: bytes, of: bytes) -> Entry:
+        """The entry of bytes that were opened before: its body and its hash were kept."""
+        _, number, _, site, first, count, before = HEAD.unpack_from(raw)
+        kind = kind_of(number)
+        size = len(body) if kind is Kind.NEWER else len(NO_HASH) if kind in SAY_WHAT_THEY_BUILD_ON else 0
+        count = 0 if kind is Kind.NEWER else count
+        return Entry(kind, site, first, count, before, self.author(raw), body[:size], body[size:], raw, of)
+
+    def _checked(self, raw: bytes) -> bytes:
+        """The body of bytes that are spelled as an entry."""
+        if len(raw) > MOST_BYTES:
+            raise Bad(f"has {len(raw):,} bytes, more than {MOST_BYTES:,}")
+        begin = HEAD.size + self.author_bytes
+        if len(raw) < begin or raw[0] != self.number:
+            raise Bad("isn't spelled as one")
+        if raw[2:2 + NOTE_BYTES] != self.note:
+            raise Bad("is of another note")
+        return self._opened(raw[:begin], raw[begin:], raw[HEAD.size:begin])
+
+    def _made(self, kind: Kind, site: int, first: int, count: int, before: bytes, author: Author, on: bytes,
+              spelled: bytes) -> Entry:
+        head = self._head(kind, site, first, count, before) + author.name
+        raw = self._closed(head, on + spelled, author)
+        return Entry(kind, site, first, count, before, author.name, on, spelled, raw, digest(raw))
+
+
+class Plain(Form):
+    """Entries of a note on one machine, which nobody but its accounts can reach. A digest shows damage."""
+
+    number, author_bytes, tail_bytes = 1, 16, 0
+
+    def new_author(self) -> Author:
+        return Author(secrets.token_bytes(self.author_bytes), b"")
+
+    def presence(self, data: bytes) -> bytes:
+        return data
+
+    def present(self, raw: bytes) -> bytes | None:
+        return raw if len(raw) <= MOST_PRESENCE else None
+
+    def body(self, raw: bytes) -> bytes:
+        return raw[HEAD.size + self.author_bytes:-DIGEST_BYTES]
+
+    def _unsigned(self, head: bytes, body: bytes) -> bytes:
+        return head + body + _short_digest(head + body)
+
+    def _closed(self, head: bytes, body: bytes, author: Author) -> bytes:
+        return self._unsigned(head, body)
+
+    def _opened(self, head: bytes, rest: bytes, author: bytes) -> bytes:
+        body = rest[:-DIGEST_BYTES]
+        if len(rest) < DIGEST_BYTES or rest[-DIGEST_BYTES:] != _short_digest(head + body):
+            raise Bad("is damaged")
+        return body
+
+
+def before_of(raw: bytes) -> bytes:
+    """The hash of the entry before one, as bytes say it that may be damaged."""
+    return raw[HEAD.size - len(NO_HASH):HEAD.size]
+
+
+def kind_of(number: int) -> Kind:
+    """The kind that has a number."""
+    return KINDS.get(number, Kind.NEWER)
+
+
+def body_of(messages: Sequence[Message]) -> bytes:
+    """Messages one after the other, each after its length."""
+    return b"".join(LENGTH.pack(len(message.data)) + message.data for message in messages)
+
+
+def in_entries(messages: Sequence[Message], length: int = 0) -> list[list[Message]]:
+    """Messages of a site, which had so many characters before them, in parts that fit an entry each."""
+    parts: list[list[Message]] = []
+    writer = Writer()
+    for message in messages:
+        run = of_message(message)
+        if not parts or not writer.add(run, length):
+            writer = Writer()
+            writer.add(run, length)
+            parts.append([])
+        parts[-1].append(message)
+        length = length_after([message], length)
+    return parts
+
+
+def digest(raw: bytes) -> bytes:
+    """The hash of an entry's bytes."""
+    return hashlib.blake2b(raw, digest_size=32).digest()
+
+
+def _short_digest(data: bytes) -> bytes:
+    return hashlib.blake2b(data, digest_size=DIGEST_BYTES).digest()
+
+
+def messages_of(kind: Kind, spelled: bytes) -> tuple[Message, ...]:
+    """The messages of an entry of a kind, as it spells them."""
+    if kind in CHUNKS:
+        return chunk.messages(spelled)
+    return _messages_of(spelled) if kind in ONE_BY_ONE else ()
+
+
+def runs_of(kind: Kind, spelled: bytes) -> tuple[Run, ...]:
+    """The same, those in one that are letters typed one after the other."""
+    return chunk.runs(spelled) if kind in CHUNKS else tuple(map(of_message, messages_of(kind, spelled)))
+
+
+@lru_cache(UNFOLDED)
+def _messages_of(spelled: bytes) -> tuple[Message, ...]:
+    """The messages of an entry of before, which was opened."""
+    return tuple(map(Message.read, _split(spelled)))
+
+
+def _split(spelled: bytes) -> list[bytes]:
+    parts, begin = [], 0
+    while begin < len(spelled):
+        (length,) = LENGTH.unpack_from(spelled, begin)
+        begin += LENGTH.size + length
+        if begin > len(spelled):
+            raise struct.error("a message is cut short")
+        parts.append(spelled[begin - length:begin])
+    return parts
+
+
+def _is_stretch(stretch: tuple[int, int, int]) -> bool:
+    seq, by, count = stretch
+    return min(seq, count) >= 1 and max(seq, by) + count - 1 <= GREATEST_SEQ
+
+
+def _check_copies(entry: Entry) -> None:
+    """Raises Bad where an entry says of copies what nobody but another may say, or says it wrong."""
+    try:
+        copied = entry.copied
+    except ValueError as why:
+        raise Bad("has bytes that say nothing of copies") from why
+    if entry.first or entry.size or not 1 <= copied.site <= GREATEST_SITE or not 1 <= copied.by_site <= GREATEST_SITE:
+        raise Bad("says of copies what can't be")
+    if (entry.author, entry.site) not in ((copied.author, copied.site), (copied.by, copied.by_site)):
+        raise Bad("speaks of copies of others")
+
+
+def check_entry(entry: Entry) -> None:
+    """Raises Bad where an entry's messages are spelled wrong, or aren't those of its place."""
+    if entry.kind is Kind.NEWER:
+        return
+    if entry.kind in SAY_WHAT_THEY_BUILD_ON and len(entry.on) < len(NO_HASH):
+        raise Bad("has messages that are cut short")
+    if not 1 <= entry.site <= GREATEST_SITE:
+        raise Bad("is of a site that can't be")
+    if entry.kind is Kind.CLAIM:
+        if entry.first or entry.size or entry.spelled or entry.before != NO_HASH:
+            raise Bad("is a claim with more in it than a claim has")
+    elif entry.kind is Kind.ANEW:
+        if entry.first or entry.size or entry.spelled or entry.before == NO_HASH:
+            raise Bad("says of nothing that it was made anew, or has more in it")
+    elif entry.kind is Kind.COPIES:
+        _check_copies(entry)
+    elif entry.kind is Kind.RENEWED:
+        if entry.first or entry.size or entry.before != NO_HASH or len(entry.spelled) > MOST_SAID:
+            raise Bad("says of a renewed note what can't be")
+    elif not entry.size or entry.before == NO_HASH:
+        raise Bad("has no messages, or nothing before it")
+    else:
+        _check_messages(entry)
+
+
+def _check_messages(entry: Entry) -> None:
+    """Raises Bad where an entry's messages are spelled wrong, or aren't those of its place."""
+    try:
+        if entry.kind not in CHUNKS and not all(map(is_spelled, _split(entry.spelled))):
+            raise Bad("has bytes that are no message")
+        runs = entry.runs
+    except struct.error as why:
+        raise Bad("has messages that are cut short") from why
+    except NoChunk as why:
+        raise Bad("has bytes that are no chunk") from why
+    seq = entry.first
+    for run in runs:
+        if run.site != entry.site or run.seq != seq:
+            raise Bad("has messages of another place")
+        seq += run.size
+    if seq != entry.first + entry.size:
+        raise Bad("doesn't have as many messages as it says")

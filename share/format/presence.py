@@ -1,0 +1,76 @@
+"""What an editor says of itself to the others that are on: who it is, its name and colour, and where its cursor is.
+
+It goes through the log beside the entries, is kept nowhere, and is sealed where the log is on a server. Whoever has
+the note's link could say it as well, so nothing hangs on it. A cursor is the character before it, by its name.
+
+As it is sent a count that only rises stands in the second half of the engine's token, so that what was said before and is
+put into the log again, under whatever name, is known to be nothing (sync/heard.py). What versions of before say has no count.
+"""
+import re
+import struct
+from typing import NamedTuple
+
+
+TOKEN_BYTES = 16
+# Of a token the first bytes are random, and the others zeros.
+RANDOM_BYTES = 8
+# The engine's token and the editor's, the site, the colour, which places there are, the cursor and the other end of
+# a selection; then the name. A place before all characters is (0, 0).
+FORM = struct.Struct(">16s16sH3sBHIHI")
+# All that is said has this many bytes at most.
+MOST_PRESENCE = 256
+MOST_NAME, MOST_NAME_BYTES = 40, 160
+# What a name doesn't have: controls, and what turns the direction of writing for all that follows.
+_NO_NAME = re.compile("[\0-\x1f\x7f-\x9f\u061c\u200e\u200f\u2028-\u202e\u2066-\u2069\ud800-\udfff]")
+HAS_CURSOR, HAS_ANCHOR = 1, 2
+# Zeros, which a token of versions of before doesn't have there, and the count.
+COUNT = struct.Struct(">II")
+# The site and the offset of a character.
+Place = tuple[int, int]
+FRONT: Place = (0, 0)
+
+
+class Present(NamedTuple):
+    """What an editor says."""
+
+    engine: bytes
+    editor: bytes
+    site: int
+    colour: str
+    cursor: Place | None
+    anchor: Place | None
+    name: str
+
+
+def written(one: Present) -> bytes:
+    """What an editor says, as bytes."""
+    flags = (one.cursor is not None) * HAS_CURSOR | (one.anchor is not None) * HAS_ANCHOR
+    head = FORM.pack(one.engine, one.editor, one.site, bytes.fromhex(one.colour[1:]), flags, *(one.cursor or FRONT),
+                     *(one.anchor or FRONT))
+    # Of one length, so that a server's operator can't tell people by the lengths of their names.
+    return head + one.name.encode("utf-8", "ignore")[:MOST_NAME_BYTES].ljust(MOST_NAME_BYTES, b"\0")
+
+
+def read(data: bytes) -> Present | None:
+    """What an editor has said; None where these bytes are something else."""
+    if not FORM.size <= len(data) <= FORM.size + MOST_NAME_BYTES:
+        return None
+    engine, editor, site, colour, flags, *places = FORM.unpack_from(data)
+    cursor, anchor = (places[0], places[1]), (places[2], places[3])
+    return Present(engine, editor, site, f"#{colour.hex()}", cursor if flags & HAS_CURSOR and _is_place(cursor) else None,
+                   anchor if flags & HAS_ANCHOR and _is_place(anchor) else None,
+                   clean_name(data[FORM.size:].decode("utf-8", "ignore")))
+
+
+def clean_name(name: str) -> str:
+    """A person's name as it may be shown anywhere."""
+    return _NO_NAME.sub("", name).strip()[:MOST_NAME]
+
+
+def _is_place(place: Place) -> bool:
+    return place == FRONT or place[0] > 0 and place[1] < 2**24
+
+
+def counted(data: bytes, count: int) -> bytes:
+    """What an editor says, with a count."""
+    return data[:RANDOM_BYTES] + COUNT.pack(0, count) + data[TOKEN_BYTES:]

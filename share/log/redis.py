@@ -1,0 +1,260 @@
+"""A log in a stream of a Redis server, for all machines that reach it.
+
+The server, and everyone who reaches it, can write under its keys whatever they like. So scripts leave out what
+can't be an entry before it is sent, and each answer is looked at.
+"""
+import re
+import time
+from collections.abc import Iterator, Sequence
+
+from share.format.entry import MOST_BYTES, Kind
+from share.format.presence import MOST_PRESENCE
+from share.log.base import ON_SECONDS, PAGE, START, Carried, Log, Lost
+from share.log.resp import Answer, TooLong, Wire
+
+# An append has so many bytes, and a reading, and each entry in it so many beside its own.
+MOST_APPENDED = 2**17
+ROOM, BESIDE = 2**20, 64
+# A reading begins with little, so that something is seen soon where the line is slow. Each next one may have twice as much
+# where it took less than the one time, and half where it took more than the other.
+LEAST_ROOM, QUICK_SECONDS, SLOW_SECONDS = 2**14, 0.3, 1.0
+MOST_READ = ROOM + 20 * (MOST_BYTES + BESIDE) + PAGE * BESIDE
+# What a watch lets through: a longer entry is known by its size alone.
+MOST_WATCHED = MOST_BYTES + 1_024
+MOST_ON = 1_000
+# Claims are looked for in so many entries at once, and in so many parts of the stream at most.
+PART, MOST_PARTS = 5_000, 1_000
+# An entry has one field alone, called e. The server hashes the bytes, so nobody can have another entry stand for one
+# that isn't there. One that was trimmed, or stands otherwise, is added anew.
+APPEND = """
+    for _, raw in ipairs(ARGV) do
+        local hash = redis.sha1hex(raw)
+        local place = redis.call('HGET', KEYS[2], hash)
+        local held = place and redis.pcall('XRANGE', KEYS[1], place, place)
+        local fields = held and held[1] and held[1][2]
+        if not (fields and #fields == 2 and fields[1] == 'e' and fields[2] == raw) then
+            redis.call('HSET', KEYS[2], hash, redis.call('XADD', KEYS[1], '*', 'e', raw))
+        end
+    end
+    return 0
+"""
+# Gives how many entries there are, whether the last one was read, and ids and bytes in turn; nothing where the
+# entry after which is read doesn't stand any more. It takes a few at a time, since some may be large.
+READ = """
+    local after, field, page, most = ARGV[1], ARGV[2], tonumber(ARGV[3]), tonumber(ARGV[4])
+    local room = tonumber(ARGV[5])
+    if after ~= '0-0' and #redis.call('XRANGE', KEYS[1], after, after) == 0 then return 0 end
+    local found, at_end = {}, 0
+    while #found < 2 * page and room > 0 and at_end == 0 do
+        local few = math.min(20, page - #found / 2)
+        local some = redis.call('XREAD', 'COUNT', few, 'STREAMS', KEYS[1], after)
+        some = some and some[1][2] or {}
+        for _, one in ipairs(some) do
+            local id, fields = one[1], one[2]
+            local raw = #fields == 2 and fields[1] == field and #fields[2] <= most and fields[2]
+            found[#found + 1], found[#found + 2] = id, raw
+            room = room - (raw and #raw or 0)
+            after = id
+        end
+        if #some < few then at_end = 1 end
+    end
+    return {redis.call('XLEN', KEYS[1]), at_end, found}
+"""
+# Gives the id of the last entry of a part of the stream, and of each claim in it the two bytes of its site.
+CLAIMED = """
+    local after, most = ARGV[1], tonumber(ARGV[5])
+    local some = redis.call('XREAD', 'COUNT', tonumber(ARGV[3]), 'STREAMS', KEYS[1], after)
+    local found = {}
+    for _, entry in ipairs(some and some[1][2] or {}) do
+        local id, fields = entry[1], entry[2]
+        local raw = #fields == 2 and fields[1] == ARGV[2] and #fields[2] <= most and fields[2]
+        if raw and string.byte(raw, 2) == tonumber(ARGV[4]) then found[#found + 1] = string.sub(raw, 19, 20) end
+        after = id
+    end
+    return {after, found}
+"""
+# The time is the server's, since those of machines differ.
+MEET = """
+    local now, on, most = tonumber(redis.call('TIME')[1]), tonumber(ARGV[3]), tonumber(ARGV[4])
+    redis.call('ZADD', KEYS[1], now, ARGV[1])
+    redis.call('HSET', KEYS[2], ARGV[1], ARGV[2])
+    for _, range in ipairs({{'-inf', now - on - 1}, {now + 1, '+inf'}}) do
+        for _, token in ipairs(redis.call('ZRANGEBYSCORE', KEYS[1], range[1], range[2], 'LIMIT', 0, 1000)) do
+            redis.call('ZREM', KEYS[1], token)
+            redis.call('HDEL', KEYS[2], token)
+        end
+    end
+    local said = {}
+    for _, token in ipairs(redis.call('ZREVRANGE', KEYS[1], 0, tonumber(ARGV[5]) - 1)) do
+        if redis.call('HSTRLEN', KEYS[2], token) <= most then
+            said[#said + 1] = redis.call('HGET', KEYS[2], token)
+        end
+    end
+    redis.call('EXPIRE', KEYS[1], 4 * on)
+    redis.call('EXPIRE', KEYS[2], 4 * on)
+    return said
+"""
+LEAVE = """
+    redis.call('ZREM', KEYS[1], ARGV[1])
+    redis.call('HDEL', KEYS[2], ARGV[1])
+    return 0
+"""
+ID = re.compile(rb"([0-9]{1,20})-([0-9]{1,20})")
+PLACE = re.compile(r"([0-9]{1,20}-[0-9]{1,20})/([0-9]{1,18})")
+
+
+class Stream:
+    """A stream whose entries have one field alone, with so many bytes at most. A place in it has the entry's id
+    and how many there are up to it, so that a stream that lost entries is seen."""
+
+    def __init__(self, wire: Wire, key: str, field: str, most: int):
+        self._wire, self._key, self._field, self._most = wire, key, field, most
+        self._room = LEAST_ROOM
+
+    def read(self, after: str) -> list[Carried]:
+        """The entries after a place, PAGE at most."""
+        last, count = _place(after)
+        begin = time.monotonic()
+        answer = self._wire.run(READ, (self._key,), (last, self._field, PAGE, self._most, self._room), MOST_READ)
+        self._took(time.monotonic() - begin)
+        if answer == 0:
+            raise self._lost()
+        page, size = self._page(answer, last, count)
+        # They can't be more: the server tells how many there are in one breath with the last ones.
+        if size is not None and size != count + len(page):
+            raise self._lost() if after != START else self._wire.strange()
+        return page
+
+    def claimed(self) -> set[int]:
+        """The sites that entries claim, as far as the server says so: it looks through them, and sends the sites alone."""
+        sites, after = set[int](), b"0-0"
+        for _ in range(MOST_PARTS):
+            words = (after, self._field, PART, int(Kind.CLAIM), self._most)
+            match self._wire.run(CLAIMED, (self._key,), words):
+                case [bytes(last), list(found)] if len(found) <= PART and _numbers(last):
+                    sites |= {int.from_bytes(site, "big") for site in found if isinstance(site, bytes) and len(site) == 2}
+                case _:
+                    raise self._wire.strange()
+            if last == after:
+                break
+            after = last
+        return sites
+
+    def _took(self, seconds: float) -> None:
+        """Has the next reading have as much as comes in a short while."""
+        if seconds < QUICK_SECONDS:
+            self._room = min(2 * self._room, ROOM)
+        elif seconds > SLOW_SECONDS:
+            self._room = max(self._room // 2, LEAST_ROOM)
+
+    def watch(self, after: str, seconds: float) -> None:
+        """Returns when there is an entry after a place, and after so many seconds at the latest."""
+        last, _ = _place(after)
+        milliseconds = max(1, int(seconds * 1000))
+        try:
+            self._wire.ask("XREAD", "COUNT", 1, "BLOCK", milliseconds, "STREAMS", self._key, last, waits=seconds,
+                           most=MOST_WATCHED)
+        except TooLong:
+            # Something is there, and the script that reads says what.
+            return
+
+    def size(self) -> int:
+        """How many entries there are."""
+        size = self._wire.ask("XLEN", self._key)
+        if not isinstance(size, int):
+            raise self._wire.strange()
+        return size
+
+    def _lost(self) -> Lost:
+        return Lost(f"{self._wire.url} has lost entries.")
+
+    def _page(self, answer: Answer, last: str, count: int) -> tuple[list[Carried], int | None]:
+        """What a reading gives, and how many entries there are, where it came to their end."""
+        match answer:
+            case [int(size), int(at_end), list(found)] if len(found) <= 2 * PAGE and not len(found) % 2:
+                pass
+            case _:
+                raise self._wire.strange()
+        page, before = [], _numbers(last.encode())
+        for number, (one, raw) in enumerate(zip(found[::2], found[1::2]), count + 1):
+            place = _numbers(one)
+            if not (before and place and before < place):
+                raise self._wire.strange()
+            before = place
+            entry = raw if isinstance(raw, bytes) and len(raw) <= self._most else None
+            page.append(Carried(f"{place[0]}-{place[1]}/{number}", entry))
+        return page, size if at_end else None
+
+
+class RedisLog(Log):
+    """A log in a stream of a note's own."""
+
+    def __init__(self, url: str, note: bytes, password: str | None = None):
+        self._wire = Wire(url, password)
+        # In braces, so that a cluster of servers keeps all keys of a note together.
+        self._entries, self._places, self._times, self._said = (
+            f"vialshoal:note:{{{note.hex()}}}:{part}" for part in ("entries", "places", "times", "said"))
+        self._stream = Stream(self._wire, self._entries, "e", MOST_BYTES)
+        try:
+            self._wire.ask("PING")
+        except BaseException:
+            self.close()
+            raise
+
+    def append(self, raws: Sequence[bytes]) -> None:
+        for part in _parts(raws):
+            self._wire.run(APPEND, (self._entries, self._places), part)
+
+    def read(self, after: str) -> list[Carried]:
+        return self._stream.read(after)
+
+    def watch(self, after: str, seconds: float) -> None:
+        self._stream.watch(after, seconds)
+
+    def size(self) -> int:
+        return self._stream.size()
+
+    def claimed(self) -> set[int] | None:
+        return self._stream.claimed()
+
+    def meet(self, token: bytes, presence: bytes) -> list[bytes]:
+        answer = self._wire.run(MEET, (self._times, self._said),
+                                (token, presence, ON_SECONDS, MOST_PRESENCE, MOST_ON))
+        if not isinstance(answer, list):
+            raise self._wire.strange()
+        return [said for said in answer[:MOST_ON] if isinstance(said, bytes) and len(said) <= MOST_PRESENCE]
+
+    def leave(self, token: bytes) -> None:
+        self._wire.run(LEAVE, (self._times, self._said), (token,))
+
+    def close(self) -> None:
+        self._wire.close()
+
+
+def _numbers(one: Answer) -> tuple[int, int] | None:
+    """The numbers of an id, by which ids rise; None where it is none."""
+    found = ID.fullmatch(one) if isinstance(one, bytes) else None
+    return (int(found[1]), int(found[2])) if found else None
+
+
+def _place(after: str) -> tuple[str, int]:
+    """The id of a place, and how many entries there were up to it."""
+    if after == START:
+        return "0-0", 0
+    if not (found := PLACE.fullmatch(after)):
+        raise Lost("The place after which was to be read is another log's.")
+    return found[1], int(found[2])
+
+
+def _parts(raws: Sequence[bytes]) -> Iterator[list[bytes]]:
+    """Entries in parts that a server takes in at once."""
+    part: list[bytes] = []
+    size = 0
+    for raw in raws:
+        if part and size + len(raw) + BESIDE > MOST_APPENDED:
+            yield part
+            part, size = [], 0
+        part.append(raw)
+        size += len(raw) + BESIDE
+    if part:
+        yield part

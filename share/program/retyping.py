@@ -1,0 +1,465 @@
+"""What was left out of a note for good, since a smaller hash holds in its place: how much and whose it is, its text, and
+typing it again.
+
+What was left out is typed again with the same bytes, message by message, so that everybody can see that it is a copy. It
+stands after the characters after which it was typed, as far as these are there, else at the end. What was deleted of it
+before it was left out is deleted again, and its looks are given again; what its authors did to other text isn't done
+again.
+"""
+from bisect import bisect_left, bisect_right
+from collections.abc import Iterable, Mapping, Sequence, Set
+from contextlib import closing
+from typing import NamedTuple
+
+from share.admission.judge import Judge, rank
+from share.admission.left_out import LeftOut
+from share.format.entry import Author, Copied, Copy, Entry, Form
+from share.format.operation import Message, inserted, mentioned, typed
+from share.program.effects import Stretch
+from share.program.site import Edited, Site, one_by_one
+from share.text.errors import Refused, counted
+from share.text.line import Line
+from share.text.looks import DEFAULT, Dressed, Looks, dressed
+from share.text.names import Name, Names, united, without
+from share.text.rope import swapped
+from share.text.rope import shown as as_text
+
+# A number may have been claimed, or a place taken, by several that lost: so often what was left out is looked at anew.
+MOST_VIEWS = 8
+# So much is typed at once.
+MOST_AT_ONCE = 1_000
+# An entry says of so many stretches what they stand for, each of so many messages.
+MOST_STRETCHES, MOST_COPIES = 1_000, 4_000
+# So many stretches in looks are looked at.
+MOST_DRESSED = 20_000
+# Of so many authors it is told how much of their text was left out, and so many of them are named.
+MOST_TOLD, MOST_NAMED = 100, 3
+# The number of a site by which is only looked.
+LOOKING = 1
+# So many characters before what was left out are looked at first.
+LOOKED_AT = 64
+# A message by its author, site and seq; and an author of a site.
+Made = tuple[bytes, int, int]
+Who = tuple[int, bytes]
+
+
+class Lost(NamedTuple):
+    """Messages of one author and site that were left out."""
+
+    site: int
+    author: bytes
+    messages: list[Message]
+
+    @property
+    def text(self) -> bytes:
+        """What they insert."""
+        return b"".join(map(typed, self.messages))
+
+
+def left_out(judge: Judge, anew: Set[Made] = frozenset()) -> list[LeftOut]:
+    """Where text was left out, but for what its author knows to be made anew."""
+    return [one for one in judge.left_out() if one.characters and not (
+        anew and all((one.author, one.site, seq) in anew for seq in range(one.first, one.last + 1)))]
+
+
+def lost(judge: Judge, anew: Set[Made] = frozenset()) -> list[Lost]:
+    """The same, with the messages, also those that insert nothing: branch by branch, where an author went on twice."""
+    stretches: dict[Who, list[tuple[int, int]]] = {}
+    for one in left_out(judge, anew):
+        stretches.setdefault((one.site, one.author), []).append((one.first, one.last))
+    found: list[Lost] = []
+    for (site, author), seqs in stretches.items():
+        wanted, known, branches = _merged(seqs), set[Message](), dict[bytes, Lost]()
+        for entry in sorted(judge.not_counting(site, author), key=lambda entry: entry.first):
+            messages = [message for message in entry.messages if _is_in(message.seq, wanted) and message not in known
+                        and not judge.is_let_through(message)]
+            if messages:
+                known.update(messages)
+                branch = branches.pop(entry.before, None)
+                if branch is None:
+                    branch = Lost(site, author, [])
+                    found.append(branch)
+                branch.messages.extend(messages)
+                branches[entry.hash] = branch
+    return found
+
+
+def _merged(stretches: Iterable[tuple[int, int]]) -> list[tuple[int, int]]:
+    """Stretches of numbers, those in one that meet."""
+    out: list[tuple[int, int]] = []
+    for first, last in sorted(stretches):
+        if out and first <= out[-1][1] + 1:
+            first, last = out[-1][0], max(out.pop()[1], last)
+        out.append((first, last))
+    return out
+
+
+def _is_in(number: int, stretches: Sequence[tuple[int, int]]) -> bool:
+    """Whether a number is in one of some stretches, which rise."""
+    at = bisect_right(stretches, (number + 1,)) - 1
+    return at >= 0 and number <= stretches[at][1]
+
+
+class Totals:
+    """How much is left out of each number's author, as editors are told it; looked at again where that changes."""
+
+    def __init__(self) -> None:
+        self._found: list[LeftOut] | None = None
+        self._of = (0, 0)
+        self._lines: list[Line] = []
+
+    def lines(self, judge: Judge, anew: Set[Made], own: Set[Who]) -> list[Line]:
+        """The lines, the most first."""
+        found, of = judge.left_out(), (len(anew), len(own))
+        if found is not self._found or of != self._of:
+            self._found, self._of = found, of
+            self._lines = as_lines(left_out(judge, anew), own)
+        return self._lines
+
+
+def as_lines(found: Iterable[LeftOut], own: Set[Who]) -> list[Line]:
+    """How much was left out of each number's author, the most first, and whether that is this person, as editors are told
+    it."""
+    lines: dict[Who, Line] = {}
+    for one in found:
+        who = one.site, one.author
+        line = lines.setdefault(who, {"site": one.site, "own": who in own, "characters": 0, "messages": 0})
+        line["characters"] += one.characters
+        line["messages"] += one.messages
+    return sorted(lines.values(), key=lambda line: -int(line["characters"]))[:MOST_TOLD]
+
+
+def summed(lines: Iterable[Line]) -> list[Line]:
+    """How much these are of each number's author."""
+    found: dict[str, Line] = {}
+    for line in lines:
+        of = found.setdefault(called(line), line | {"characters": 0, "messages": 0})
+        of["characters"] += line["characters"]
+        of["messages"] += line["messages"]
+    return [*found.values()]
+
+
+def with_names(lines: Iterable[Line], names: Mapping[int, str]) -> list[Line]:
+    """These lines, with what the sites are called where that is known."""
+    return [line | {"name": names[line["site"]]} if line["site"] in names else line for line in lines]
+
+
+def with_text(found: Iterable[Lost], own: Set[Who], names: Mapping[int, str]) -> list[Line]:
+    """What was left out, stretch by stretch, as editors and scripts are told it."""
+    return with_names(({"site": one.site, "own": (one.site, one.author) in own, "characters": len(one.text),
+                        "messages": len(one.messages), "text": as_text(swapped(one.text))} for one in found), names)
+
+
+def called(line: Line) -> str:
+    """Whose a line is, in words."""
+    name, site = line.get("name"), f"site {line['site']}"
+    return f"{name} ({site})" if name else f"you ({site})" if line["own"] else site
+
+
+def in_words(lines: Sequence[Line]) -> str:
+    """How much was left out and whose it is, in words."""
+    parts = [f"{counted(line['characters'], 'character')} of {called(line)}" for line in lines[:MOST_NAMED]]
+    if more := sum(line["characters"] for line in lines[MOST_NAMED:]):
+        parts.append(f"{counted(more, 'character')} of others")
+    return ", ".join(parts)
+
+
+def telling(lines: Sequence[Line], name: str) -> str:
+    """What a user is told of what was left out of a note of this name."""
+    return (f"Left out, since others hold its place: {in_words(lines)}. bin/note recover --lost {name} shows it and types it "
+            "again.")
+
+
+class Typed(NamedTuple):
+    """What was typed again: the edit, and which of its messages stands for which other one."""
+
+    edited: Edited
+    copies: list[tuple[Copy, Message]]
+
+
+def type_again(found: Iterable[Lost], entries: Sequence[Entry], judge: Judge, site: Site) -> Typed:
+    """Types at a site, which has all that counts of these entries, what was left out."""
+    left = {message: one.author for one in found for message in one.messages if inserted(message)}
+    made, edits, authors, parts = dict[Message, Message](), list[Edited](), dict(left), _parts(left, judge)
+    for _ in range(MOST_VIEWS):
+        view = _View(entries, judge, left)
+        # Others may have the same names in each view.
+        edits += _typed_as_seen(view, _Typist(site, made, parts))
+        left = {message: author for message, author in left.items() if message not in view.lost}
+        if not (view.lost and left):
+            break
+    edits.append(_Typist(site, made, parts).type_in_a_row(left, len(site.text()) if left else 0))
+    return Typed(one_by_one(edits), [(Copy(author, old.site, old.seq), made[part]) for old, author in authors.items()
+                                     for part in parts.get(old, [old]) if part in made])
+
+
+def _parts(left: Mapping[Message, bytes], judge: Judge) -> dict[Message, list[Message]]:
+    """Of messages that were left out those for which others of them stand, as their authors say, and these, in their order: what was
+    made anew was left out in its turn, and is typed once."""
+    known = {Copy(author, message.site, message.seq): message for message, author in left.items()}
+    found: dict[Message, list[Message]] = {}
+    for message, author in left.items():
+        groups: dict[Who, list[Message]] = {}
+        for copy in judge.copies_of(author, message.site, message.seq, typed(message)):
+            if copy in known and known[copy] != message:
+                groups.setdefault((copy.site, copy.author), []).append(known[copy])
+        for parts in groups.values():
+            if b"".join(map(typed, parts)) == typed(message):
+                found[message] = parts
+    # A copy may have copies, too, and those that say so may be anybody.
+    return {message: last for message in found if (last := _last_of(message, found, MOST_VIEWS))}
+
+
+def _last_of(message: Message, found: Mapping[Message, list[Message]], most: int) -> list[Message]:
+    """The messages that stand for one and for which no others do; nothing where they are too many times copied."""
+    if message not in found:
+        return [message]
+    parts = [_last_of(part, found, most - 1) for part in found[message]] if most else []
+    return [one for part in parts for one in part] if parts and all(parts) else []
+
+
+def words_of(copies: Iterable[tuple[Copy, Message]], form: Form, author: Author, last: Entry) -> list[Entry]:
+    """The entries by which the author of copies, of which this is the last entry, says what they stand for."""
+    found: dict[tuple[bytes, int], list[tuple[int, int, int]]] = {}
+    for old, new in copies:
+        stretches = found.setdefault((old.author, old.site), [])
+        seq, by, size = stretches[-1] if stretches else (0, 0, MOST_COPIES)
+        if size < MOST_COPIES and (seq + size, by + size) == (old.seq, new.seq):
+            stretches[-1] = seq, by, size + 1
+        else:
+            stretches.append((old.seq, new.seq, 1))
+    return [form.copies(Copied(*of, author.name, last.site, tuple(stretches[at:at + MOST_STRETCHES]), last.hash), author, last.site)
+            for of, stretches in found.items() for at in range(0, len(stretches), MOST_STRETCHES)]
+
+
+class _View:
+    """The note as it was for those whose text was left out, as far as one view has it."""
+
+    def __init__(self, entries: Sequence[Entry], judge: Judge, left: Mapping[Message, bytes]):
+        wanted = {(message.site, author) for message, author in left.items()}
+        before = _with_those_before(entries, {
+            entry.hash for who in wanted for entry in judge.not_counting(*who)
+            if any(left.get(message) == entry.author for message in entry.messages)})
+        seen = Judge(entries, prefers=lambda entry: bytes([entry.hash not in before]) + rank(entry))
+        self.all = seen.count().messages
+        others = [message for message in self.all if not judge.is_let_through(message)]
+        # Those that are left out, in the order of their stamps; and the characters that are here alone, by their sites.
+        self.lost = {message: None for message in sorted(others, key=lambda one: (one.stamp, one.site)) if message in left}
+        self._alone: dict[int, list[Names]] = {}
+        for one in united(new for message in others if (new := inserted(message))):
+            self._alone.setdefault(one.site, []).append(one)
+
+    def common(self, names: Names) -> list[Names]:
+        """Those of these characters that count now, too."""
+        alone = self._alone.get(names.site, [])
+        first = max(0, bisect_right(alone, Names(names.site, names.at, 0)) - 1)
+        return without([names], alone[first:bisect_left(alone, Names(names.site, names.at + names.length, 0))])
+
+
+def _with_those_before(entries: Iterable[Entry], of: Set[bytes]) -> set[bytes]:
+    """These hashes, and those of the entries before them in their chains."""
+    before = {entry.hash: entry.before for entry in entries}
+    found: set[bytes] = set()
+    for one in of:
+        while one in before and one not in found:
+            found.add(one)
+            one = before[one]
+    return found
+
+
+class _Root:
+    """What was left out and hangs below one place of the text that is there: where it begins in the view, and how many
+    characters of the text are before it."""
+
+    def __init__(self, first: Message):
+        self.messages = [first]
+        self.at = self.place = 0
+
+    @property
+    def name(self) -> Names:
+        """Its first character."""
+        return _new(self.messages[0])._replace(length=1)
+
+
+class _Insertions:
+    """Insertions, found by the characters that they have."""
+
+    def __init__(self) -> None:
+        self._begins: dict[int, list[int]] = {}
+        self._messages: dict[int, list[Message]] = {}
+
+    def add(self, message: Message) -> None:
+        """Adds one."""
+        site, begin, _ = _new(message)
+        begins, messages = self._begins.setdefault(site, []), self._messages.setdefault(site, [])
+        at = bisect_left(begins, begin)
+        begins.insert(at, begin)
+        messages.insert(at, message)
+
+    def of(self, names: Names) -> Sequence[Message]:
+        """Those that have some of these characters, or are before the first of them."""
+        begins = self._begins.get(names.site, [])
+        first = max(0, bisect_right(begins, names.at) - 1)
+        return self._messages.get(names.site, [])[first:bisect_left(begins, names.at + names.length)]
+
+    def one(self, name: Name) -> Message | None:
+        """The one that has a character."""
+        return next((one for one in self.of(Names(*name, 1)) if name[1] < _new(one).at + _new(one).length), None)
+
+
+class _Typist:
+    """Types messages again at a site, and knows which characters stand for which."""
+
+    def __init__(self, site: Site, made: dict[Message, Message], parts: Mapping[Message, Sequence[Message]]):
+        self.site, self._made, self._parts = site, made, parts
+        self._done = _Insertions()
+        self._waiting: list[tuple[int, Message]] = []
+
+    def type_in_a_row(self, messages: Iterable[Message], place: int) -> Edited:
+        """Types messages one after the other from a place on."""
+        edits = list[Edited]()
+        for message in messages:
+            for part in self._lacking(message, edits):
+                edits.append(self._put(place, part))
+                place += _new(part).length
+        return one_by_one([*edits, self._type()])
+
+    def type_below(self, root: _Root) -> Edited:
+        """Types the messages that hang below a place, each after the character that stands for the one it was after."""
+        edits, place = list[Edited](), root.place
+        after: Name | None = None
+        for message in root.messages:
+            cause, new = _cause(message), _new(message)
+            if cause is None or cause != after:
+                edits.append(self._type())
+                copy = self.copies([Names(*cause, 1)]) if cause else []
+                place = self.site.where(copy)[0][0].position + 1 if copy else root.place
+            for part in self._lacking(message, edits):
+                edits.append(self._put(place, part))
+                after, place = (new.site, new.at + new.length - 1), place + _new(part).length
+        return one_by_one([*edits, self._type()])
+
+    def _lacking(self, message: Message, edits: list[Edited]) -> Sequence[Message]:
+        """What is to be typed for a message: itself, or what stands for it; nothing where that was typed."""
+        parts = self._parts.get(message, [message])
+        if parts != [message]:
+            edits.append(self._type())
+            self._done.add(message)
+        return [] if any(part in self._made for part in parts) else parts
+
+    def copies(self, names: Iterable[Names]) -> list[Names]:
+        """The names of the characters that stand for these, as far as they were typed again."""
+        found = []
+        for one in names:
+            for message in self._done.of(one):
+                at = _new(message).at
+                for part in self._parts.get(message, [message]):
+                    old, new = _new(part)._replace(at=at), _new(self._made[part]) if part in self._made else None
+                    begin, end = max(one.at, old.at), min(one.at + one.length, old.at + old.length)
+                    if new and begin < end:
+                        found.append(Names(new.site, new.at + begin - old.at, end - begin))
+                    at += old.length
+        return found
+
+    def _put(self, place: int, message: Message) -> Edited:
+        self._waiting.append((place, message))
+        return self._type() if len(self._waiting) >= MOST_AT_ONCE else Edited([])
+
+    def _type(self) -> Edited:
+        """Types what waits."""
+        waiting, self._waiting = self._waiting, []
+        edits = self.site.replace([(place, place, typed(message)) for place, message in waiting]) if waiting else []
+        for (_, message), edited in zip(waiting, edits):
+            if edited.refused is not None:
+                raise Refused(edited.refused)
+            (self._made[message],) = edited.messages
+            self._done.add(message)
+        return one_by_one(edits)
+
+
+def _typed_as_seen(view: _View, typist: _Typist) -> list[Edited]:
+    """Types what a view has, hides what was hidden of it there, and gives it its looks."""
+    names = united(map(_new, view.lost))
+    with closing(Site(LOOKING, view.all)) as old:
+        shown = [(stretch, one.site) for one, found in zip(names, old.where(names)) for stretch in found]
+        looks = dressed(old.runs(), MOST_DRESSED)
+        # All of it is shown here for a moment, so that its places are known.
+        old.restore(names)
+        roots = _placed(_roots(view), view, old, typist.site)
+    # What is typed moves no place before it.
+    edits = [typist.type_below(root) for root in reversed(roots)]
+    for of, parts in _by_looks(looks, sorted(shown, key=lambda one: one[0].position)).items():
+        edits.append(typist.site.look(of.differing(DEFAULT), typist.copies(parts)))
+    if hidden := without(names, united(Names(site, one.at, len(one.data)) for one, site in shown)):
+        edits.append(typist.site.delete(typist.copies(hidden))[0])
+    return edits
+
+
+def _by_looks(looks: Iterable[Dressed], shown: Sequence[tuple[Stretch, int]]) -> dict[Looks, list[Names]]:
+    """The names of what is shown in looks that aren't plain, by these. The stretches rise."""
+    found: dict[Looks, list[Names]] = {}
+    ends = [one.position + len(one.data) for one, _ in shown]
+    for begin, end, of in looks:
+        for number in range(bisect_right(ends, begin), len(shown)):
+            one, site = shown[number]
+            if one.position >= end:
+                break
+            first, last = max(begin, one.position), min(end, ends[number])
+            found.setdefault(of, []).append(Names(site, one.at + first - one.position, last - first))
+    return found
+
+
+def _roots(view: _View) -> list[_Root]:
+    """What a view has that was left out, by what it hangs below that wasn't."""
+    roots, of, done = list[_Root](), dict[Message, _Root](), _Insertions()
+    for message in view.lost:
+        cause = _cause(message)
+        if cause and (above := done.one(cause)):
+            of[message] = of[above]
+            of[above].messages.append(message)
+        else:
+            of[message] = _Root(message)
+            roots.append(of[message])
+        done.add(message)
+    return roots
+
+
+def _placed(roots: Sequence[_Root], view: _View, old: Site, site: Site) -> list[_Root]:
+    """The roots in their order in the view's text, each with its place in the text that is there: after the last
+    character before it that is in both."""
+    end = len(old.text())
+    for root, found in zip(roots, old.where([root.name for root in roots])):
+        root.at = found[0].position if found else end
+    place = before = 0
+    placed = sorted(roots, key=lambda root: root.at)
+    for root in placed:
+        place = root.place = _place_after(view, old, site, before, root.at, place)
+        before = root.at
+    return placed
+
+
+def _place_after(view: _View, old: Site, site: Site, begin: int, end: int, place: int) -> int:
+    """The place after the last character of a stretch of the view's text that is in the text that is there, too; without
+    one the place that is given."""
+    size = LOOKED_AT
+    while begin < end:
+        first = max(begin, end - size)
+        names = [part for one in old.names(first, end) for part in view.common(one)]
+        for stretches in reversed(site.where(names)):
+            if stretches:
+                last = max(stretches, key=lambda one: one.at)
+                return last.position + len(last.data)
+        end, size = first, 4 * size
+    return place
+
+
+def _cause(message: Message) -> Name | None:
+    """The character after which a message inserts; none at the begin of the text."""
+    return next(((one.site, one.at) for one in mentioned(message)), None)
+
+
+def _new(message: Message) -> Names:
+    """The characters that an insertion inserts."""
+    names = inserted(message)
+    assert names
+    return names

@@ -1,0 +1,124 @@
+"""What an editor can take back of its own, and do again, by the characters' names: nobody else's text is touched."""
+from bisect import bisect_right
+from collections.abc import Iterable, Iterator
+from dataclasses import dataclass, field
+from itertools import accumulate, chain
+
+from share.format.operation import INSERT, Message, names_of
+from share.program.site import Edited, Site, Told, one_by_one
+from share.text.looks import Looked, Looks
+from share.text.names import Names, united, without
+
+
+@dataclass
+class Step:
+    """The names that an edit brought, those that it took away, and those whose looks it changed."""
+
+    came: list[Names] = field(default_factory=list)
+    went: list[Names] = field(default_factory=list)
+    looked: list[Looked] = field(default_factory=list)
+
+    def does_something(self) -> bool:
+        """Whether there is anything in it."""
+        return bool(self.came or self.went or self.looked)
+
+    def and_then(self, other: "Step") -> "Step":
+        """Both as one edit."""
+        return Step(united(self.came + other.came), united(self.went + other.went), self.looked + other.looked)
+
+
+class Undoing:
+    """The edits of one editor, since it opened the note."""
+
+    def __init__(self) -> None:
+        self._done: list[Step] = []
+        self._undone: list[Step] = []
+
+    def made(self, messages: Iterable[Message], joins: bool) -> None:
+        """Notes an edit, perhaps as one with the edit before it."""
+        step = Step()
+        for message in messages:
+            (step.came if message.kind == INSERT else step.went).extend(names_of(message))
+        step = Step(united(step.came), united(step.went))
+        if joins and self._done:
+            step = self._done.pop().and_then(step)
+        self.add(step)
+
+    def add(self, step: Step) -> None:
+        """Notes an edit."""
+        self._done.append(step)
+        self._undone = []
+
+    def forget(self) -> None:
+        """Forgets all: the names are of a number that isn't this editor's any more, or weren't kept."""
+        self._done, self._undone = [], []
+
+    def next(self, redo: bool) -> Step | None:
+        """What is to be taken back, or done again."""
+        stack = self._undone if redo else self._done
+        return stack[-1] if stack else None
+
+    def done(self, redo: bool, changed: Step) -> None:
+        """Says that this was done, and what that changed, as the edit which brings it about or is taken back so."""
+        (self._undone if redo else self._done).pop()
+        if changed.does_something():
+            (self._done if redo else self._undone).append(changed)
+
+
+def do(site: Site, step: Step, redo: bool, told: list[Told], changed: Step) -> Edited:
+    """Takes an edit back at a site, or does it again, and tells what the text has become; and which names that has
+    changed, as the edit which brings that about or is taken back so."""
+    came = step.came if redo else without(step.went, step.came)
+    went = step.went if redo else step.came
+    goes, comes = (changed.went, changed.came) if redo else (changed.came, changed.went)
+    messages: list[Message] = []
+    # Others may have deleted some meanwhile, or brought some back: the messages say what changes.
+    for by_names, names, changes in (site.delete, went, goes), (site.restore, came, comes):
+        edited, became = by_names(names)
+        messages += edited.messages
+        changes += chain.from_iterable(map(names_of, edited.messages))
+        told.append(became)
+        if edited.refused is not None:
+            return Edited(messages, edited.refused)
+    changed.looked = _to_look(site, step.looked, redo)
+    edited = one_by_one(site.look(*one) for one in _by_looks(changed.looked, redo).items())
+    return Edited(messages + edited.messages, edited.refused)
+
+
+def looks_of(site: Site, names: list[Names]) -> Iterator[list[tuple[Names, Looks]]]:
+    """The looks of those characters of each of these names that are shown."""
+    if not names:
+        return
+    runs = site.runs()
+    ends = [*accumulate(run.length for run in runs)]
+    for one, stretches in zip(names, site.where(names)):
+        found = []
+        for stretch in stretches:
+            at, end = stretch.position, stretch.position + len(stretch.data)
+            while at < end:
+                number = bisect_right(ends, at)
+                size = min(end, ends[number]) - at
+                found.append((Names(one.site, stretch.at + at - stretch.position, size), runs[number].looks))
+                at += size
+        yield found
+
+
+def _to_look(site: Site, looked: list[Looked], redo: bool) -> list[Looked]:
+    """What is still to be done of an edit's looks, or taken back: what another has changed since stays."""
+    found = []
+    for one, parts in zip(looked, looks_of(site, [one.names for one in looked])):
+        of, to = (one.was, one.became) if redo else (one.became, one.was)
+        for names, now in parts:
+            then = Looks._make(wanted if wanted != was and is_now == was else is_now
+                               for was, wanted, is_now in zip(of, to, now))
+            if then != now:
+                found.append(Looked(names, now, then) if redo else Looked(names, then, now))
+    return found
+
+
+def _by_looks(looked: list[Looked], redo: bool) -> dict[Looks, list[Names]]:
+    """The names that are to be given looks, by these."""
+    found: dict[Looks, list[Names]] = {}
+    for names, was, became in looked:
+        found.setdefault(became.differing(was) if redo else was.differing(became), []).append(names)
+    return found

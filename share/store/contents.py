@@ -1,0 +1,65 @@
+"""Prints a note: from its file and its log, without a number, and without changing or making anything."""
+from contextlib import closing
+from typing import NamedTuple
+
+from share.admission.judge import Judge
+from share.format.history import Messages
+from share.format.link import Link
+from share.program import replay, retyping
+from share.program.site import Site
+from share.store import nicknames, notes, read_only, renewal
+from share.store.note_file import About
+from share.store.read_only import Judged, Own, Shown, uncollected
+from share.store.with_log import with_log
+from share.text.errors import Trouble
+from share.text.line import Line
+
+
+class Counted(NamedTuple):
+    """The messages of a note, each after its causes; what is missing of it, in words; and what was left out for good,
+    stretch by stretch."""
+
+    messages: Messages
+    missing: list[str]
+    left_out: list[Line]
+
+
+def printed(name: str, url: str | None, link: Link | None, password: str | None) -> Shown:
+    """The text of a note, and what is missing in it."""
+    messages, missing, _ = counted(name, found(name, url, link, password))
+    with closing(Site(replay.REPLAYING, messages)) as site:
+        return Shown(site.text(), missing)
+
+
+def counted(name: str, there: Judged) -> Counted:
+    """What counts of what there is of a note."""
+    judge, path = there.judge, notes.path_of(name)
+    messages = judge.count().messages
+    own, names = read_only.own(path) if path.exists() else Own(), nicknames.known(name)
+    missing = read_only.missing(judge, there.faults)
+    if much := retyping.left_out(judge, own.anew):
+        missing.append(retyping.telling(retyping.with_names(retyping.as_lines(much, own.clients), names), name))
+    if said := renewal.renewed_by(judge, own.clients):
+        missing.append(renewal.telling(said))
+    return Counted(messages, missing, retyping.with_text(retyping.lost(judge, own.anew), own.clients, names))
+
+
+@uncollected()
+def found(name: str, url: str | None, link: Link | None, password: str | None) -> Judged:
+    """What there is of a note, and what was wrong with it."""
+    path = notes.path_of(name)
+    if path.exists():
+        here = read_only.judged(path)
+    elif link:
+        about = About(link.form == "sealed", link.secret, link.url)
+        here = Judged(about, Judge(form=about.form()), [], set())
+    elif kept := notes.of_before(name, url, password):
+        about = notes.about_new(None)
+        rows = notes.in_rows(about.form(), kept.messages)
+        return Judged(about, Judge(row.entry for row in rows), list(kept.left_out), set())
+    else:
+        raise Trouble(f"There is no note {name} here. To print one that isn't here, give its link.")
+    notes.agree(here.about, name, url, link)
+    if url or here.about.url:
+        here = with_log(here, url or here.about.url, password)
+    return here

@@ -1,0 +1,304 @@
+"""Notes by their names: where their files are, and how they are made, joined and copied."""
+import contextlib
+import os
+import pathlib
+import re
+import secrets
+from collections.abc import Callable, Iterable, Iterator, Mapping, Sequence
+from dataclasses import replace
+from itertools import chain, count
+from typing import NamedTuple
+
+from share.admission.judge import Judge
+from share.admission.ledger import Row
+from share.admission.left_out import LeftOut
+from share.format.entry import GREATEST_SITE, NOTE_BYTES, Entry, Form, in_entries
+from share.format.history import Messages
+from share.format.link import Link, is_network
+from share.format.operation import Message, length_after
+from share.log.base import Unreachable
+from share.program import retyping
+from share.program.site import is_full
+from share.store import old, read_only
+from share.store.note_file import About, Client, Damaged, Disk, make
+from share.store.old import Old
+from share.store.renewal import say_so
+from share.store.with_log import with_log
+from share.text.errors import Trouble
+
+NAME = re.compile(r"[A-Za-z0-9][A-Za-z0-9._-]{0,63}")
+SUFFIX = ".note"
+
+
+def data_folder() -> pathlib.Path:
+    """Where notes are kept."""
+    if named := os.environ.get("VIALSHOAL_DATA"):
+        return pathlib.Path(named)
+    home = os.environ.get("XDG_DATA_HOME") or pathlib.Path.home() / ".local" / "share"
+    return pathlib.Path(home) / "vialshoal"
+
+
+def path_of(name: str) -> pathlib.Path:
+    """The file of the note of this name."""
+    if not NAME.fullmatch(name):
+        raise Trouble(f"{name!r} can't be a note's name. Use up to 64 letters, digits, dots, hyphens and "
+                      "underscores, the first a letter or a digit.")
+    return data_folder() / "notes" / f"{name}{SUFFIX}"
+
+
+def is_here(name: str) -> bool:
+    """Whether this disk has the note, in the form of today or of before."""
+    return path_of(name).exists() or old.is_old_note(data_folder(), name)
+
+
+class Renewed(NamedTuple):
+    """The name that a note has that was copied into a new one, None where it was of the form of before and is where
+    it was; what isn't in the new one, in words; and what was left out of the old one for good."""
+
+    before: str | None
+    missing: list[str]
+    left_out: list[LeftOut]
+
+
+def opened(name: str, url: str | None, link: Link | None, password: str | None = None,
+           tell: Callable[[str], None] = lambda words: None) -> Disk:
+    """The file of a note, which is made where it isn't there: as a link says, from a note of before, or new. Tells
+    what was left out."""
+    path = path_of(name)
+    try:
+        if not path.exists():
+            for words in _make(name, path, url, link, password):
+                tell(words)
+        disk = Disk(path)
+    except Damaged as why:
+        raise Trouble(f"{why}. bin/note recover {path.parent} brings back what can be read of it; or move it away, "
+                      "and join the note again by its link.") from why
+    except OSError as why:
+        raise Trouble(f"{why.filename}: {why.strerror}. Set VIALSHOAL_DATA to a folder that can be written.") from why
+    try:
+        agree(disk.about, name, url, link)
+        if url and url != disk.about.url:
+            disk.point_to(url)
+    except BaseException:
+        disk.close()
+        raise
+    return disk
+
+
+def link_of(name: str) -> str:
+    """The link of a note that is here."""
+    about = read_only.about(existing(name))
+    if not about.url:
+        raise Trouble(f"The note {name} is on this machine alone, and has no log to share it by. bin/note renew "
+                      f"{name} --log URL copies it into one that is shared.")
+    return Link("sealed" if about.sealed else "plain", about.secret, about.url).spelled()
+
+
+def renew(name: str, url: str | None, password: str | None, called: str = "",
+          begins: Callable[[Messages], Messages] = lambda messages: messages) -> Renewed:
+    """Copies a note into a new one with a key of its own, under its name, or what is made of its messages; those who have
+    the old one are told so by one of this name."""
+    path = path_of(name)
+    if path.exists():
+        found = read_only.judged(path)
+        url = url or _log_of_new(found.about.url)
+        if found.about.url:
+            # What others wrote while nobody had the note open here is in its log alone.
+            found = with_log(found, found.about.url, password)
+        judge = found.judge
+        messages, missing = judge.count().messages, read_only.missing(judge, found.faults)
+        left_out = retyping.left_out(judge, read_only.own(path).anew)
+    elif kept := of_before(name, url, password):
+        messages, missing = Messages(chain.from_iterable(kept.messages.values())), [*kept.left_out]
+        left_out = []
+    else:
+        raise Trouble(f"There is no note {name} here.")
+    messages = begins(messages)
+    if is_full(len(messages)):
+        raise Trouble(f"The note {name} has {len(messages):,} messages, as many as a note may have. So would a copy with its history, "
+                      f"in which nothing could be typed. bin/note renew {name} --fresh makes a new note of its text.")
+    beside = path.with_name(f".renewed.{os.getpid()}{SUFFIX}")
+    _make_new(beside, about_new(url), by_site(messages))
+    try:
+        before = _give_way(name, path) if path.exists() else None
+        os.rename(beside, path)
+    finally:
+        beside.unlink(missing_ok=True)
+    if before:
+        say_so(path_of(before), called, password)
+    return Renewed(before, missing, left_out)
+
+
+def _log_of_new(url: str) -> str:
+    """Where the log of a renewed note is: on the same server; a log in a file is that of one note, and gets one beside it."""
+    if not url or is_network(url):
+        return url
+    return next(one for number in count(2) if not os.path.exists(one := f"{url}.{number}"))
+
+
+def _give_way(name: str, path: pathlib.Path) -> str:
+    """Gives a note's file one more name, so that another file can take its place; that name."""
+    with contextlib.closing(Disk(path)) as disk:
+        is_open = disk.locked()
+    if is_open or path.with_name(path.name + "-wal").exists():
+        raise Trouble(f"The note {name} is open. Quit its editors first.")
+    before = next(one for number in count(1) if not path_of(one := f"{name[:56]}.old-{number}").exists())
+    os.link(path, path_of(before))
+    return before
+
+
+def recover(folders: Sequence[pathlib.Path]) -> list[str]:
+    """Brings notes back from what is left of people's files, and says of each what was found, in words. A log in a file that
+    somebody else's file names isn't gone on with unasked: that would be a file wherever they say."""
+    found: dict[bytes, tuple[str, About, dict[bytes, Entry]]] = {}
+    told, logs = [], dict[bytes, str]()
+    for path in _files(folders):
+        try:
+            one = read_only.found_in(path)
+        except Trouble as why:
+            told.append(str(why))
+            continue
+        told += [f"{path}: {fault}" for fault in one.faults]
+        about = one.about
+        if about.url and not is_network(about.url) and not _is_own(path):
+            logs[about.secret], about = about.url, replace(about, url="")
+        name, before, held = found.get(about.secret, (path.stem, about, {}))
+        found[about.secret] = name, before if before.url else about, held | {entry.hash: entry for entry in one.entries}
+    for name, about, held in found.values():
+        told.append(_brought_back(name, about, [*held.values()], logs.get(about.secret)))
+    return told or ["No note's file was found in these folders."]
+
+
+def about_new(url: str | None) -> About:
+    """What a new note is: sealed where its log is on a server."""
+    if url and is_network(url):
+        from share.format.sealed import new_key
+        return About(True, new_key(), url)
+    return About(False, secrets.token_bytes(NOTE_BYTES), url or "")
+
+
+def of_before(name: str, url: str | None, password: str | None) -> Old | None:
+    """The messages of a note of the form of before, where there is one."""
+    if not url or not is_network(url):
+        return old.messages_of_old_note(data_folder(), name)
+    try:
+        return old.messages_of_old_server(url, name, password, data_folder())
+    except Unreachable as why:
+        raise Trouble(f"{why}. Whether the note {name} is on the server in the form of before can't be seen. Try again "
+                      "when it can be reached.") from why
+
+
+def existing(name: str) -> pathlib.Path:
+    """The file of a note that is here."""
+    path = path_of(name)
+    if not path.exists():
+        raise Trouble(f"There is no note {name} here.")
+    return path
+
+
+def by_site(messages: Iterable[Message]) -> dict[int, list[Message]]:
+    """Messages of each site, in their order."""
+    found: dict[int, list[Message]] = {}
+    for message in messages:
+        found.setdefault(message.site, []).append(message)
+    return {site: sorted(of_site, key=lambda one: one.seq) for site, of_site in found.items()}
+
+
+def in_rows(form: Form, messages: Mapping[int, Sequence[Message]]) -> list[Row]:
+    """Entries of messages that were made elsewhere. Their numbers are claimed by authors whom nobody can be."""
+    return [row for site, of_site in messages.items() for row in _rows(form, of_site, Client(site, form.new_author()))]
+
+
+def _rows(form: Form, messages: Sequence[Message], client: Client) -> Iterator[Row]:
+    """A claim, and entries of messages."""
+    last, length = form.claim(client.site, client.author), 0
+    yield Row(0, last, False)
+    for part in in_entries(messages):
+        last = form.entry(last, part, client.author, length=length)
+        yield Row(0, last, False)
+        length = length_after(part, length)
+
+
+def _make(name: str, path: pathlib.Path, url: str | None, link: Link | None, password: str | None) -> Sequence[str]:
+    """Makes a note's file; what was left out, in words."""
+    if link:
+        make(path, About(link.form == "sealed", link.secret, url or link.url))
+        return ()
+    if not url and (kept := of_before(name, None, password)):
+        _make_new(path, about_new(None), kept.messages)
+        return kept.left_out
+    if url and is_network(url) and of_before(name, url, password):
+        raise Trouble(f"The note {name} on this server is of the form of before, which isn't sealed, and is read only. "
+                      f"bin/note renew {name} --log {url} copies it into a sealed one, for which you give the others "
+                      f"the link; bin/note {name} --log {url} --print prints it.")
+    _make_new(path, about_new(url), {})
+    return ()
+
+
+def _make_new(path: pathlib.Path, about: About, messages: Mapping[int, Sequence[Message]]) -> None:
+    """Makes the file of a new note that has these messages."""
+    form = about.form()
+    free = [number for number in range(1, GREATEST_SITE + 1) if number not in messages]
+    # Nobody else has this note yet, so its first number can be typed under at once.
+    clients = [Client(secrets.choice(free), form.new_author(), stood=True)] if free else []
+    # Who has the link could claim a copied number, too. With its key what was written under it can be made anew then.
+    copied = [Client(site, form.new_author(), retired=True, copied=True) for site in messages]
+    rows = [row for one in copied for row in _rows(form, messages[one.site], one)]
+    make(path, about, rows + [Row(0, form.claim(one.site, one.author), True) for one in clients], clients + copied)
+
+
+def agree(about: About, name: str, url: str | None, link: Link | None) -> None:
+    """Looks whether what was given is of this note."""
+    if link and (link.form == "sealed", link.secret) != (about.sealed, about.secret):
+        raise Trouble(f"The note {name} here is another one than the link's. Join it under another name.")
+    if url and url != about.url and is_network(url) and not about.sealed:
+        raise Trouble(f"The note {name} isn't sealed, and nothing goes to a server unsealed. bin/note renew {name} "
+                      f"--log {url} copies it into a sealed one.")
+
+
+def _files(folders: Sequence[pathlib.Path]) -> list[pathlib.Path]:
+    """The notes' files in folders, and in their folders of notes."""
+    found: list[pathlib.Path] = []
+    for folder in folders:
+        if folder.is_file():
+            found.append(folder)
+        elif folder.is_dir():
+            found += sorted(path for path in [*folder.iterdir(), *folder.glob("notes/*")]
+                            if re.search(r"\.note(\.damaged-\d+)?$", path.name) and path.is_file())
+        else:
+            raise Trouble(f"{folder} isn't there.")
+    return found
+
+
+def _is_own(path: pathlib.Path) -> bool:
+    """Whether a file is in this person's data folder."""
+    return path.resolve().is_relative_to(data_folder().resolve())
+
+
+def _brought_back(name: str, about: About, entries: list[Entry], log: str | None) -> str:
+    """Puts entries into the note's file here; what was done, in words, and which log wasn't taken over."""
+    name = re.sub(r"\.note$", "", name)
+    if not NAME.fullmatch(name):
+        name = "recovered"
+    for number in count(1):
+        path = path_of(name if number == 1 else f"{name[:56]}.{number}")
+        if not path.exists():
+            make(path, about)
+        try:
+            with contextlib.closing(Disk(path)) as disk:
+                if disk.about.secret != about.secret:
+                    continue
+                disk.check()
+                log = None if disk.about.url else log
+                gone = {of for _, of in disk.withdrawn()}
+                disk.keep([entry for entry in entries if entry.hash not in gone], made=False)
+                judge = Judge(row.entry for row in disk.rows() if row.entry.hash not in gone)
+                break
+        except Damaged:
+            continue
+    messages = judge.count().messages
+    sites, name = len({message.site for message in messages}), path.name[:-len(SUFFIX)]
+    return (f"{name}: {len(messages):,} messages of {sites:,} sites, in {path}"
+            + (f"; {judge.incomplete():,} more lack something." if judge.incomplete() else ".")
+            + (f" Its log was the file {log}, which isn't gone on with unless you name it: bin/note {name} --log {log}"
+               if log else ""))

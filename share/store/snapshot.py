@@ -1,0 +1,85 @@
+"""A site's own packed file: what the site has taken in, a byte a letter, so that a long note is opened again without the
+program being handed all of it.
+
+The program writes and reads the file. Nothing hangs on it: what counts is what the note's file says, and the packed file is
+gone on from only where it is the one that was noted there, and all that it has counts still. So one that is missing or
+damaged, that a kill left without its note, or that was put back, is passed over.
+"""
+import contextlib
+import pathlib
+import struct
+from collections.abc import Mapping
+
+from share.admission.judge import Judge
+from share.admission.ledger import Line
+from share.format.entry import digest
+from share.format.history import Messages, Part
+from share.program.site import KEPT, Site
+from share.store.atomic import PRIVATE
+from share.store.note_file import Disk, make_folder
+
+# It is written where so many messages came that it doesn't have, and a part of those that it has; and as the note is
+# closed where so many did.
+MANY, AT_END, SHARE = 20_000, 1_000, 4
+# What a program that was killed as it wrote leaves in the folder.
+LEFT = ".file-of-a-text-that-is-not-whole-yet-*"
+# Of a site, how many messages the file has, and the hash of the entry that has the last of them.
+FRONT = struct.Struct(">HI32s")
+
+
+def folder_of(disk: Disk, site: int) -> pathlib.Path | None:
+    """The folder of the packed file of a site of this person, which is made; None where it can't be."""
+    folder = _folder(disk, site)
+    with contextlib.suppress(OSError):
+        make_folder(folder)
+        return folder
+    return None
+
+
+def _folder(disk: Disk, site: int) -> pathlib.Path:
+    return disk.path.with_suffix(".packed") / str(site)
+
+
+def leave(disk: Disk, site: int) -> None:
+    """Takes the folder away again, where no file is in it."""
+    with contextlib.suppress(OSError):
+        folder = _folder(disk, site)
+        folder.rmdir()
+        folder.parent.rmdir()
+
+
+def fronts_of(disk: Disk, judge: Judge, site: int, folder: pathlib.Path | None) -> dict[int, int]:
+    """How far a site's packed file goes, where it can be gone on from; else nothing."""
+    noted = disk.packed(site)
+    try:
+        if not (folder and noted and digest((folder / KEPT).read_bytes()) == noted[0]):
+            return {}
+        found = [*FRONT.iter_unpack(noted[1])]
+    except (OSError, struct.error):
+        return {}
+    return {of: seq for of, seq, _ in found} if all(judge.entry_of(of, seq) == by for of, seq, by in found) else {}
+
+
+def keep(disk: Disk, judge: Judge, site: Site) -> None:
+    """Has a site's packed file be of all that it has taken in, as far as there is room."""
+    folder = _folder(disk, site.number)
+    with contextlib.suppress(OSError):
+        for left in folder.glob(LEFT):
+            left.unlink()
+        fronts = site.keep()
+        found = [(of, seq, judge.entry_of(of, seq)) for of, seq in fronts.items()]
+        if found and all(by for _, _, by in found):
+            (folder / KEPT).chmod(PRIVATE)
+            disk.note_packed(site.number, digest((folder / KEPT).read_bytes()),
+                             b"".join(FRONT.pack(of, seq, by or b"") for of, seq, by in found))
+
+
+def parted(messages: Messages, fronts: Mapping[int, int]) -> tuple[Messages, Messages]:
+    """Those of messages that count that a packed file has, and the others."""
+    within, beyond = Messages(), Messages()
+    for part in messages.parts():
+        assert isinstance(part.holder, Line)
+        middle = min(max(part.begin, fronts.get(part.holder.site, 0)), part.end)
+        within.add(Part(part.holder, part.begin, middle))
+        beyond.add(Part(part.holder, middle, part.end))
+    return within, beyond

@@ -1,0 +1,69 @@
+"""What a note's file and its log have together, read without a number, and without changing or making anything."""
+import pathlib
+from collections.abc import Iterator
+from contextlib import ExitStack, closing, contextmanager
+
+from share.admission.ledger import Row
+from share.format.entry import Bad, digest
+from share.format.link import is_network
+from share.log.base import START, Carried, Log, Lost, Unreachable, open_log
+from share.store.old import copied
+from share.store.read_only import Faults, Judged
+from share.text.errors import Trouble, entries
+
+# How often a log is read that loses entries meanwhile.
+TRIES = 3
+
+
+def with_log(found: Judged, url: str, password: str | None) -> Judged:
+    """What a file has and what a log has besides, which is judged a page at a time."""
+    wrong, strange = Faults("the log"), set[str]()
+    unread: list[str] = []
+    form, seen = found.about.form(), set[bytes]()
+    try:
+        for page in _pages(url, form.note, password):
+            raws = {digest(one.raw): one.raw for one in page if one.raw is not None}
+            strange |= {one.place for one in page if one.raw is None}
+            new = [raw for of, raw in raws.items() if not found.has(of) and of not in seen]
+            for raw, one in zip(new, form.open_many(new)):
+                if isinstance(one, Bad):
+                    wrong.add(one)
+                    seen.add(digest(raw))
+                else:
+                    found.add(Row(0, one, False))
+            found.judge.let_through()
+    except (Unreachable, Trouble) as why:
+        unread = [f"The log can't be read ({why}); what was printed is what is here."]
+    told = [f"{entries(len(strange))} of the log can't be read."] if strange else []
+    return found._replace(faults=[*found.faults, *unread, *wrong.words(), *told])
+
+
+def _pages(url: str, note: bytes, password: str | None) -> Iterator[list[Carried]]:
+    """All that a log has, page by page; from the front again where it loses entries meanwhile."""
+    for _ in range(TRIES):
+        try:
+            with _opened(url, note, password) as log:
+                after = START
+                while page := log.read(after):
+                    yield page
+                    after = page[-1].place
+            return
+        except Lost:
+            continue
+    raise Unreachable(f"{url} is damaged, or loses entries as it is read")
+
+
+@contextmanager
+def _opened(url: str, note: bytes, password: str | None) -> Iterator[Log]:
+    """A log. Of a file it is a copy, since a log that is opened is written to, and set aside where it is damaged."""
+    with ExitStack() as stack:
+        if is_network(url):
+            yield stack.enter_context(closing(open_log(url, note, password)))
+            return
+        try:
+            if not pathlib.Path(url).exists():
+                raise Unreachable(f"{url} isn't there")
+            copy = stack.enter_context(copied(pathlib.Path(url)))
+        except OSError as why:
+            raise Unreachable(f"{url}: {why.strerror}") from why
+        yield stack.enter_context(closing(open_log(str(copy), note)))

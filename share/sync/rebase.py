@@ -1,0 +1,249 @@
+"""Makes edits anew that don't count any more: their number was another's too, or what they build on was left out.
+
+What the user saw is looked at in a process of its own, and what remained of these edits in that text is done
+again under the new number: what was typed goes after the same characters, what was deleted is deleted, and looks are
+set.
+"""
+from bisect import bisect_left
+from collections.abc import Collection, Iterable, Iterator, Sequence
+from contextlib import closing
+from itertools import chain
+from typing import NamedTuple
+
+from share.admission.judge import Judge
+from share.admission.ledger import Row
+from share.format.entry import Copy, Entry, Form, Kind
+from share.format.operation import CHANGE_LOOKS, DELETE, RESTORE, Message, inserted, mentioned
+from share.program.effects import Stretch
+from share.program.site import Edited, Site
+from share.program.undo import looks_of
+from share.store.note_file import Anew
+from share.sync.standing import said
+from share.sync.state import Holdings, Lost, who
+from share.text.errors import Trouble
+from share.text.looks import DEFAULT, Dressed, dressed
+from share.text.names import Name, Names, united, without
+
+# So many stretches in looks are looked at.
+MOST_DRESSED = 20_000
+# So many characters are made anew at once, or those of one entry more; a site has room for four times as many.
+MOST_AT_ONCE = 2**22
+
+
+class Done(NamedTuple):
+    """A message that was made, and the one for which it stands; none was needed where it is None."""
+
+    old: Message
+    new: Message | None
+
+
+class Remade:
+    """What was lost, and what was made anew of it by a client; `last` is an entry of that one."""
+
+    def __init__(self, holdings: Holdings, lost: Sequence[Lost], done: Sequence[Done], last: Entry):
+        self._holdings, self._lost, self._last = holdings, lost, last
+        # What was typed in one go may have come apart, and be several messages now.
+        self._made: dict[Message, list[int]] = {}
+        for one in done:
+            self._made.setdefault(one.old, []).extend([one.new.seq] if one.new else [])
+
+    def _each(self) -> Iterator[tuple[Entry, Message, list[int]]]:
+        """The lost messages, with the seqs of those that stand for them now."""
+        for entry, messages in self._lost:
+            for message in messages:
+                yield entry, message, self._made.get(message, [])
+
+    def anew(self) -> list[Anew]:
+        """What the note's file has of it for versions that don't know copies."""
+        return [Anew(entry.author, message.site, message.seq, self._last.site, min(seqs, default=0))
+                for entry, message, seqs in self._each()
+                if (entry.author, message.site, message.seq) not in self._holdings.anew]
+
+    def hidings(self) -> list[Copy]:
+        """Those of what was made that hide copies."""
+        return [Copy(self._last.author, self._last.site, seq) for entry, message, seqs in self._each()
+                if Copy(entry.author, message.site, message.seq) in self._holdings.hidings for seq in seqs]
+
+    def copies(self, form: Form, last: Entry) -> list[Entry]:
+        """The entries that say what stands for what, up to the last entry that was made. What stood for something else stands
+        for that, too."""
+        holdings, pairs = self._holdings, dict[bytes, list[tuple[int, int]]]()
+        for entry, message, seqs in self._each():
+            pairs.setdefault(entry.hash, []).extend((message.seq, seq) for seq in seqs or [0])
+            for of, old in holdings.standing.originals(entry, message.seq):
+                if seqs or holdings.judge.entry_of(holdings.rows[of].entry.site, old) != of:
+                    pairs.setdefault(of, []).extend((old, seq) for seq in seqs or [0])
+        return said(form, holdings.clients, holdings.rows, last, pairs, holdings.withdrawn())
+
+
+def at_once(lost: Sequence[Lost]) -> tuple[Sequence[Lost], bool]:
+    """The first of what was lost, as much as is made anew at once; and whether that is all."""
+    length = 0
+    for number, one in enumerate(lost, 1):
+        length += length_of(one.messages)
+        if length > MOST_AT_ONCE and number < len(lost):
+            return lost[:number], False
+    return lost, True
+
+
+def length_of(messages: Iterable[Message]) -> int:
+    """How many characters messages insert."""
+    return sum(names.length for names in map(inserted, messages) if names)
+
+
+def with_claims(rows: Sequence[Row], lost: Sequence[Lost]) -> set[bytes]:
+    """The hashes of lost entries, and of the claims of those who made them."""
+    whos = {who(one.entry) for one in lost}
+    return {one.entry.hash for one in lost} | {row.entry.hash for row in rows
+                                               if row.entry.kind is Kind.CLAIM and who(row.entry) in whos}
+
+
+class _Differing(NamedTuple):
+    """What differs between the text that was seen and the one that counts."""
+
+    # What was inserted in the one alone. Two clients of one number may have used the same names.
+    seen: list[Names]
+    counted: list[Names]
+    # Other names that may be shown in one of them alone.
+    named: list[Names]
+
+    def common(self, names: Iterable[Names]) -> list[Names]:
+        """Those of these names that are each of one character in both texts."""
+        return without(without(united(names), self.seen), self.counted)
+
+
+def make_anew(rows: Sequence[Row], lost: Sequence[Message], judge: Judge, site: Site,
+              first: Collection[bytes] = ()) -> list[Done]:
+    """Does at a site, which has all that counts, what remains of lost messages."""
+    # These entries first, then what was made here, then what came first: so what was seen as these edits were made is found
+    # again.
+    order = {row.entry.hash: bytes([row.entry.hash not in first, not row.made]) + row.place.to_bytes(8, "big")
+             for row in rows}
+    before = Judge((row.entry for row in rows), prefers=lambda entry: order[entry.hash])
+    seen = before.count().messages
+    seen_ones = {(message.site, message.seq): message for message in seen}
+    here = [message for message in lost if seen_ones.get((message.site, message.seq)) == message]
+    gone = [message for message in lost if seen_ones.get((message.site, message.seq)) != message]
+    differing = _differing(seen, judge)
+    with closing(Site(lost[0].site, seen)) as old:
+        done = [*_deleted_and_restored(here, differing, old, site)]
+        done += _typed(here, differing, old, site)
+        done += _looked(here, differing, old, site)
+        done += _at_the_end(gone, site)
+    made = {one.old for one in done}
+    return done + [Done(message, None) for message in lost if message not in made]
+
+
+def _differing(seen: Sequence[Message], judge: Judge) -> _Differing:
+    """The names of what messages speak of that count in one of the texts alone."""
+    counted = {(message.site, message.seq): message for message in judge.let_through_in_order()}
+    only_seen = [message for message in seen if counted.get((message.site, message.seq)) != message]
+    for message in seen:
+        if counted.get((message.site, message.seq)) == message:
+            del counted[message.site, message.seq]
+    seen_names, counted_names = (united(filter(None, map(inserted, some))) for some in (only_seen, counted.values()))
+    differing = _Differing(seen_names, counted_names, [])
+    return differing._replace(named=differing.common(
+        names for message in (*only_seen, *counted.values()) if message.kind in (DELETE, RESTORE)
+        for names in mentioned(message)))
+
+
+def _deleted_and_restored(lost: Sequence[Message], differing: _Differing, old: Site, site: Site) -> list[Done]:
+    """Deletes again what is hidden in the old text and shown in the new one, and the other way round."""
+    done = []
+    for message in lost:
+        if message.kind not in (DELETE, RESTORE):
+            continue
+        names = mentioned(message)
+        shown = united(Names(one.site, stretch.at, len(stretch.data))
+                       for one, stretches in zip(names, old.where(names)) for stretch in stretches)
+        edited, _ = (site.delete(differing.common(without(names, shown))) if message.kind == DELETE else
+                     site.restore(differing.common(shown)))
+        done += _all_of(message, edited)
+    return done
+
+
+def _typed(lost: Sequence[Message], differing: _Differing, old: Site, site: Site) -> list[Done]:
+    """Types again what is shown of lost messages in the old text."""
+    was, now = _shown(old, differing.named), _shown(site, differing.named)
+    gone = sorted([*_shown(old, differing.seen).values(), *(at for name, at in was.items() if name not in now)])
+    come = sorted([*_shown(site, differing.counted).values(), *(at for name, at in now.items() if name not in was)])
+    typing = [(message, one) for message in lost if (one := inserted(message))]
+    found = old.where([one for _, one in typing]) if typing else []
+    stretches = sorted((stretch.position, stretch.data, message)
+                       for (message, _), shown in zip(typing, found) for stretch in shown)
+    done, more, looks = [], 0, dressed(old.runs(), MOST_DRESSED) if stretches else []
+    for position, data, message in stretches:
+        place = _place(position - bisect_left(gone, position), come) + more
+        made = _all_of(message, site.insert(place, data))
+        done += made + _in_looks(made, position, looks, site)
+        more += len(data)
+    return done
+
+
+def _in_looks(made: Sequence[Done], position: int, looks: Sequence[Dressed], site: Site) -> list[Done]:
+    """Gives what was typed again the looks that it had in the old text, where it began at a position."""
+    done: list[Done] = []
+    for old, new in made:
+        names = inserted(new) if new else None
+        if not names:
+            continue
+        for one in looks:
+            begin, end = max(one.begin, position), min(one.end, position + names.length)
+            if begin < end:
+                part = Names(names.site, names.at + begin - position, end - begin)
+                done += _all_of(old, site.look(one.looks.differing(DEFAULT), [part]))
+        position += names.length
+    return done
+
+
+def _looked(lost: Sequence[Message], differing: _Differing, old: Site, site: Site) -> list[Done]:
+    """Gives characters again the looks that they have in the old text and not in the new one."""
+    done = []
+    for message in lost:
+        if message.kind != CHANGE_LOOKS:
+            continue
+        for parts in looks_of(old, differing.common(mentioned(message))):
+            for part, was in parts:
+                for there, now in chain.from_iterable(looks_of(site, [part])):
+                    if was != now:
+                        done += _all_of(message, site.look(was.differing(now), [there]))
+    return done
+
+
+def _place(common: int, come: Sequence[int]) -> int:
+    """Where in the new text the first so many characters end that are in both; `come` has the positions of
+    those that are in the new one alone."""
+    place = common
+    for position in come:
+        if position >= place:
+            break
+        place += 1
+    return place
+
+
+def _at_the_end(lost: Sequence[Message], site: Site) -> list[Done]:
+    """Types at the end what was typed after something that isn't known any more."""
+    typed = [(message, message.data[-names.length:]) for message in lost if (names := inserted(message))]
+    done, end = [], len(site.text()) if typed else 0
+    for message, data in typed:
+        done += _all_of(message, site.insert(end, data))
+        end += len(data)
+    return done
+
+
+def _all_of(old: Message, edited: Edited) -> list[Done]:
+    if edited.refused:
+        raise Trouble(f"An edit couldn't be made anew (refused {edited.refused}). Save the note as a file.")
+    return [Done(old, message) for message in edited.messages]
+
+
+def _shown(site: Site, names: list[Names]) -> dict[Name, int]:
+    """The positions of those characters of these names that are shown."""
+    found: dict[Name, int] = {}
+    stretches: list[list[Stretch]] = site.where(names) if names else []
+    for one, shown in zip(names, stretches):
+        for stretch in shown:
+            found |= {(one.site, stretch.at + number): stretch.position + number
+                      for number in range(len(stretch.data))}
+    return found

@@ -1,0 +1,94 @@
+"""What somebody has typed again of others' text that was left out, as entries of copies say it: where it is there twice, who
+made the copy that isn't to stay hides it.
+
+Of a message and all that stands for it the message itself stays, else what its author made anew, else of those copies
+that have its bytes the one of the least site and seq.
+"""
+from collections.abc import Callable, Iterator
+from typing import NamedTuple
+
+from share.admission.judge import Judge
+from share.format.entry import Copy, Entry, Kind
+from share.format.operation import typed
+
+Who = tuple[int, bytes]
+# Somebody with the link could speak of copies without end: of an author's messages so much is looked at; and of what is to be
+# seen of what others typed so much of all.
+MOST_SAID = MOST_OF_OTHERS = 1_000
+
+
+class _Said(NamedTuple):
+    """Messages of an author from a seq on, how many they are, and the first of those that were typed for them."""
+
+    seq: int
+    size: int
+    by: Copy
+    own: bool
+
+    def copy(self, seq: int) -> Copy | None:
+        """What was typed for the message of a seq."""
+        return self.by._replace(seq=self.by.seq + seq - self.seq) if self.seq <= seq < self.seq + self.size else None
+
+
+class Recovered:
+    """What entries say that speak of copies that their authors made of others' messages."""
+
+    def __init__(self) -> None:
+        # By whose messages they stand for; and those of which a copy was made here.
+        self._said: dict[Who, list[_Said]] = {}
+        self._own: set[Who] = set()
+        # What others typed of it, message by message; and what may be made to hide copies of others, by whoever says so.
+        self._others: list[tuple[Who, int, Copy]] = []
+        self.hidings: set[Copy] = set()
+
+    def add(self, entry: Entry, own: bool) -> None:
+        """Adds what an entry says; whether it was made here."""
+        if entry.kind is not Kind.COPIES:
+            return
+        copied = entry.copied
+        whose = copied.site, copied.author
+        if (entry.site, entry.author) == (copied.by_site, copied.by) != whose:
+            said = self._said.setdefault(whose, [])
+            if own or len(said) < MOST_SAID:
+                said.extend(_Said(seq, size, Copy(copied.by, copied.by_site, by), own) for seq, by, size in copied.stretches if by)
+            if own:
+                self._own.add(whose)
+            for seq, by, size in copied.stretches if not own else ():
+                size = min(size if by else 0, MOST_OF_OTHERS - len(self._others))
+                self._others += [(whose, seq + at, Copy(copied.by, copied.by_site, by + at)) for at in range(size)]
+            if len(self.hidings) < MOST_OF_OTHERS and len(copied.stretches) == 1 == copied.stretches[0][2]:
+                self.hidings.add(Copy(copied.by, copied.by_site, copied.stretches[0][1]))
+
+    def fronts(self, counts_up_to: Callable[[bytes, int], int]) -> list[int]:
+        """What is to be looked at again where it changes: how far those count that were typed again, and all that was said of
+        them."""
+        own = [number for whose in sorted(self._own) for one in self._said[whose] for number in (
+            min(counts_up_to(whose[1], whose[0]), one.seq + one.size - 1),
+            min(counts_up_to(one.by.author, one.by.site), one.by.seq + one.size - 1))]
+        return own + [min(counts_up_to(author, site), seq) for (of_site, of_author), of_seq, copy in self._others
+                      for author, site, seq in ((of_author, of_site, of_seq), copy)]
+
+    def made_here(self, judge: Judge) -> Iterator[tuple[Copy, bool]]:
+        """What was typed again here and counts, and whether each message of it is to be hidden."""
+        for whose in sorted(self._own):
+            for one in self._said[whose]:
+                for seq in range(one.seq, one.seq + one.size) if one.own else ():
+                    copy = one.copy(seq)
+                    if copy and judge.message_counts(*copy):
+                        yield copy, self._gives_way(judge, whose, seq, copy)
+
+    def made_by_others(self, judge: Judge) -> Iterator[tuple[Copy, bool]]:
+        """What others typed again and counts, as far as it is looked at, and whether each message of it is to be hidden."""
+        for whose, seq, copy in self._others:
+            if judge.message_counts(*copy):
+                yield copy, self._gives_way(judge, whose, seq, copy)
+
+    def _gives_way(self, judge: Judge, whose: Who, seq: int, copy: Copy) -> bool:
+        """Whether something else stays that stands for a message."""
+        site, author = whose
+        data = typed(judge.message(copy.site, copy.seq))
+        if any(judge.message_counts(*one) for one in judge.copies_of(author, site, seq, data)):
+            return True
+        others = [Copy(author, site, seq)]
+        others += [other for one in self._said[whose] if (other := one.copy(seq)) and (other.site, other.seq) < (copy.site, copy.seq)]
+        return any(judge.message_counts(*other) and typed(judge.message(other.site, other.seq)) == data for other in others)

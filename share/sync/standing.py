@@ -1,0 +1,215 @@
+"""Which messages stand for others that don't count any more, as entries of copies say; and which of these copies are to be
+hidden.
+
+Of a message and all that stands for it one is shown, whatever comes and in whatever order: the message itself where it
+counts, else of those copies that count the one of the least site and seq. Who made another copy hides it. A copy of a copy
+is said to be one of what that stood for, too.
+"""
+import math
+from collections.abc import Callable, Container, Iterator, Mapping, Sequence
+from typing import NamedTuple
+
+from share.admission.ledger import Row
+from share.format.entry import NO_HASH, Copied, Copy, Entry, Form, Kind
+from share.store.note_file import Client
+
+# A site and an author, who together are one client.
+Who = tuple[int, bytes]
+# Which entry has the message of a site and a seq that counts.
+EntryOf = Callable[[int, int], bytes | None]
+# How many messages of an author and site count that an entry has, or one to which it is chained.
+FrontUpTo = Callable[[bytes, int, bytes], int]
+Rows = Mapping[bytes, Row]
+# An entry of copies has so many stretches at most.
+MOST_STRETCHES = 1_000
+# Of what others say of copies so much is looked at, by entries and messages.
+MOST_OF_OTHERS = 4_096
+
+
+class Stretch(NamedTuple):
+    """Old messages that follow one another from a seq on, and as many that stand for them; none where `new` is 0."""
+
+    old: int
+    new: int
+    size: int
+
+
+class Piece(NamedTuple):
+    """Messages of one old entry, by their seqs, and what stands for them; whether that was made here."""
+
+    author: bytes
+    site: int
+    stretch: Stretch
+    own: bool
+    # The hash of the last entry that has what stands for them.
+    last: bytes
+
+    def copy(self, seq: int) -> Copy | None:
+        """What stands for the old message of this seq, if something does."""
+        old, new, size = self.stretch
+        return Copy(self.author, self.site, new + seq - old) if new and old <= seq < old + size else None
+
+    def speaks_of(self, seq: int) -> bool:
+        """Whether it says what became of the old message of this seq."""
+        return self.stretch.old <= seq < self.stretch.old + self.stretch.size
+
+
+class Standing:
+    """What entries of copies say of messages whose keys are here; or, of so many entries and messages, of any."""
+
+    def __init__(self, most: float = math.inf) -> None:
+        self._room = most
+        # By the hash of the old entry.
+        self._pieces: dict[bytes, list[Piece]] = {}
+        # What is to be said of old entries that aren't here yet, by the hash of the last of them.
+        self._open: dict[bytes, list[tuple[Copied, bool]]] = {}
+        self._known: set[bytes] = set()
+        # The old entries of which a copy was made here; those copies, by whose they are.
+        self._own: dict[bytes, Entry] = {}
+        self._own_copies: dict[Who, list[tuple[bytes, Stretch]]] = {}
+        # Copies of which nothing remained when they were lost in their turn.
+        self._void: set[Copy] = set()
+        # Up to which seq it matters whether a client's messages count.
+        self._watched: dict[Who, int] = {}
+
+    def add(self, row: Row, rows: Rows) -> None:
+        """Adds what an entry says, and what was said of it; `rows` has all that came."""
+        entry = row.entry
+        if entry.kind is Kind.COPIES and entry.hash not in self._known:
+            self._known.add(entry.hash)
+            said = entry.copied
+            # Only who made messages says what stands for them.
+            if (entry.author, entry.site) == said[:2] and entry.before != NO_HASH:
+                self._say(said, row.made, entry.before, rows)
+        for said, own in self._open.pop(entry.hash, ()):
+            self._say(said, own, entry.hash, rows)
+
+    def _say(self, said: Copied, own: bool, of: bytes, rows: Rows) -> None:
+        """Takes over what is said of an entry and of those before it."""
+        least = min(old for old, _, _ in said.stretches)
+        while of in rows:
+            entry = rows[of].entry
+            self._room -= 1
+            if (entry.author, entry.site) != said[:2] or not entry.size or self._room < 0:
+                return
+            for stretch in _within(said.stretches, entry):
+                self._room -= entry.size
+                self._note(entry, Piece(said.by, said.by_site, stretch, own, said.last))
+            if entry.first <= least:
+                return
+            of = entry.before
+        self._open.setdefault(of, []).append((said, own))
+
+    def _note(self, entry: Entry, piece: Piece) -> None:
+        self._pieces.setdefault(entry.hash, []).append(piece)
+        old, new, size = piece.stretch
+        for of, last in ((entry.site, entry.author), old + size - 1), ((piece.site, piece.author), new + size - 1):
+            self._watched[of] = max(self._watched.get(of, 0), last)
+        if piece.own and new:
+            self._own[entry.hash] = entry
+            self._own_copies.setdefault((piece.site, piece.author), []).append((entry.hash, piece.stretch))
+        elif piece.own and (entry.site, entry.author) in self._own_copies:
+            self._void |= {Copy(entry.author, entry.site, seq) for seq in range(old, old + size)}
+
+    def is_made_here(self, entry: Entry, seq: int) -> bool:
+        """Whether what remained of a message of an entry was made anew here, and something of that is left."""
+        return any(piece.own and piece.speaks_of(seq) and piece.copy(seq) not in self._void
+                   for piece in self._pieces.get(entry.hash, ()))
+
+    def is_void(self, entry: Entry, seq: int) -> bool:
+        """Whether nothing remained of what was made anew here of a message of an entry."""
+        return any(piece.own and piece.copy(seq) in self._void for piece in self._pieces.get(entry.hash, ()))
+
+    def is_stood_for(self, entry: Entry, seq: int, entry_of: EntryOf, rows: Rows) -> bool:
+        """Whether something that counts stands for a message of an entry, or nothing had to."""
+        return any(piece.speaks_of(seq) and (not piece.stretch.new or _counts(piece, seq, entry_of, rows))
+                   for piece in self._pieces.get(entry.hash, ()))
+
+    def originals(self, copy: Entry, seq: int) -> Iterator[tuple[bytes, int]]:
+        """The messages for which one of these, that was made here, stands: the hashes of their entries, and their seqs."""
+        for of, (old, new, size) in self._own_copies.get((copy.site, copy.author), ()):
+            if new <= seq < new + size:
+                yield of, old + seq - new
+
+    def fronts(self, counts_up_to: Callable[[bytes, int], int]) -> list[int]:
+        """What is to be looked at again where it changes: how far those count of which copies were made here."""
+        return [min(counts_up_to(author, site), most) for (site, author), most in self._watched.items()] if self._own else []
+
+    def made_here(self, entry_of: EntryOf, rows: Rows) -> Iterator[tuple[Copy, bool]]:
+        """The copies that were made here and count, and whether each is to be hidden."""
+        return self._to_be_seen(entry_of, lambda piece, seq: _counts(piece, seq, entry_of, rows))
+
+    def made_by_all(self, entry_of: EntryOf, front_up_to: FrontUpTo) -> Iterator[tuple[Copy, bool]]:
+        """The same of all that is looked at, where all of it was added as if it had been made here."""
+        fronts = {piece: front_up_to(piece.author, piece.site, piece.last) if piece.last != NO_HASH else 0
+                  for of in self._own for piece in self._pieces[of]}
+        return self._to_be_seen(entry_of, lambda piece, seq: 0 < piece.stretch.new + seq - piece.stretch.old <= fronts[piece])
+
+    def _to_be_seen(self, entry_of: EntryOf, counts: Callable[[Piece, int], bool]) -> Iterator[tuple[Copy, bool]]:
+        for entry in self._own.values():
+            for seq in range(entry.first, entry.last + 1):
+                if any(True for _ in self.originals(entry, seq)):
+                    continue
+                copies: dict[Who, list[tuple[Copy, bool, bool]]] = {}
+                for piece in self._pieces[entry.hash]:
+                    if copy := piece.copy(seq):
+                        found = copies.setdefault((copy.site, copy.author), [])
+                        found.append((copy, piece.own, counts(piece, seq)))
+                stays = entry_of(entry.site, seq) == entry.hash
+                for of in sorted(copies, key=lambda of: (of[0], min(copy.seq for copy, _, _ in copies[of]))):
+                    yield from ((copy, stays) for copy, own, counts_now in copies[of] if own and counts_now)
+                    stays = stays or all(counts_now for _, _, counts_now in copies[of])
+
+
+def _counts(piece: Piece, seq: int, entry_of: EntryOf, rows: Rows) -> bool:
+    """Whether what stands for a message counts: what its author made, and nothing else under the same number."""
+    copy, of = piece.copy(seq), piece.last
+    if copy is None:
+        return False
+    while of in rows and rows[of].entry.first > copy.seq:
+        of = rows[of].entry.before
+    return of in rows and rows[of].entry.author == copy.author and entry_of(copy.site, copy.seq) == of
+
+
+def _within(stretches: Sequence[tuple[int, int, int]], entry: Entry) -> Iterator[Stretch]:
+    """The parts of stretches that are of an entry's messages."""
+    for old, new, size in stretches:
+        begin, end = max(old, entry.first), min(old + size, entry.last + 1)
+        if begin < end:
+            yield Stretch(begin, new + begin - old if new else 0, end - begin)
+
+
+def in_stretches(pairs: Sequence[tuple[int, int]]) -> list[Stretch]:
+    """Pairs of an old and a new seq as stretches; the new one is 0 where there is none."""
+    out: list[Stretch] = []
+    for old, new in sorted(set(pairs)):
+        last = out[-1] if out else None
+        if last and old == last.old + last.size and (new == last.new + last.size if new and last.new else new == last.new):
+            out[-1] = last._replace(size=last.size + 1)
+        else:
+            out.append(Stretch(old, new, 1))
+    return out
+
+
+def said(form: Form, keys: Mapping[Who, Client], rows: Rows, new: Entry,
+         pairs: Mapping[bytes, Sequence[tuple[int, int]]], withdrawn: Container[bytes] = ()) -> list[Entry]:
+    """The entries that say which messages, of those up to a new entry, stand for those of old entries: pairs of seqs, by the
+    old entries' hashes. Nobody else may have what was withdrawn, so that what is before it is spoken of apart."""
+    left, found = set(pairs), list[Entry]()
+    for of in sorted(pairs, key=lambda of: rows[of].entry.last, reverse=True):
+        if of not in left:
+            continue
+        last = rows[of].entry
+        client = last.site, last.author
+        least = min(rows[one].entry.first for one in left if (rows[one].entry.site, rows[one].entry.author) == client)
+        chained: list[tuple[int, int]] = []
+        while of in rows and rows[of].entry.first >= least and (of in withdrawn) == (last.hash in withdrawn):
+            chained += pairs[of] if of in left else ()
+            left.discard(of)
+            of = rows[of].entry.before
+        stretches = in_stretches(chained)
+        for begin in range(0, len(stretches), MOST_STRETCHES):
+            part = tuple(stretches[begin:begin + MOST_STRETCHES])
+            copied = Copied(last.author, last.site, new.author, new.site, part, new.hash)
+            found.append(form.copies(copied, keys[client].author, last.site, last.hash))
+    return found

@@ -1,0 +1,276 @@
+"""What a note's file has, in memory: all entries, the numbers of this person, and what counts of it."""
+import math
+from collections.abc import Collection, Iterable, Iterator, Mapping, Sequence
+from itertools import chain, takewhile
+from typing import NamedTuple
+
+from share.admission.judge import Counted, Judge
+from share.admission.ledger import Row
+from share.admission.left_out import LeftOut
+from share.format.entry import NOT_UNDER_A_NUMBER, Copy, Entry, Form, Kind
+from share.format.operation import Message
+from share.store.note_file import Anew, Client, Disk
+from share.sync.backlog import Backlog
+from share.sync.recovered import Recovered
+from share.sync.standing import MOST_OF_OTHERS, Standing, Who
+
+# What doesn't count has this many bytes in memory; what is too much is in the file alone until there is room.
+ROOM = 2**27
+# This many entries for which there was no room are read again at once.
+AGAIN = 1_000
+
+
+class Lost(NamedTuple):
+    """Messages of an entry that don't count, and that nothing stands for."""
+
+    entry: Entry
+    messages: list[Message]
+
+
+def who(one: Client | Entry) -> Who:
+    """Who has a number, or made an entry."""
+    return (one.site, one.author.name) if isinstance(one, Client) else (one.site, one.author)
+
+
+class Rows(Mapping[bytes, Row]):
+    """The entries that are in memory, by their hashes: those that are judged, and those that were withdrawn."""
+
+    def __init__(self, judge: Judge, withdrawn: Mapping[bytes, Row]):
+        self._judge, self._withdrawn = judge, withdrawn
+
+    def __getitem__(self, of: bytes) -> Row:
+        if (row := self._withdrawn.get(of) or self._judge.row(of)) is None:
+            raise KeyError(of)
+        return row
+
+    def __contains__(self, of: object) -> bool:
+        return isinstance(of, bytes) and (of in self._withdrawn or of in self._judge)
+
+    def __iter__(self) -> Iterator[bytes]:
+        return (row.entry.hash for row in chain(self._withdrawn.values(), self._judge.rows()))
+
+    def __len__(self) -> int:
+        return len(self._withdrawn) + len(self._judge)
+
+
+class Holdings:
+    """What was read of a file, and what counts of it."""
+
+    def __init__(self, form: Form) -> None:
+        self._form = form
+        self.clients: dict[Who, Client] = {}
+        # The author, site and seq of each message made here that another one stands for, and what stands for which.
+        self.anew: set[tuple[bytes, int, int]] = set()
+        self.standing = Standing()
+        # What stands for which by the word of all.
+        self.standing_for_all = Standing(MOST_OF_OTHERS)
+        # What was typed again of others' text that was left out.
+        self.recovered = Recovered()
+        # The author, site and seq of each message that hides copies here, or shows them again.
+        self.hidings: set[Copy] = set()
+        self._withdrawn: dict[bytes, Row] = {}
+        self.judge = Judge(form=form, room=ROOM)
+        self.rows = Rows(self.judge, self._withdrawn)
+        # Those of this person under whose number somebody else writes, too.
+        self._shared: set[Who] = set()
+        # Those of this person under which a newer version wrote what this one doesn't know.
+        self.newer: set[Who] = set()
+        # Where entries are in the file for which there was no room, and those of them that are to be read again.
+        self._backlog, self._again = Backlog(), list[int]()
+        self._place = self._number = 0
+        # Whether the file may have more than was read.
+        self.has_more = False
+        self._rejudged = False
+
+    def _is_edit(self, row: Row) -> bool:
+        return row.made and bool(row.entry.size)
+
+    def read(self, disk: Disk, most: float = math.inf) -> list[Row]:
+        """Reads what the file has more, all or until it has this many bytes; the rows that weren't known."""
+        if not self.rows:
+            self.reread_anew(disk)
+        rows, gone = disk.rows(self._place, most), disk.withdrawn(self._number)
+        has_more = sum(len(row.entry.raw) for row in rows) >= most
+        if rows:
+            self._place = rows[-1].place
+        again, self._again = self._again[:AGAIN], self._again[AGAIN:]
+        rows += disk.rows_at(dict.fromkeys(again))
+        # What was withdrawn comes once more where a log had it after all.
+        new = [row for row in rows if row.entry.hash not in self.judge]
+        if new and any(row.made for row in new):
+            # Another editor of this person may have claimed a number.
+            self.clients |= {who(one): one for one in disk.clients()}
+        for row in new:
+            self._add(row)
+        if gone:
+            # What was withdrawn may be further on in the file.
+            self._number = self._number if has_more else gone[-1][0]
+            self.withdraw([of for _, of in gone])
+        self.has_more = has_more or bool(self._again)
+        return new
+
+    def read_again(self) -> None:
+        """Has the next reading begin at the front of the file, which was written anew."""
+        self._place = self._number = 0
+        self._backlog, self._again = Backlog(), []
+
+    def add(self, entries: Iterable[Entry]) -> None:
+        """Adds entries that were made here and are in the file."""
+        for entry in entries:
+            if entry.hash not in self.judge:
+                self._add(Row(0, entry, True))
+
+    def withdraw(self, hashes: Collection[bytes]) -> None:
+        """Has entries not count."""
+        if gone := {of: row for of in hashes if of in self.judge and (row := self.judge.row(of))}:
+            self._withdrawn |= gone
+            before = self.judge
+            # Who waits for room is judged anew, too.
+            self._backlog.add(before.dropped())
+            self._again += self._backlog.take_all()
+            self.has_more = self.has_more or bool(self._again)
+            self.judge = Judge(form=self._form, room=ROOM)
+            for row in before.rows():
+                if row.entry.hash not in gone:
+                    self.judge.add_new(row)
+            self.rows, self._rejudged = Rows(self.judge, self._withdrawn), True
+
+    def count(self) -> Counted:
+        """What counts since this was last asked."""
+        found, rejudged = self.judge.count(), self._rejudged
+        self._rejudged = False
+        self._backlog.add(self.judge.dropped())
+        self._again += self._backlog.take(self.judge.turns())
+        self.has_more = self.has_more or bool(self._again)
+        return Counted(found.messages, found.anew or rejudged)
+
+    def is_anew(self) -> bool:
+        """Whether what counts next is all of it, judged anew."""
+        return self._rejudged or self.judge.is_anew()
+
+    def waiting_for_room(self) -> int:
+        """How many entries are in the file alone, since there was no room for them."""
+        return len(self._backlog) + len(self._again)
+
+    def broken(self) -> list[Client]:
+        """The numbers of this person that can't be gone on with: somebody else writes under them, or what was
+        made under them doesn't count. Of one that was given up before what counted may do so no more, too."""
+        losing = {who(one.entry) for one in [*self.lost(), *self.left_out()]}
+        return [one for one in self.clients.values() if who(one) not in self.newer
+                and (who(one) in losing or not one.retired and (self._has_ended(one) or self.is_anothers(one)))]
+
+    def _has_ended(self, client: Client) -> bool:
+        """Whether something made under a number doesn't count, so that nothing does that follows it."""
+        return any(row.made and not self.judge.is_let_through(message) for row in self._not_counting(who(client))
+                   for message in row.entry.messages)
+
+    def _not_counting(self, of: Who) -> Iterator[Row]:
+        """The entries of a client of which not all messages count, those that were withdrawn among them."""
+        yield from (row for row in self._withdrawn.values() if who(row.entry) == of)
+        yield from self.judge.not_through(*of)
+
+    def is_anothers(self, client: Client) -> bool:
+        """Whether somebody else writes under a number, or has it."""
+        return who(client) in self._shared or self.judge.holder(client.site) not in (None, client.author.name)
+
+    def lost(self) -> list[Lost]:
+        """What was made here, doesn't count, and wasn't made anew."""
+        found = (self._lost_of(row) for of in self.clients for row in self._not_counting(of) if row.made)
+        return [one for one in found if one.messages]
+
+    def left_out(self) -> list[Lost]:
+        """What others made with a key that is here, and was left out since a smaller hash holds in its place, or since it
+        builds on what was, and that nothing stands for."""
+        stretches: dict[Who, list[LeftOut]] = {}
+        for one in self.judge.left_out():
+            if (one.site, one.author) in self.clients:
+                stretches.setdefault((one.site, one.author), []).append(one)
+        found = (self._lost_of(row) for of, ones in stretches.items() for row in self.judge.not_through(*of)
+                 if not row.made and not self.judge.is_loose(row.entry.hash)
+                 and any(one.first <= row.entry.last and row.entry.first <= one.last for one in ones))
+        return [one for one in found if one.messages]
+
+    def _lost_of(self, row: Row) -> Lost:
+        """The messages of an entry that don't count, and that nothing stands for."""
+        return Lost(row.entry, [message for message in row.entry.messages if not self.judge.is_let_through(message)
+                                and not self._is_made_anew(row, message)])
+
+    def _is_made_anew(self, row: Row, message: Message) -> bool:
+        """Whether a message was made anew here, or by another disk with its key, or typed again by somebody."""
+        entry = row.entry
+        is_noted = row.made and (entry.author, message.site, message.seq) in self.anew
+        return (is_noted and not self.standing.is_void(entry, message.seq)
+                or self.standing.is_made_here(entry, message.seq)
+                or self.standing.is_stood_for(entry, message.seq, self.judge.entry_of, self.rows)
+                or self.judge.is_copied(entry, message.seq))
+
+    def waited_for(self) -> list[tuple[Client, Entry]]:
+        """The numbers that were given up and of which others wait for what never comes, since it was made anew; and the
+        last entries of it."""
+        found = []
+        for one in self.clients.values():
+            if one.retired and self.judge.holder(one.site) == one.author.name:
+                done = [*takewhile(self._was_made_anew, self.judge.held_up(one.site))]
+                found += [(one, last) for last in done[-1:]]
+        return found
+
+    def _was_made_anew(self, entry: Entry) -> bool:
+        """Whether an entry was made here, and what doesn't count of it was made anew."""
+        row = self.rows[entry.hash]
+        return row.made and not self._lost_of(row).messages
+
+    def reread_anew(self, disk: Disk) -> None:
+        """Looks which numbers were given up, and which edits made anew, by other editors of this person."""
+        self.clients = {who(one): one for one in disk.clients()}
+        self.anew, self.hidings = disk.anew(), disk.hidings()
+
+    def withdrawn(self) -> frozenset[bytes]:
+        """The hashes of the entries that were withdrawn."""
+        return frozenset(self._withdrawn)
+
+    def made_by(self, clients: Sequence[Client]) -> list[bytes]:
+        """The hashes of the messages' entries that were made under numbers."""
+        return [row.entry.hash for one in clients for row in self.judge.of(*who(one)) if self._is_edit(row)]
+
+    def followed(self) -> set[bytes]:
+        """The hashes of the entries made here to which one is chained that wasn't: who made that one had them."""
+        found: set[bytes] = set()
+        for row in (row for of in self.clients for row in self.judge.of(*of) if not row.made):
+            before = self.rows.get(row.entry.before)
+            while before and before.made and before.entry.hash not in found:
+                found.add(before.entry.hash)
+                before = self.rows.get(before.entry.before)
+        return found
+
+    def gave_up(self, clients: Sequence[Client]) -> None:
+        """Says that numbers were given up."""
+        for one in clients:
+            self.clients[who(one)] = one._replace(retired=True)
+
+    def made_anew(self, anew: Sequence[Anew], hidings: Sequence[Copy]) -> None:
+        """Says what was made anew, and which messages hide copies."""
+        self.anew |= {(one.author, one.site, one.seq) for one in anew}
+        self.hidings |= set(hidings)
+
+    def counts_up_to(self, author: bytes, site: int) -> int:
+        """How many messages of an author under a number count."""
+        return self.judge.front(site) if self.judge.holder(site) == author else 0
+
+    def fronts_of_copies(self) -> list[int]:
+        """What is to be looked at again where it changes: how far those count of which there are copies, and these."""
+        return [*self.standing.fronts(self.counts_up_to), *self.standing_for_all.fronts(self.counts_up_to),
+                *self.recovered.fronts(self.counts_up_to)]
+
+    def _add(self, row: Row) -> None:
+        entry, of = row.entry, who(row.entry)
+        is_own = of in self.clients
+        self._withdrawn.pop(entry.hash, None)
+        if is_own and not row.made and entry.kind not in NOT_UNDER_A_NUMBER:
+            self._shared.add(of)
+        self.judge.add_new(row)
+        if is_own:
+            self.standing.add(row, self.rows)
+        self.standing_for_all.add(row._replace(made=True) if entry.kind is Kind.COPIES else row, self.rows)
+        self.recovered.add(entry, row.made)
+        if row.made and entry.kind is Kind.NEWER:
+            self.newer.add(of)

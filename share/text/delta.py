@@ -1,0 +1,232 @@
+"""Changes of a text as one value, counted in an editor's units: what is kept, deleted and inserted, from the front
+on. Two that were made of the same text are carried over one another."""
+from collections.abc import Iterable, Iterator, Sequence
+
+from share.text.units import Units
+
+# So many units are kept where it is above 0, and deleted where it is below; bytes of the units' encoding come in.
+Part = int | bytes
+# A part after the last one is kept. What is inserted stands before what is deleted in the same place, so that what
+# does the same is equal.
+Op = list[Part]
+# What is between two positions gives way to some units.
+Replacement = tuple[int, int, bytes]
+NOTHING: Op = []
+ENDLESS = 1 << 60
+
+
+class _Maker:
+    """Makes an op of parts in their order."""
+
+    def __init__(self) -> None:
+        self.op: Op = []
+
+    def keep(self, count: int) -> None:
+        """Keeps units."""
+        if count:
+            last = self.op[-1] if self.op else b""
+            if isinstance(last, int) and last > 0:
+                self.op[-1] = last + count
+            else:
+                self.op.append(count)
+
+    def delete(self, count: int) -> None:
+        """Deletes units."""
+        if count:
+            last = self.op[-1] if self.op else b""
+            if isinstance(last, int) and last < 0:
+                self.op[-1] = last - count
+            else:
+                self.op.append(-count)
+
+    def insert(self, data: bytes) -> None:
+        """Inserts units, before what was deleted in the same place."""
+        if not data:
+            return
+        last = self.op[-1] if self.op else b""
+        deleted = self.op.pop() if isinstance(last, int) and last < 0 else None
+        if self.op and isinstance(before := self.op[-1], bytes):
+            self.op[-1] = before + data
+        else:
+            self.op.append(data)
+        if deleted is not None:
+            self.op.append(deleted)
+
+    def done(self) -> Op:
+        """The op, without what it keeps at the end."""
+        if self.op and isinstance(last := self.op[-1], int) and last > 0:
+            self.op.pop()
+        return self.op
+
+
+class _Reader:
+    """Takes an op part by part, or as much of one as is wanted."""
+
+    def __init__(self, op: Op, size: int):
+        self._op, self._size, self._place, self._taken = op, size, 0, 0
+
+    def has_more(self) -> bool:
+        """Whether a part is left."""
+        return self._place < len(self._op)
+
+    def next(self) -> Part:
+        """What is next; all that is after the last part is kept."""
+        return self._op[self._place] if self.has_more() else ENDLESS
+
+    def left(self) -> int:
+        """How many units are left of it."""
+        part = self.next()
+        return (len(part) // self._size if isinstance(part, bytes) else abs(part)) - self._taken
+
+    def take(self, count: int) -> bytes:
+        """Takes so many units of it; what they insert."""
+        part, begin = self.next(), self._taken
+        whole = count == self.left()
+        if self.has_more():
+            self._taken = 0 if whole else begin + count
+            self._place += whole
+        return part[self._size * begin:self._size * (begin + count)] if isinstance(part, bytes) else b""
+
+
+def composed(first: Op, second: Op, units: Units) -> Op:
+    """What does what the one does and then the other."""
+    if not first or not second:
+        return first or second
+    made, one, other = _Maker(), _Reader(first, units.size), _Reader(second, units.size)
+    while one.has_more() or other.has_more():
+        now, then = one.next(), other.next()
+        if isinstance(now, int) and now < 0:
+            made.delete(one.left())
+            one.take(one.left())
+        elif isinstance(then, bytes):
+            made.insert(other.take(other.left()))
+        else:
+            count = min(one.left(), other.left())
+            data = one.take(count)
+            other.take(count)
+            if then > 0:
+                made.insert(data) if isinstance(now, bytes) else made.keep(count)
+            elif not isinstance(now, bytes):
+                made.delete(count)
+    return made.done()
+
+
+def carried_over(first: Op, second: Op, units: Units) -> tuple[Op, Op]:
+    """Two ops of one text, the first as it is after the second, and the second as it is after the first. In one
+    place what the first inserts stands before what the second does."""
+    if not first or not second:
+        return first, second
+    made_first, made_second = _Maker(), _Maker()
+    one, other = _Reader(first, units.size), _Reader(second, units.size)
+    while one.has_more() or other.has_more():
+        now, then = one.next(), other.next()
+        if isinstance(now, bytes):
+            made_second.keep(one.left())
+            made_first.insert(one.take(one.left()))
+        elif isinstance(then, bytes):
+            made_first.keep(other.left())
+            made_second.insert(other.take(other.left()))
+        else:
+            count = min(one.left(), other.left())
+            one.take(count)
+            other.take(count)
+            if now > 0:
+                made_second.keep(count) if then > 0 else made_second.delete(count)
+            if then > 0:
+                made_first.keep(count) if now > 0 else made_first.delete(count)
+    return made_first.done(), made_second.done()
+
+
+def moved(position: int, op: Op, units: Units) -> int:
+    """Where a position is after an op: what comes in just there comes in after it."""
+    left, shift = position, 0
+    for part in op:
+        if isinstance(part, bytes):
+            if left <= 0:
+                break
+            shift += units.count(part)
+        elif part > 0:
+            left -= part
+        else:
+            shift -= min(left, -part)
+            left += part
+        if left < 0:
+            break
+    return position + shift
+
+
+def growth(op: Op, units: Units) -> int:
+    """By how many units a text grows."""
+    return sum(units.count(part) if isinstance(part, bytes) else min(part, 0) for part in op)
+
+
+def of_changes(changes: Iterable[Replacement], units: Units) -> Op:
+    """The op of changes, each in the text that those before it leave."""
+    return all_composed([_of_run(run, falls, units) for run, falls in _runs(changes, units)], units)
+
+
+def all_composed(ops: list[Op], units: Units) -> Op:
+    """What does what some ops do, one after the other."""
+    while len(ops) > 1:
+        # Two by two, since to compose each with all before it would take far longer.
+        ops = [composed(ops[place], ops[place + 1], units) if place + 1 < len(ops) else ops[place]
+               for place in range(0, len(ops), 2)]
+    return ops[0] if ops else NOTHING
+
+
+def _runs(changes: Iterable[Replacement], units: Units) -> Iterator[tuple[list[Replacement], bool]]:
+    """Changes in parts, in each of which they rise, or fall."""
+    run: list[Replacement] = []
+    rises: bool | None = None
+    for one in changes:
+        if run:
+            begin, _, data = run[-1]
+            goes_on = one[0] >= begin + units.count(data)
+            if not (goes_on or one[1] <= begin) or rises not in (None, goes_on):
+                yield run, rises is False
+                run, rises = [], None
+            else:
+                rises = goes_on
+        run.append(one)
+    if run:
+        yield run, rises is False
+
+
+def _of_run(run: list[Replacement], falls: bool, units: Units) -> Op:
+    """The op of changes that rise, or fall."""
+    made, at = _Maker(), 0
+    for begin, end, data in reversed(run) if falls else run:
+        made.keep(begin - at)
+        made.insert(data)
+        made.delete(end - begin)
+        # Where they rise those before have moved those after.
+        at = end if falls else begin + units.count(data)
+    return made.done()
+
+
+def in_text(op: Op, units: Units) -> list[Replacement]:
+    """The replacements of an op, all by the text before it, from the front on."""
+    found: list[Replacement] = []
+    at, data = 0, b""
+    for part in [*op, 1]:
+        if isinstance(part, bytes):
+            data = part
+            continue
+        if part < 0:
+            found.append((at, at - part, data))
+            at -= part
+        else:
+            if data:
+                found.append((at, at, data))
+            at += part
+        data = b""
+    return found
+
+
+def in_turn(op: Op, units: Units) -> Sequence[Replacement]:
+    """The replacements of an op, each in the text that those before it leave."""
+    found, shift = [], 0
+    for begin, end, data in in_text(op, units):
+        found.append((begin + shift, end + shift, data))
+        shift += units.count(data) - (end - begin)
+    return found

@@ -1,0 +1,197 @@
+"""A text as editors are shown it, in which a place is found quickly both by bytes and by an editor's units.
+
+A note's line end is a carriage return; an editor's is a newline. Each stands for the other, so that both are kept,
+whatever a text has. A byte that is no UTF-8 is shown as U+FFFD.
+"""
+from bisect import bisect_right
+from itertools import accumulate
+
+from share.text.change import Change
+from share.text.units import UNITS, Units
+
+BYTES = "bytes"
+# A part has so many bytes as it is made, and up to twice as many after changes.
+PART = 4_096
+# A character goes on with so many bytes at most.
+REACH = 3
+_SWAPPED = bytes.maketrans(b"\r\n", b"\n\r")
+_HALVES = dict.fromkeys(range(0xDC80, 0xDD00), "\ufffd")
+
+
+class Outside(Exception):
+    """A position is outside the text; in words."""
+
+
+class Split(Exception):
+    """A position is inside a character; in words."""
+
+
+def swapped(data: bytes) -> bytes:
+    """A note's bytes as an editor's, or an editor's as a note's."""
+    return data.translate(_SWAPPED)
+
+
+def shown(data: bytes) -> str:
+    """What an editor shows of bytes that are an editor's."""
+    try:
+        return data.decode()
+    except UnicodeDecodeError:
+        return data.decode("utf-8", "surrogateescape").translate(_HALVES)
+
+
+def _sizes_of(data: bytes) -> dict[str, int]:
+    """The size of some bytes, in bytes and in each of the units as they are shown."""
+    text = shown(data)
+    return {BYTES: len(data), "utf-8": len(text.encode()), "utf-16": len(text.encode("utf-16-le")) // 2,
+            "utf-32": len(text)}
+
+
+def _goes_on(byte: int) -> bool:
+    """Whether a byte goes on with a character of UTF-8."""
+    return byte & 0xC0 == 0x80
+
+
+def _going_on(data: bytes) -> int:
+    """How many bytes, from the front on, go on with a character."""
+    return next((number for number, byte in enumerate(data) if not _goes_on(byte)), len(data))
+
+
+def _parts(data: bytes) -> list[bytes]:
+    """Bytes in parts, none of which begins inside a character that the one before it begins."""
+    parts, begin = [], 0
+    while begin < len(data):
+        end = len(data) if len(data) - begin <= 2 * PART else begin + PART
+        end += _going_on(data[end:end + REACH])
+        parts.append(data[begin:end])
+        begin = end
+    return parts
+
+
+class Measured:
+    """A text in parts. Bytes are a note's, and are handed over and given as such."""
+
+    def __init__(self, data: bytes):
+        self._parts: list[bytes] = []
+        # The sizes of the parts, and where each ends, which is counted where it is asked for.
+        self._sizes: dict[str, list[int]] = {unit: [] for unit in (BYTES, *UNITS)}
+        self._ends: dict[str, list[int]] = {}
+        self._set(0, 0, _parts(swapped(data)))
+
+    @property
+    def size(self) -> int:
+        """How many bytes it has."""
+        return self._end(BYTES)
+
+    def as_note(self) -> bytes:
+        """The note's bytes."""
+        return swapped(self.as_file())
+
+    def as_file(self) -> bytes:
+        """The bytes of the text as a file of this system."""
+        return b"".join(self._parts)
+
+    def text(self) -> str:
+        """What editors show."""
+        return shown(self.as_file())
+
+    def length(self, units: Units) -> int:
+        """How many units it has."""
+        return self._end(units.name)
+
+    def slice(self, begin: int, end: int) -> bytes:
+        """The note's bytes from one place to another."""
+        return swapped(self._slice(begin, end))
+
+    def position(self, place: int, units: Units) -> int:
+        """How many units are before a byte."""
+        number, begin = self._find(place)
+        before = self._parts[number][:place - begin] if number < len(self._parts) else b""
+        return self._begin(number, units.name) + (
+            len(before) if before.isascii() else units.count(units.encode(shown(before))))
+
+    def place(self, position: int, units: Units) -> int:
+        """How many bytes are before a position in units; Split where it is inside a character."""
+        if not 0 <= position <= self.length(units):
+            raise Outside(f"Position {position} is outside the text.")
+        number = bisect_right(self._ends_of(units.name), position)
+        left = position - self._begin(number, units.name)
+        return self._begin(number, BYTES) + (_bytes_of(self._parts[number], left, units, position) if left else 0)
+
+    def is_whole(self, change: Change) -> bool:
+        """Whether a change cuts no character, and joins none of what is beside it."""
+        return not _goes_on(self._byte(change.begin)) and not _goes_on(self._byte(change.end))
+
+    def whole(self, change: Change) -> Change:
+        """A change that does the same with whole characters: it has more where one is cut, or joined."""
+        begin, end = change.begin, change.end
+        if begin > 0 and (_goes_on(self._byte(begin)) or _goes_on(change.new[0] if change.new else self._byte(end))):
+            # Where none of the bytes before can begin a character with what follows, it ends there.
+            back = _going_on(self._slice(max(0, begin - REACH), begin)[::-1]) + 1
+            begin -= back if back <= min(REACH, begin) else 0
+        end += _going_on(self._slice(end, min(end + REACH, self.size)))
+        if (begin, end) == (change.begin, change.end):
+            return change
+        return Change(begin, end, self.slice(begin, change.begin) + change.new + self.slice(change.end, end))
+
+    def replace(self, change: Change) -> None:
+        """Makes a change of whole characters."""
+        low, before = self._find(change.begin)
+        high, up_to = self._find(change.end)
+        tail = self._parts[high][change.end - up_to:] if high < len(self._parts) else b""
+        if low == len(self._parts) and low:
+            # What comes in at the end is the last part's, too.
+            low -= 1
+            before -= len(self._parts[low])
+        head = self._parts[low][:change.begin - before] if self._parts else b""
+        self._set(low, high + 1, _parts(head + swapped(change.new) + tail))
+
+    def _set(self, begin: int, end: int, parts: list[bytes]) -> None:
+        """Puts parts in the place of others."""
+        self._parts[begin:end] = parts
+        found = [_sizes_of(part) for part in parts]
+        for unit, sizes in self._sizes.items():
+            sizes[begin:end] = [one[unit] for one in found]
+        self._ends = {}
+
+    def _ends_of(self, unit: str) -> list[int]:
+        ends = self._ends.get(unit)
+        if ends is None:
+            ends = self._ends[unit] = [*accumulate(self._sizes[unit])]
+        return ends
+
+    def _begin(self, number: int, unit: str) -> int:
+        """Where a part begins."""
+        return self._ends_of(unit)[number - 1] if number else 0
+
+    def _end(self, unit: str) -> int:
+        return self._begin(len(self._parts), unit)
+
+    def _find(self, place: int) -> tuple[int, int]:
+        """The part that has a byte, and where it begins."""
+        number = bisect_right(self._ends_of(BYTES), place)
+        return number, self._begin(number, BYTES)
+
+    def _byte(self, place: int) -> int:
+        """A byte; none goes on after the last one."""
+        if place >= self.size:
+            return 0
+        number, begin = self._find(place)
+        return self._parts[number][place - begin]
+
+    def _slice(self, begin: int, end: int) -> bytes:
+        low, before = self._find(begin)
+        high, _ = self._find(end)
+        return b"".join(self._parts[low:high + 1])[begin - before:end - before]
+
+
+def _bytes_of(data: bytes, position: int, units: Units, told: int) -> int:
+    """How many bytes are before a position in a part."""
+    if data.isascii():
+        return position
+    text = shown(data)
+    before = units.decode(units.encode(text)[:units.size * position])
+    # What was cut isn't a begin of the text any more, or isn't so long.
+    if not text.startswith(before) or units.count(units.encode(before)) != position:
+        raise Split(f"Position {told} is inside a character.")
+    return len(data.decode("utf-8", "surrogateescape")[:len(before)].encode("utf-8", "surrogateescape"))
+
