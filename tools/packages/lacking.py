@@ -1,18 +1,22 @@
-"""What the short form of bin/package --test leaves out, since something that it needs isn't installed."""
+"""What the short form of bin/package --test leaves out, since something that it needs isn't here."""
 from __future__ import annotations
 
 import shutil
 import subprocess
-from collections.abc import Iterator, Sequence
+from collections.abc import Iterator
 from pathlib import Path
 
+from tools.compiling import LIBRARY, build_of
 from tools.packages.archives import PYTHON
+from tools.packages.making import Wish
 from tools.packages.processors import FIRST
 
 # The commands, modules of Python and files that packages of a kind are made with.
 COMMANDS = {"deb": ("dh", "dh_python3", "lintian"), "wheel": (FIRST.compiler,), "npm": (FIRST.compiler, "npm")}
 MODULES = {"wheel": ("ensurepip", "setuptools", "wheel")}
 FILES = {"npm": ("/usr/include/node/node_api.h",)}
+# Those that have the library, whose proof takes longer than the short form may.
+WITH_LIBRARY = ("wheel", "npm")
 
 
 class Lacking(Exception):
@@ -28,11 +32,13 @@ def for_kind(kind: str) -> Iterator[str]:
             yield f"Python's {name}"
 
 
-def of_these(kinds: Sequence[str]) -> list[str]:
+def of_these(wish: Wish) -> list[str]:
     """The kinds that can be made here; what is lacking for others is told."""
     found = []
-    for kind in kinds:
-        if lacks := [*for_kind(kind)]:
+    has_library = wish.unproved is not None or build_of(LIBRARY, FIRST.target).is_current()
+    for kind in wish.kinds:
+        lacks = [*for_kind(kind), *["proved library, which bin/library makes"] * (kind in WITH_LIBRARY and not has_library)]
+        if lacks:
             print(f"{kind}: left out, since there is no {', '.join(lacks)}", flush=True)
         else:
             found.append(kind)

@@ -66,7 +66,10 @@ class Trial:
 def main(wish: Wish, is_short: bool) -> int:
     """Tries all packages that a wish names; the short form those that can be made here, without root and network."""
     if is_short:
-        wish = replace(wish, kinds=lacking.of_these(wish.kinds))
+        wish = replace(wish, kinds=lacking.of_these(wish))
+    if not wish.kinds:
+        print("0 passed, 0 failed")
+        return 0
     # What Rust compiles of its standard library is compiled once.
     with tempfile.TemporaryDirectory(prefix="package-test-") as room, mock.patch.dict(os.environ, WASM_TARGET_DIR=f"{room}/wasm"):
         trial = Trial(wish, current(wish.unproved is None), Path(room))
