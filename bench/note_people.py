@@ -22,7 +22,7 @@ from nacl import bindings
 from share.admission.ledger import Row
 from share.editors.client import InPlace
 from share.editors.mirror import Mirror
-from share.engine.protocol import written
+from share.engine.protocol import serialize
 from share.format import link as links
 from share.format.chunk import packed
 from share.format.entry import Author, Kind, digest
@@ -303,12 +303,12 @@ def count_calls(data: str) -> int:
     """How often a key has Python call something in an engine that is in this process: the least of some keys."""
     os.environ["VIALSHOAL_DATA"] = data
     way = InPlace("note", lambda wake: Session(notes.opened("note", None, None), None, lambda done, total: None, wake))
-    way.send(written({"do": "open", "id": 1, "protocol": 1, "units": ["utf-16"]}))
+    way.send(serialize({"do": "open", "id": 1, "protocol": 1, "units": ["utf-16"]}))
     lines = [json.loads(line) for line in way.receive(0.02).splitlines()]
     opened = next(line for line in lines if line.get("answer") == "open")
     if "error" in opened:
         sys.exit(f"the note can't be opened: {opened['words']}")
-    mirror = Mirror(opened, lambda line: way.send(written(line)))
+    mirror = Mirror(opened, lambda line: way.send(serialize(line)))
     counts, calls = [], 0
 
     def called(*_: object) -> None:

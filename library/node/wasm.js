@@ -18,7 +18,8 @@ const NAME = 8;
 const CHANGE = 24;
 
 // Of which class typed arrays are, wherever they come from.
-const kindOf = Object.getOwnPropertyDescriptor(Object.getPrototypeOf(Uint8Array.prototype), Symbol.toStringTag).get;
+/** @type {any} */
+const kindOf = Object.getOwnPropertyDescriptor(Object.getPrototypeOf(Uint8Array.prototype), Symbol.toStringTag)?.get;
 
 class NoMemory extends Error {
     constructor() {
@@ -56,6 +57,7 @@ class Library {
     #dropped = new FinalizationRegistry((handle) => this.#drop(handle));
 
     constructor(module) {
+        /** @type {any} */
         this.exports = new WebAssembly.Instance(module).exports;
         this.#memory = this.exports.memory;
         this.#allocate = this.exports.vialshoal_wasm_allocate;

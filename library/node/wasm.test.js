@@ -142,10 +142,12 @@ function lengthsAreLong() {
         const { Text } = require(folder);
         const text = new Text(1, 1);
         for (const letters of ['a', 'b', 'cde']) text.insert(text.length, letters);
-        for (const [number, make, take] of [
+        /** @type {[number, () => any, (file: any) => any][]} */
+        const kinds = [
             [1, () => text.pack()[0], (chunk) => new Text(1, 2).unpack(chunk)],
             [13, () => text.store({ packed: true }), (file) => Text.load(file)],
-        ]) {
+        ];
+        for (const [number, make, take] of kinds) {
             const made = make();
             // (6, and then how many there are beside two)
             assert.strictEqual(made.subarray(-5).toString('latin1'), '\x06\x01cde');

@@ -48,18 +48,23 @@ class Copies:
     def __init__(self) -> None:
         self._by_authors: dict[Who, list[_Said]] = {}
         self._by_others: dict[Who, list[_Said]] = {}
-        # The sites whose messages stand for others, and the seq of the last one that does.
+        # The same by who made the copies, with whose messages these stand for.
+        self._by_copier: dict[Who, list[tuple[Who, _Said]]] = {}
+        # The sites whose messages stand for others, and the seq of the last one that does; and the last entries that have such.
         self.sites: dict[int, int] = {}
+        self.lasts: set[bytes] = set()
 
     def add(self, entry: Entry) -> None:
         """Takes over what an entry says."""
         copied = entry.copied
         last = max((by + size - 1 for _, by, size in copied.stretches if by), default=0)
         self.sites[copied.by_site] = max(self.sites.get(copied.by_site, 0), last)
+        self.lasts.add(copied.last)
         whose = copied.site, copied.author
-        said = self._by_authors if (entry.site, entry.author) == whose else self._by_others
-        said.setdefault(whose, []).extend(_Said(seq, size, Copy(copied.by, copied.by_site, by), entry.before, copied.last)
-                                          for seq, by, size in copied.stretches)
+        known = self._by_authors if (entry.site, entry.author) == whose else self._by_others
+        said = [_Said(seq, size, Copy(copied.by, copied.by_site, by), entry.before, copied.last) for seq, by, size in copied.stretches]
+        known.setdefault(whose, []).extend(said)
+        self._by_copier.setdefault((copied.by_site, copied.by), []).extend((whose, one) for one in said if one.by.seq)
 
     def speak_of(self, author: bytes, site: int) -> bool:
         """Whether copies of an author's messages are spoken of."""
@@ -69,12 +74,23 @@ class Copies:
         """Whether an author says of own messages what stands for them."""
         return (site, author) in self._by_authors
 
-    def of(self, author: bytes, site: int, seq: int, suits: Callable[[bytes], bool]) -> list[Copy]:
+    def of(self, author: bytes, site: int, seq: int, suits: Callable[[bytes], bool]) -> list[tuple[Copy, bytes]]:
         """The messages that stand for one, as its author says, where it is the one of a history that suits, of which the hash of the
-        last entry is known; that of the least number and seq first."""
-        found = {one.by._replace(seq=one.by.seq + seq - one.seq) for one in self._by_authors.get((site, author), ())
+        last entry is known; that of the least number and seq first, each with the last entry of its own history."""
+        found = {(one.by._replace(seq=one.by.seq + seq - one.seq), one.by_last) for one in self._by_authors.get((site, author), ())
                  if one.by.seq and one.seq <= seq < one.seq + one.size and suits(one.last)}
-        return sorted(found, key=lambda copy: (copy.site, copy.seq, copy.author))
+        return sorted(found, key=lambda one: (one[0].site, one[0].seq, one[0].author, one[1]))
+
+    def beside(self, one: Copy) -> Iterator[tuple[bytes, Copy, bytes]]:
+        """The messages that stand for one, and those for which it stands, whoever says so: each after the last entry of the history of
+        the one, and before the last of its own, none where nothing is said of that."""
+        who = one.site, one.author
+        for said in (*self._by_authors.get(who, ()), *self._by_others.get(who, ())):
+            if said.by.seq and said.seq <= one.seq < said.seq + said.size:
+                yield said.last, said.by._replace(seq=said.by.seq + one.seq - said.seq), said.by_last
+        for (site, author), said in self._by_copier.get(who, ()):
+            if said.by.seq <= one.seq < said.by.seq + said.size:
+                yield said.by_last, Copy(author, site, said.seq + one.seq - said.by.seq), said.last
 
     def stretches(self, entry: Entry, counting: Counting) -> Iterator[tuple[int, int]]:
         """The seqs of an entry's messages for which copies stand that count."""
@@ -83,7 +99,7 @@ class Copies:
             first, last = max(entry.first, one.seq), min(entry.last, one.end(counting) - 1)
             if first <= last and (one.last == NO_HASH or counting.is_chained(entry.hash, one.last)):
                 yield first, last
-        # Each who copied has all of a message, in one copy or in several that follow one another.
+        # Who copied a message has all of it, in one copy or in all of them, one after the other.
         found: dict[tuple[int, int, bytes], dict[int, bytes]] = {}
         for one in self._by_others.get(who, ()):
             first, last = max(entry.first, one.seq), min(entry.last, one.end(counting) - 1)
@@ -92,5 +108,5 @@ class Copies:
                 found.setdefault((seq, one.by.site, one.by.author), {})[by] = typed(counting.message(one.by.site, by))
         for (seq, _, _), parts in found.items():
             data = typed(entry.messages[seq - entry.first])
-            if data and data in (b"".join(parts.values()), *parts.values()):
+            if data and data in (b"".join(parts[by] for by in sorted(parts)), *parts.values()):
                 yield seq, seq

@@ -109,7 +109,7 @@ class Judge:
         self._words: dict[bytes, Row] = {}
         # The hashes of entries up to which their authors say that what doesn't count was made anew, by site and author.
         self._made_anew: dict[Who, set[bytes]] = {}
-        self._copies = Copies()
+        self.copies = Copies()
         # Who says that the note was renewed, and by what name.
         self._renewed: dict[Who, bytes] = {}
         # The hashes of entries that this version doesn't know, of which there may be any number.
@@ -185,7 +185,7 @@ class Judge:
             self._made_anew.setdefault((entry.site, entry.author), set()).add(entry.before)
         elif entry.kind is Kind.COPIES:
             self._said(row)
-            self._copies.add(entry)
+            self.copies.add(entry)
         elif entry.kind is Kind.RENEWED:
             if len(self._renewed) < MOST_RENEWED:
                 self._said(row)
@@ -328,24 +328,31 @@ class Judge:
     def copies_of(self, author: bytes, site: int, seq: int, data: bytes) -> list[Copy]:
         """The messages that stand for one that inserts this, as its author says, whether they count or not; that of the least
         number first. Another history of the number has another message of this seq."""
-        return self._copies.of(author, site, seq, lambda last: self._typed_in(last, seq) == data)
+        return [copy for copy, _ in self._made_for(author, site, seq, data)]
 
-    def _typed_in(self, last: bytes, seq: int) -> bytes | None:
-        """What the message of a seq inserts, of those of an entry or of those to which it is chained; None where it isn't here."""
+    def is_made_anew(self, author: bytes, site: int, seq: int, data: bytes) -> bool:
+        """Whether one of these counts."""
+        return any(copy.seq <= self.front_up_to(copy.author, copy.site, last) for copy, last in self._made_for(author, site, seq, data))
+
+    def _made_for(self, author: bytes, site: int, seq: int, data: bytes) -> list[tuple[Copy, bytes]]:
+        return self.copies.of(author, site, seq, lambda last: (of := self.message_in(last, seq)) is not None and typed(of) == data)
+
+    def message_in(self, last: bytes, seq: int) -> Message | None:
+        """The message of a seq, of those of an entry or of those to which it is chained; None where it isn't here."""
         while last in self._outside:
             entry = self._outside.row(last).entry
             if entry.first <= seq:
-                return typed(entry.messages[seq - entry.first]) if seq <= entry.last else None
+                return entry.messages[seq - entry.first] if seq <= entry.last else None
             last = entry.before
         number = self._ledger.number(last)
         line = self._chains[self._ledger.client(number)[0]].line if number is not None else None
         at = line.at(number) if line and number is not None else None
-        return typed(line.message(seq)) if line and at is not None and 0 < seq <= line.lasts[at] else None
+        return line.message(seq) if line and at is not None and 0 < seq <= line.lasts[at] else None
 
     def is_copied(self, entry: Entry, seq: int) -> bool:
         """Whether something stands for a message of an entry that counts."""
-        return self._copies.speak_of(entry.author, entry.site) and any(
-            first <= seq <= last for first, last in self._copies.stretches(entry, self))
+        return self.copies.speak_of(entry.author, entry.site) and any(
+            first <= seq <= last for first, last in self.copies.stretches(entry, self))
 
     def wrong(self) -> list[Message]:
         """The messages that are wrong, and with which what follows of their sites is left out."""
@@ -469,6 +476,8 @@ class Judge:
             if of in self._outside:
                 self._outside.remove(of)
                 self._changed()
+            if of in self.copies.lasts:
+                self._changed()
             number = self._ledger.add(last, numbers[-1] if numbers else 0)
             chain.add(number)
             self._in_chains += 1
@@ -576,7 +585,7 @@ class Judge:
             _, other, time = heapq.heappop(waiting)
             self._has_one_more(self._chains[other], time, site, woken)
         ends = self._ends_of_lost.get(site, [])
-        if run.seq <= self._copies.sites.get(site, 0) or bisect_left(ends, run.seq) < bisect_right(ends, chain.front):
+        if run.seq <= self.copies.sites.get(site, 0) or bisect_left(ends, run.seq) < bisect_right(ends, chain.front):
             self._changed()
         if site in self._lacking:
             self._turns.add(site)
@@ -705,9 +714,9 @@ class Judge:
     def _lost(self) -> Iterator[LeftOut]:
         """What lost its place to a smaller hash, and what is chained to that."""
         known: dict[bytes, bool] = {}
-        for entry, typed in self._outside.settled():
+        for entry, text in self._outside.settled():
             if entry.size and self._is_lost(entry, known) and not (self._stands_elsewhere(entry) or self._was_made_anew(entry)):
-                yield from not_copied(entry, 1, typed, self._copies, self)
+                yield from not_copied(entry, 1, text, self.copies, self)
 
     def _is_lost(self, entry: Entry, known: dict[bytes, bool]) -> bool:
         """Whether an entry that is in no chain had its place, or has it after one that lost its."""
@@ -739,7 +748,7 @@ class Judge:
     def _said_without_copies(self, who: Who) -> Collection[bytes]:
         """Up to which entries an author says that what doesn't count was made anew, where he doesn't say which messages stand for
         which. What counted as he said so was not made anew, and may count no more."""
-        return () if self._copies.are_told_by(*who) else self._made_anew.get(who, ())
+        return () if self.copies.are_told_by(*who) else self._made_anew.get(who, ())
 
     def _stands_elsewhere(self, entry: Entry) -> bool:
         """Whether another entry that counts has the same messages; looked at again once that may be so."""
@@ -761,7 +770,7 @@ class Judge:
         for site in sorted(self._built_on_what_was_left_out()):
             (begin, end), line = self._held_up(site, is_told=True), self._chains[site].line
             for number in line.numbers[line.at_seq(begin + 1):] if begin < end else ():
-                yield from not_copied(self._ledger.entry(number), begin + 1, self._typed(number), self._copies, self)
+                yield from not_copied(self._ledger.entry(number), begin + 1, self._typed(number), self.copies, self)
 
     # Room.
 
@@ -804,4 +813,3 @@ class Judge:
             self._outside.remove(row.entry.hash)
         self._dropped.append(row)
         self._lacking.add(row.entry.site)
-

@@ -5,7 +5,7 @@ from share.editors.terminal.keys import CONTROL, DOT
 from share.text.looks import COLOURS, Run, told
 from share.text.rope import shown, swapped
 
-PAGE = """<!doctype html>
+TEMPLATE = """<!doctype html>
 <html lang="en">
 <head>
 <meta charset="utf-8">
@@ -29,7 +29,7 @@ def page(title: str, text: bytes, runs: list[Run]) -> str:
         style = _style(run)
         parts.append(f'<span style="{style}">{words}</span>' if style else words)
     # A line end right after the tag would be dropped.
-    return PAGE.format(title=html.escape(title), body="\n" + "".join(parts))
+    return TEMPLATE.format(title=html.escape(title), body="\n" + "".join(parts))
 
 
 def _escaped(data: bytes) -> str:

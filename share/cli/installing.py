@@ -18,14 +18,14 @@ from share.program.process import BUILT, BUILT_FROM, TOP, command, file_of, is_u
 from share.text.errors import Trouble
 
 PREFIX = "/usr/local"
-LIB, CURRENT, RECORD, NEW = "lib", "vialshoal", "installed", "new"
+LIB, CURRENT, MANIFEST, NEW = "lib", "vialshoal", "installed", "new"
 TREE = re.compile(r"vialshoal-[0-9a-f]{8}")
 ROOMS = ("text", "format", "admission", "log", "program", "store", "sync", "engine", "editors", "cli")
 PARTS = ("bin/note", "bin/built", "share/*.py", *(f"share/{room}/**/*.py" for room in ROOMS), "share/editors/web/*.*",
          "share/completions/*.bash", "editors/emacs/vialshoal.el", "editors/neovim/plugin/*.lua",
          "editors/neovim/lua/vialshoal/*.lua", "editors/neovim/doc/*", "docs/SHARING.md", "docs/ENGINE.md", "docs/man/*.1")
 PROGRAM = str(BUILT.relative_to(TOP))
-RECORD_OF_PROGRAM = str(BUILT.with_name(BUILT_FROM).relative_to(TOP))
+PROGRAM_BUILT_FROM = str(BUILT.with_name(BUILT_FROM).relative_to(TOP))
 # What is looked for elsewhere, and where it is in the folder.
 LINKS = {
     "bin/note": "bin/note",
@@ -40,17 +40,18 @@ LINKS = {
 }
 RUN = ("bin/note", "bin/built", PROGRAM)
 FILE_MODE, RUN_MODE = 0o644, 0o755
-Record = dict[str, list[str]]
-VERBS = ("install", "uninstall")
+Manifest = dict[str, list[str]]
+INSTALLING_VERBS = ("install", "uninstall")
 ABOUT = {
     "install": "Installs note and site_cli, the Emacs package, the Neovim plug-in, the manual's pages and what bash "
                "completes, in place of what was installed before. What is there of others is refused.",
     "uninstall": "Takes away what install has put there, and nothing else.",
 }
-END = "A packager sets DESTDIR, the folder below which the files are to be. Ends with 2 and a sentence where it can't be done."
+DESTDIR_AND_STATUSES = ("A packager sets DESTDIR, the folder below which the files are to be. "
+                        "Ends with 2 and a sentence where it can't be done.")
 
 
-class Place:
+class Prefix:
     """A prefix, below the folder in which a packager collects files."""
 
     def __init__(self, prefix: str):
@@ -62,13 +63,13 @@ class Place:
 
     def install(self) -> None:
         """Puts all in its place, instead of what was installed before; where that can't be done, nothing."""
-        files = _files()
+        files = _files_to_install()
         self._refuse_what_is_in_the_way()
         with contextlib.ExitStack() as undo:
             made = self._make_folders(self._lib, undo)
             with _alone(self._lib):
                 before = self._trees()
-                folders = {folder for tree in before for folder in _record(tree).get("folders", [])}
+                folders = {folder for tree in before for folder in _manifest(tree).get("folders", [])}
                 folders |= {*made, *(folder for path in LINKS for folder in self._missing(self.root / path))}
                 tree = self._lib / f"{CURRENT}-{secrets.token_hex(4)}"
                 undo.callback(_take_away, tree)
@@ -91,7 +92,7 @@ class Place:
             others = [str(self.root / path) for path in LINKS if os.path.lexists(self.root / path) and not self._is_own(path)]
             for path in filter(self._is_own, LINKS):
                 (self.root / path).unlink()
-            folders = {folder for tree in trees for folder in _record(tree).get("folders", [])}
+            folders = {folder for tree in trees for folder in _manifest(tree).get("folders", [])}
             if self._leads_to_a_tree():
                 self._current.unlink()
             for tree in trees:
@@ -157,25 +158,25 @@ def _program() -> pathlib.Path:
     return path
 
 
-def _files() -> dict[str, pathlib.Path]:
+def _files_to_install() -> dict[str, pathlib.Path]:
     """The files of an installation, and what they are copies of."""
     found = {str(path.relative_to(TOP)): path for part in PARTS for path in sorted(TOP.glob(part)) if path.is_file()}
     program = _program()
     record = program.with_name(BUILT_FROM)
-    return found | {PROGRAM: program} | ({RECORD_OF_PROGRAM: record} if record.is_file() else {})
+    return found | {PROGRAM: program} | ({PROGRAM_BUILT_FROM: record} if record.is_file() else {})
 
 
 def _fill(tree: pathlib.Path, files: dict[str, pathlib.Path], folders: list[str]) -> None:
     """Has a folder have all files. First comes the list of them, so that what was begun can be taken away."""
     tree.mkdir()
     os.chmod(tree, RUN_MODE)
-    record = {"files": [*files, NEW], "folders": folders}
-    _write(tree, RECORD, json.dumps(record, indent=1).encode())
+    manifest = {"files": [*files, NEW], "folders": folders}
+    _write_file(tree, MANIFEST, json.dumps(manifest, indent=1).encode())
     for path, source in files.items():
-        _write(tree, path, source.read_bytes())
+        _write_file(tree, path, source.read_bytes())
 
 
-def _write(tree: pathlib.Path, path: str, data: bytes) -> None:
+def _write_file(tree: pathlib.Path, path: str, data: bytes) -> None:
     for folder in reversed(pathlib.PurePath(path).parents):
         (tree / folder).mkdir(exist_ok=True)
         os.chmod(tree / folder, RUN_MODE)
@@ -183,10 +184,10 @@ def _write(tree: pathlib.Path, path: str, data: bytes) -> None:
     os.chmod(tree / path, RUN_MODE if path in RUN else FILE_MODE)
 
 
-def _record(tree: pathlib.Path) -> Record:
+def _manifest(tree: pathlib.Path) -> Manifest:
     """The list of what was put into a folder; nothing where its writing was cut."""
     with contextlib.suppress(OSError, ValueError):
-        found = json.loads((tree / RECORD).read_bytes())
+        found = json.loads((tree / MANIFEST).read_bytes())
         if isinstance(found, dict):
             return found
     return {}
@@ -194,12 +195,12 @@ def _record(tree: pathlib.Path) -> Record:
 
 def _take_away(tree: pathlib.Path) -> None:
     """Takes away a folder with what was put into it. What others put there stays."""
-    files = _record(tree).get("files", [])
+    files = _manifest(tree).get("files", [])
     for path in files:
         (tree / path).unlink(missing_ok=True)
     folders = {str(one) for path in files for one in pathlib.PurePath(path).parents} - {"."}
     _remove_empty(tree / one for one in sorted(folders, reverse=True))
-    (tree / RECORD).unlink(missing_ok=True)
+    (tree / MANIFEST).unlink(missing_ok=True)
     _remove_empty([tree])
 
 
@@ -223,18 +224,18 @@ def _alone(folder: pathlib.Path) -> Iterator[None]:
 def run(words: Sequence[str]) -> int:
     """Does what `install` or `uninstall` say; the status."""
     verb = words[0]
-    own = TOP.parent.parent if (TOP / RECORD).exists() else pathlib.Path(PREFIX)
-    parser = argparse.ArgumentParser(f"bin/note {verb}", description=ABOUT[verb], epilog=END)
+    own = TOP.parent.parent if (TOP / MANIFEST).exists() else pathlib.Path(PREFIX)
+    parser = argparse.ArgumentParser(f"bin/note {verb}", description=ABOUT[verb], epilog=DESTDIR_AND_STATUSES)
     parser.add_argument("--prefix", metavar="DIR", default=str(own), help="where to; without it %(default)s")
-    place = Place(parser.parse_args(words[1:]).prefix)
+    prefix = Prefix(parser.parse_args(words[1:]).prefix)
     try:
         if verb == "install":
             make_ready()
-            place.install()
+            prefix.install()
             what = ", with a program that isn't proved" if is_unproved(command()) else ""
-            print(f"Installed under {place.root}{what}. bin/note uninstall takes it away.")
+            print(f"Installed under {prefix.root}{what}. bin/note uninstall takes it away.")
         else:
-            for path in place.uninstall():
+            for path in prefix.uninstall():
                 print(f"note: {path} stays, since others have put something there.", file=sys.stderr)
     except OSError as why:
         raise Trouble(f"{'Nothing was installed' if verb == 'install' else 'Not all was taken away'}: {why}.") from why

@@ -12,16 +12,15 @@ from share.engine import protocol, server
 from share.engine.engine import Engine
 from share.sync.session import CLOSE_SECONDS, Session
 from share.text.errors import Trouble
-from share.text.line import Line
+from share.text.line import MOST_LINE, PIECE, Assembler, Line
 
 # How long an engine may take for an answer, and a log for a number.
-ANSWER_SECONDS, NUMBER_SECONDS = 120.0, 5.0
-TURN_SECONDS = 0.02
-PIECE = 1 << 18
-Opens = Callable[[Callable[[], None]], Session]
+ENGINE_SECONDS, GET_NUMBER_SECONDS = 120.0, 5.0
+RECEIVE_SECONDS = 0.02
+OpensSession = Callable[[Callable[[], None]], Session]
 
 
-class Way(Protocol):
+class Channel(Protocol):
     """What lines go through."""
 
     def send(self, data: bytes) -> None:
@@ -60,7 +59,7 @@ class BySocket:
 class InPlace:
     """An engine in this process."""
 
-    def __init__(self, name: str, opens: Opens):
+    def __init__(self, name: str, opens: OpensSession):
         self._woken, self._waking = os.pipe()
         self._out = bytearray()
         self._engine = Engine(name, lambda: opens(self._wake), self._wake)
@@ -76,7 +75,7 @@ class InPlace:
     def receive(self, seconds: float) -> bytes:
         """What came of it, and of others' edits."""
         self._engine.turn()
-        if not self._out and select.select([self._woken], [], [], min(seconds, TURN_SECONDS))[0]:
+        if not self._out and select.select([self._woken], [], [], min(seconds, RECEIVE_SECONDS))[0]:
             os.read(self._woken, PIECE)
         data = bytes(self._out)
         self._out.clear()
@@ -89,11 +88,13 @@ class InPlace:
         os.close(self._waking)
 
 
-class Client:
+class ScriptNote:
     """A note that is open for a script."""
 
-    def __init__(self, way: Way):
-        self._way, self._coming, self._asked = way, b"", 0
+    def __init__(self, way: Channel):
+        self._way, self._asked = way, 0
+        # An engine's lines have no bound: one may have all the text.
+        self._assembler = Assembler(None)
         self.state: Line = {}
         # What the user is to be told.
         self.says: list[str] = []
@@ -108,8 +109,8 @@ class Client:
     def ask(self, what: str, **more: object) -> Line:
         """What a request is answered; Trouble where that is an error."""
         self._asked += 1
-        self._way.send(protocol.written({"do": what, "id": self._asked, **more}))
-        answer = self._until(lambda line: line.get("id") == self._asked, ANSWER_SECONDS)
+        self._way.send(protocol.serialize({"do": what, "id": self._asked, **more}))
+        answer = self._until(lambda line: line.get("id") == self._asked, ENGINE_SECONDS)
         if answer is None:
             raise Trouble("The note's engine doesn't answer.")
         if "error" in answer:
@@ -118,7 +119,7 @@ class Client:
 
     def edit(self, changes: list[tuple[int, int, str]]) -> None:
         """Changes the text as it was opened, once; it is on the disk then."""
-        if sum(len(protocol.written({"": text})) for _, _, text in changes) > protocol.MOST_LINE // 2:
+        if sum(len(protocol.serialize({"": text})) for _, _, text in changes) > MOST_LINE // 2:
             raise Trouble("This is more than a note takes at once.")
         self._wait_for_number()
         self.ask("edit", version=0, edits=1, changes=changes)
@@ -142,15 +143,14 @@ class Client:
     def _wait_for_number(self) -> None:
         """Waits until something can be typed."""
         if not self.state.get("types"):
-            self._until(lambda line: line.get("notice") == "state" and line["types"], NUMBER_SECONDS)
+            self._until(lambda line: line.get("notice") == "state" and line["types"], GET_NUMBER_SECONDS)
 
     def _until(self, is_it: Callable[[Line], object], seconds: float) -> Line | None:
         """The first line that is the one; None where none comes."""
         end = time.monotonic() + seconds
         while time.monotonic() < end:
-            *whole, self._coming = (self._coming + self._way.receive(TURN_SECONDS)).split(b"\n")
             found = None
-            for line in map(protocol.read, whole):
+            for line in map(protocol.parse, self._assembler.lines(self._way.receive(RECEIVE_SECONDS))):
                 if line.get("notice") == "state":
                     self.state = line
                 elif line.get("notice") == "says":
@@ -163,14 +163,14 @@ class Client:
 
 
 @contextmanager
-def opened(name: str, opens: Opens) -> Iterator[Client]:
+def note_for_script(name: str, opens: OpensSession) -> Iterator[ScriptNote]:
     """A note, by its engine or by itself."""
-    way: Way
+    way: Channel
     if line := server.connected(name):
         way = BySocket(line)
     else:
         way = InPlace(name, opens)
     try:
-        yield Client(way)
+        yield ScriptNote(way)
     finally:
         way.close()

@@ -2,17 +2,14 @@
 and share/engine/vectors what is to come of which lines."""
 import time
 from collections.abc import Callable, Sequence
-from typing import Any
-
+from share.text.line import Line
 from share.text.units import UNITS, Units
 
-# What an engine and an editor send each other.
-Line = dict[str, Any]
 # What is between two positions gives way to a text.
-Replacement = tuple[int, int, str]
+TextChange = tuple[int, int, str]
 
 # Who has typed so long without all being answered reads lines before the next key, for so long at most.
-BUSY_SECONDS, PATIENCE_SECONDS = 0.5, 0.2
+UNANSWERED_SECONDS, PATIENCE_SECONDS = 0.5, 0.2
 # After so many notices the engine is told which version this is, if nothing else has said so.
 NOTICES = 100
 # With so many edits unanswered, what comes is gathered into one.
@@ -35,7 +32,7 @@ class Mirror:
         self._send, self._clock = send, clock
         # Since when not all edits have been answered.
         self._since: float | None = None
-        self._gathered: list[Replacement] = []
+        self._gathered: list[TextChange] = []
         self._more: Line = {}
         self._said_version = self.version
 
@@ -44,7 +41,7 @@ class Mirror:
         """The text."""
         return self.units.decode(bytes(self._data))
 
-    def edit(self, changes: Sequence[Replacement], **more: object) -> None:
+    def edit(self, changes: Sequence[TextChange], **more: object) -> None:
         """Makes an edit of the user's."""
         if more != self._more:
             self._send_gathered()
@@ -68,7 +65,7 @@ class Mirror:
     def waits(self) -> bool:
         """Whether lines are to be read before the next key is taken."""
         is_busy = self.answered < self.made or bool(self._gathered)
-        return is_busy and self._since is not None and self._clock() > self._since + BUSY_SECONDS
+        return is_busy and self._since is not None and self._clock() > self._since + UNANSWERED_SECONDS
 
     def gave_up(self) -> None:
         """Says that this took too long."""
@@ -113,7 +110,7 @@ class Mirror:
             self._said_version = self.version
             self._send({"do": "seen", "version": self.version})
 
-    def _make(self, changes: Sequence[Replacement]) -> None:
+    def _make(self, changes: Sequence[TextChange]) -> None:
         size = self.units.size
         for begin, end, text in changes:
             data = self.units.encode(text)

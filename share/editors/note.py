@@ -10,22 +10,21 @@ import time
 from collections.abc import Callable, Sequence
 from contextlib import suppress
 
-from share.editors.mirror import Mirror, Replacement
+from share.editors.mirror import Mirror, TextChange
 from share.engine import protocol
 from share.sync.session import CLOSE_SECONDS, Bar, Status
 from share.text.change import Change, boundary, found
 from share.text.errors import Trouble
-from share.text.line import Line
+from share.text.line import PIECE, Assembler, Line
 from share.text.rope import swapped
 from share.text.units import UNITS
 
 ENDED = ("The note's engine has ended. Open the note again: all that was typed before is kept, and what isn't there can "
          "be saved from here.")
-PIECE = 1 << 18
 # Where the cursor is, is said so often at most.
-CURSOR_SECONDS = 0.1
+TELL_CURSOR_SECONDS = 0.1
 # A watcher looks again after so long, where nobody has read what came.
-AGAIN_SECONDS = 0.5
+WATCH_SECONDS = 0.5
 UTF_8 = UNITS["utf-8"]
 
 
@@ -72,7 +71,9 @@ class EngineNote:
         # The other end of what is selected.
         self.anchor: int | None = None
         self.notice = ""
-        self._coming, self._goes_on, self._is_closed = b"", False, False
+        self._goes_on, self._is_closed = False, False
+        # An engine's lines have no bound: one may have all the text.
+        self._assembler = Assembler(None)
         self._has_read = threading.Event()
         self._said_cursor: tuple[int, int | None] = (0, None)
         self._cursor_due = 0.0
@@ -88,7 +89,7 @@ class EngineNote:
         for one in early:
             self._take(one)
         while not self.mirror.state:
-            self._receive(AGAIN_SECONDS)
+            self._receive(WATCH_SECONDS)
         threading.Thread(target=self._watch, daemon=True).start()
 
     def type(self, characters: str) -> None:
@@ -114,7 +115,7 @@ class EngineNote:
 
     def replace(self, old: str, new: str) -> int:
         """Puts words in the place of others, wherever they stand; how often."""
-        wanted, changes = old.replace("\r", "\n").encode("utf-8", "ignore"), list[Replacement]()
+        wanted, changes = old.replace("\r", "\n").encode("utf-8", "ignore"), list[TextChange]()
         data, put = swapped(bytes(self.text)), new.replace("\r", "\n").encode("utf-8", "ignore").decode()
         place = data.rfind(wanted) if wanted else -1
         while place >= 0:
@@ -182,7 +183,7 @@ class EngineNote:
         self.cursor, self.top = (boundary(self.text, min(place, len(self.text))) for place in (self.cursor, self.top))
         self.anchor = None
 
-    def _edit(self, changes: Sequence[Replacement], joins: bool) -> bool:
+    def _edit(self, changes: Sequence[TextChange], joins: bool) -> bool:
         """Makes an edit and waits until it is on the disk; False where it was taken out again."""
         begin, _, text = changes[0]
         self.mirror.edit(changes, join=joins)
@@ -208,14 +209,14 @@ class EngineNote:
         """Says where the cursor is, so that others see it."""
         now, places = time.monotonic(), (self.cursor, self.anchor)
         if places != self._said_cursor and now >= self._cursor_due:
-            self._said_cursor, self._cursor_due = places, now + CURSOR_SECONDS
+            self._said_cursor, self._cursor_due = places, now + TELL_CURSOR_SECONDS
             line = {"do": "cursor", "version": self.mirror.version, "at": self.cursor}
             self._send(line if self.anchor is None else line | {"anchor": self.anchor})
 
     def _opened(self) -> Line:
         """What the opening is answered."""
         while True:
-            self._receive(AGAIN_SECONDS)
+            self._receive(WATCH_SECONDS)
             for line in [*self._answers]:
                 self._answers.remove(line)
                 if line.get("answer") == "open":
@@ -233,11 +234,11 @@ class EngineNote:
                 if line["answer"] in (what, ""):
                     self._answers.remove(line)
                     return line
-            self._receive(AGAIN_SECONDS)
+            self._receive(WATCH_SECONDS)
 
     def _send(self, line: Line) -> None:
         try:
-            self._line.sendall(protocol.written(line))
+            self._line.sendall(protocol.serialize(line))
         except OSError as why:
             raise Trouble(ENDED) from why
 
@@ -252,8 +253,7 @@ class EngineNote:
         self._has_read.set()
         if not data:
             raise Trouble(ENDED)
-        *whole, self._coming = (self._coming + data).split(b"\n")
-        for line in map(protocol.read, whole):
+        for line in map(protocol.parse, self._assembler.lines(data)):
             self._take(line)
         return True
 
@@ -271,7 +271,7 @@ class EngineNote:
         """Wakes the editor when something comes."""
         with suppress(OSError, ValueError):
             while not self._is_closed:
-                if select.select([self._line], [], [], AGAIN_SECONDS)[0]:
+                if select.select([self._line], [], [], WATCH_SECONDS)[0]:
                     self._has_read.clear()
                     self._wake()
-                    self._has_read.wait(AGAIN_SECONDS)
+                    self._has_read.wait(WATCH_SECONDS)

@@ -4,9 +4,9 @@ import time
 from collections.abc import Callable
 
 from share.engine import protocol
-from share.engine.formatting import Dress
+from share.engine.formatting import Formatting
 from share.engine.protocol import Wrong
-from share.engine.transform import Carrying
+from share.engine.transform import Transformer
 from share.format import presence
 from share.program.replay import in_units
 from share.program.undo import Undoing
@@ -14,24 +14,25 @@ from share.text.change import Change
 from share.text.line import Line
 from share.text.looks import told
 from share.text.rope import Measured
-from share.text.units import UNITS
+from share.text.units import UNITS, Units
 
-# Cursors are sent so often at most.
-CURSOR_SECONDS = 0.05
-# While so much is on its way to an editor that doesn't read, notices wait.
+# The least time between two notices of cursors.
+SHOW_CURSORS_SECONDS = 0.05
+# The most bytes on their way to an editor that doesn't read, before notices wait.
 MOST_WAITING = 1 << 20
-TOKEN_BYTES = 16
+NOT_OPEN = "The note isn't open: open comes first."
 
 
 class Peer:
-    """An editor. What it is sent goes through a call, and another one says how much of that is still on its way."""
+    """An editor. What it is sent goes through one call, and another says how many bytes of that are still on their way. The
+    engine's thread alone calls it."""
 
     def __init__(self, write: Callable[[bytes], None], waiting: Callable[[], int], who: int):
         self._write, self._waiting, self.who = write, waiting, who
-        self.token = secrets.token_bytes(TOKEN_BYTES)
+        self.token = secrets.token_bytes(presence.TOKEN_BYTES)
         self.name, self.colour = "", ""
         # What it has of the text, from its opening on.
-        self.carrying: Carrying | None = None
+        self._transformer: Transformer | None = None
         self.undoing = Undoing()
         # Where its last typing ended that may go on.
         self.typed_end: int | None = None
@@ -46,21 +47,30 @@ class Peer:
         self._state: Line = {}
         self._cursors: list[Line] = []
         self._cursors_due, self._sends_cursors = 0.0, False
-        # Whether it shows looks; which of them it was sent, with which version, and whether it has dropped these.
+        # Whether it shows looks; which of them it was sent, with which version, and whether it may have dropped these.
         self.sees_looks = False
         self._looks, self._looks_version, self._sends_looks = 0, 0, False
         # Whether cursors are to be sent as soon as they may be.
         self.has_cursors_to_show = False
 
     @property
-    def carry(self) -> Carrying:
-        """What it has of the text; Wrong where it hasn't opened the note."""
-        if self.carrying is None:
-            raise Wrong("order", "The note isn't open: open comes first.")
-        return self.carrying
+    def is_open(self) -> bool:
+        """Whether it has opened the note."""
+        return self._transformer is not None
 
-    def begin(self, request: Line) -> Carrying:
-        """Agrees on units and takes over what the editor says of itself; the text isn't open yet."""
+    @property
+    def transformer(self) -> Transformer:
+        """What it has of the text; Wrong where it hasn't opened the note."""
+        if self._transformer is None:
+            raise Wrong("order", NOT_OPEN)
+        return self._transformer
+
+    def open(self, units: Units) -> None:
+        """Notes that it has the text as that is now."""
+        self._transformer = Transformer(units)
+
+    def greet(self, request: Line) -> Units:
+        """Takes over what the editor says of itself; the units that it counts in. The text isn't open yet."""
         offered = request.get("units")
         if request.get("protocol") != 1:
             raise Wrong("field", "protocol has to be 1.")
@@ -74,17 +84,17 @@ class Peer:
             raise Wrong("field", "name has to be a string, and colour one as #3366cc.")
         self.name, self.colour = presence.clean_name(name) or self.name, colour or self.colour
         self.sees_looks = request.get("looks") is True
-        return Carrying(units)
+        return units
 
     def moved(self, change: Change) -> None:
-        """Has its places follow a change."""
+        """Moves its places along with a change."""
         self.cursor, self.anchor, self.jump, self.typed_end = (
             None if place is None else change.moved(place)
             for place in (self.cursor, self.anchor, self.jump, self.typed_end))
 
     def send(self, line: Line) -> None:
-        """Sends a line."""
-        self._write(protocol.written(line))
+        """Sends a line at once."""
+        self._write(protocol.serialize(line))
 
     def answer_later(self, line: Line) -> None:
         """Answers after the notices that are due."""
@@ -92,60 +102,62 @@ class Peer:
 
     def flush(self, text: Measured) -> None:
         """Sends what has changed for it, and the answers after that."""
-        carrying = self.carrying
-        if carrying and self._waiting() <= MOST_WAITING:
-            if carrying.is_void:
-                carrying.send_text()
-                self.send({"notice": "text", "version": carrying.version, "edits": carrying.edits, "text": text.text()})
+        if self.is_open and self._waiting() <= MOST_WAITING:
+            transformer = self.transformer
+            if transformer.is_void:
+                transformer.send_text()
+                self.send({"notice": "text", "version": transformer.version, "edits": transformer.edits, "text": text.text()})
                 self._sends_cursors = self._sends_looks = True
-            elif carrying.has_news():
-                self._send_changes(carrying, text)
+            elif transformer.has_news():
+                self._send_changes(transformer, text)
             self.jump = None
         answers, self._answers = self._answers, []
         for line in answers:
             self.send(line)
 
-    def _send_changes(self, carrying: Carrying, text: Measured) -> None:
-        units = carrying.units
-        changes = [[begin, end, units.decode(data)] for begin, end, data in carrying.send()]
-        line: Line = {"notice": "changes", "version": carrying.version, "edits": carrying.edits, "changes": changes}
+    def _send_changes(self, transformer: Transformer, text: Measured) -> None:
+        units = transformer.units
+        changes = [[begin, end, units.decode(data)] for begin, end, data in transformer.send()]
+        line: Line = {"notice": "changes", "version": transformer.version, "edits": transformer.edits, "changes": changes}
         if self.jump is not None:
             line["cursor"] = text.position(self.jump, units)
         self.send(line)
 
     def show_state(self, state: Line) -> None:
         """Sends a state that it hasn't been sent."""
-        if self.carrying and state != self._state:
+        if self.is_open and state != self._state:
             self._state = state
             self.send({"notice": "state", **state})
 
     def show_again(self, version: int) -> None:
-        """Has cursors be sent that it may have dropped as it made an edit in a version, and looks that it has."""
+        """Sends cursors again soon, which an edit that was made in this version may have made it drop, and looks that are newer."""
         self._sends_cursors = True
         self._sends_looks = self._sends_looks or version < self._looks_version
 
     def show_cursors(self, cursors: list[Line]) -> None:
         """Sends others' cursors, where they differ from those that it was sent, or it may have dropped these."""
-        if not self.carrying or self.carrying.is_void or not self._sends_cursors and cursors == self._cursors:
+        if not self.is_open or self.transformer.is_void or not self._sends_cursors and cursors == self._cursors:
             self.has_cursors_to_show = False
             return
         now = time.monotonic()
         self.has_cursors_to_show = now < self._cursors_due
         if not self.has_cursors_to_show and self._waiting() <= MOST_WAITING:
             if cursors or self._cursors:
-                self.send({"notice": "cursors", "edits": self.carrying.edits, "cursors": cursors})
+                self.send({"notice": "cursors", "edits": self.transformer.edits, "cursors": cursors})
             self._cursors, self._sends_cursors = cursors, False
-            self._cursors_due = now + CURSOR_SECONDS
+            self._cursors_due = now + SHOW_CURSORS_SECONDS
 
-    def show_looks(self, dress: Dress, text: Measured) -> None:
+    def show_looks(self, formatting: Formatting, text: Measured) -> None:
         """Sends the looks of the text, where they are others than it has. They have a version, so that an edit tells
         whether it has dropped them."""
-        carrying = self.carrying
-        if not carrying or not self.sees_looks or dress.is_due or carrying.is_void or carrying.has_news():
+        if not self.is_open or not self.sees_looks or formatting.is_due:
             return
-        if self._waiting() > MOST_WAITING or dress.times == self._looks and not (self._sends_looks and dress.times):
+        transformer, times = self.transformer, formatting.times
+        if transformer.is_void or transformer.has_news() or self._waiting() > MOST_WAITING:
             return
-        self._looks, self._looks_version, self._sends_looks = dress.times, carrying.send_nothing(), False
+        if times == self._looks and not (self._sends_looks and times):
+            return
+        self._looks, self._looks_version, self._sends_looks = times, transformer.send_nothing(), False
         found: list[Line] = [{"begin": one.begin, "end": one.end, **told(one.looks)}
-                             for one in in_units(text, dress.stretches, carrying.units)]
-        self.send({"notice": "looks", "version": carrying.version, "edits": carrying.edits, "looks": found})
+                             for one in in_units(text, formatting.stretches, transformer.units)]
+        self.send({"notice": "looks", "version": transformer.version, "edits": transformer.edits, "looks": found})

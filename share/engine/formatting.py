@@ -1,4 +1,4 @@
-"""The looks that editors are shown of a note, and when the program is to be asked for them anew."""
+"""The looks that editors are shown of a note, and when the program is asked for them anew."""
 import time
 
 from share.format.operation import may_dress
@@ -6,19 +6,19 @@ from share.program.site import SLICE, Site
 from share.text.change import Change
 from share.text.looks import Dressed, dressed
 
-# So many stretches of a note are shown in looks, from the front on.
-MOST_STRETCHES = 20_000
-# Looks are asked for so often at most, and take a small part of the time.
-LOOK_SECONDS, SHARE_OF_TIME = 0.05, 10
+# The most stretches of a note that are shown in looks, from the front on.
+MOST_FORMATTED = 20_000
+# The least time between two questions for looks, and how many times as long as a question takes it is.
+FORMATTING_SECONDS, PAUSE_FACTOR = 0.05, 10
 
 
-class Dress:
+class Formatting:
     """The stretches of a text whose looks aren't plain, in bytes. They follow the text as an editor's do, where it
-    changes beside them; where it changes within, or looks are set, the program is asked."""
+    changes beside them; where it changes within, or looks are set, the program is asked. The engine's thread alone calls it."""
 
     def __init__(self) -> None:
         self.stretches: list[Dressed] = []
-        # How often they became others than what an editor has that was sent them.
+        # How many times they became others than those that an editor has.
         self.times = 0
         # Whether they are to be asked for as soon as they may be, and whether they surely are others then.
         self.is_due = False
@@ -27,7 +27,7 @@ class Dress:
         self._seen, self._due = 0, 0.0
 
     def moved(self, change: Change) -> None:
-        """Has the stretches follow a change of the text."""
+        """Moves the stretches along with a change of the text."""
         shift, kept = len(change.new) - (change.end - change.begin), list[Dressed]()
         for one in self.stretches:
             if one.begin > change.end:
@@ -39,7 +39,7 @@ class Dress:
         self.stretches = kept
 
     def look(self, site: Site) -> None:
-        """Looks whether a site has other looks now."""
+        """Asks a site for its looks, where they may be others now."""
         if site is not self._site or len(site.history) < self._seen:
             self._site, self._seen, self.is_due = site, 0, bool(self.stretches)
         if len(site.history) > self._seen:
@@ -49,8 +49,8 @@ class Dress:
         now = time.monotonic()
         if not self.is_due or now < self._due:
             return
-        found = dressed(site.runs(), MOST_STRETCHES)
+        found = dressed(site.runs(), MOST_FORMATTED)
         if self._is_torn or found != self.stretches:
             self.times += 1
         self.stretches, self.is_due, self._is_torn = found, False, False
-        self._due = now + max(LOOK_SECONDS, SHARE_OF_TIME * (time.monotonic() - now))
+        self._due = now + max(FORMATTING_SECONDS, PAUSE_FACTOR * (time.monotonic() - now))

@@ -10,12 +10,10 @@ from share.text.change import Change
 from share.text.line import Line
 from share.text.names import Names
 
-# What editors show of themselves is looked at so often.
-SHOW_SECONDS = 0.1
-# So many editors of others are shown at most.
-MOST = 200
-# A character that isn't here is looked for so often, and so many times.
-AGAIN_SECONDS, TIMES = 0.3, 30
+# The most editors of others that are shown.
+MOST_OTHERS = 200
+# The time between two searches for a character that isn't here yet, and how many searches there are.
+SEARCH_SECONDS, SEARCHES = 0.3, 30
 
 
 @dataclass
@@ -26,13 +24,13 @@ class _Other:
     said: Present
     cursor: int | None = None
     anchor: int | None = None
-    # How often what it said last is to be looked for yet, and when.
-    times: int = TIMES
+    # How many searches are left for what it said last, and when the next one is due.
+    searches: int = SEARCHES
     due: float = 0.0
 
 
-class Company:
-    """Others' editors, by their tokens."""
+class OtherEditors:
+    """Others' editors, by their tokens. The engine's thread alone calls it."""
 
     def __init__(self, new_who: Callable[[], int]):
         self._new_who = new_who
@@ -43,13 +41,13 @@ class Company:
         """Takes over what others say."""
         if said is not self._said:
             self._said = said
-            read = {one.editor: one for one in map(presence.read, said[:MOST]) if one}
+            read = {one.editor: one for one in map(presence.read, said[:MOST_OTHERS]) if one}
             for token in self._others.keys() - read.keys():
                 del self._others[token]
             for token, one in read.items():
                 self._take(token, one)
         for other in self._others.values():
-            if other.times and time.monotonic() >= other.due:
+            if other.searches and time.monotonic() >= other.due:
                 self._find(other, site)
 
     def _take(self, token: bytes, one: Present) -> None:
@@ -58,16 +56,16 @@ class Company:
             self._others[token] = _Other(self._new_who(), one)
         elif other.said != one:
             if (other.said.cursor, other.said.anchor) != (one.cursor, one.anchor):
-                other.times, other.due = TIMES, 0.0
+                other.searches, other.due = SEARCHES, 0.0
             other.said = one
 
     def _find(self, other: _Other, site: Site) -> None:
-        """Looks where the characters are shown before the cursor and the other end. One that isn't here yet is looked
-        for again; one that was deleted leaves its place."""
+        """Finds where the characters are shown before the cursor and the other end. One that isn't here yet is searched
+        again; one that was deleted leaves its place."""
         cursor, anchor = other.said.cursor, other.said.anchor
         places = [self._place(site, one) for one in (cursor, anchor)]
         is_found = all(place is not None or one is None for place, one in zip(places, (cursor, anchor)))
-        other.times, other.due = 0 if is_found else other.times - 1, time.monotonic() + AGAIN_SECONDS
+        other.searches, other.due = 0 if is_found else other.searches - 1, time.monotonic() + SEARCH_SECONDS
         other.cursor = None if cursor is None else other.cursor if places[0] is None else places[0]
         other.anchor = None if anchor is None else other.anchor if places[1] is None else places[1]
 
@@ -79,7 +77,7 @@ class Company:
         return found[0].position + 1 if found else None
 
     def moved(self, change: Change, names: list[Names] | None) -> None:
-        """Has their places follow a change; who types goes on with it."""
+        """Moves their places along with a change; the cursor of who types goes behind what was typed."""
         for other in self._others.values():
             typed = bool(names) and change.begin == change.end == other.cursor and all(
                 one.site == other.said.site for one in names or ())

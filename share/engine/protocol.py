@@ -2,13 +2,14 @@
 import json
 import re
 
-from share.text.line import Line
+from share.log.base import Unreachable
+from share.store.note_file import Damaged, Unkept
+from share.text.errors import Trouble
+from share.text.line import MOST_LINE, Line
 from share.text.looks import MOST_COLOUR
 
-# A line has so many bytes at most.
-MOST_LINE = 1 << 25
-# An edit has so many changes at most, which take some seconds.
-MOST_CHANGES = 50_000
+# The most changes of an edit, which take some seconds, and the most stretches that are given looks at once.
+MOST_REPLACEMENTS = 50_000
 # Greater numbers aren't the same in all languages.
 MOST_NUMBER = 2**53 - 1
 MOST_ID = 64
@@ -23,8 +24,16 @@ class Wrong(Exception):
         self.code, self.more = code, more
 
 
-def read(data: bytes) -> Line:
-    """The object that a line has."""
+def failure(fault: Exception) -> Line:
+    """The error of what nobody thought of."""
+    known = isinstance(fault, (Trouble, Unkept, Damaged, Unreachable))
+    return {"error": "failed", "words": str(fault) if known else f"{type(fault).__name__}: {fault}"}
+
+
+def parse(data: bytes | None) -> Line:
+    """The object that a line has; None is a line that was too long."""
+    if data is None:
+        raise Wrong("long", f"The line has more than {MOST_LINE:,} bytes.")
     try:
         line = json.loads(data.decode())
     except (ValueError, RecursionError):
@@ -34,9 +43,15 @@ def read(data: bytes) -> Line:
     return line
 
 
-def written(line: Line) -> bytes:
-    """A line of an object."""
+def serialize(line: Line) -> bytes:
+    """The line of an object, with its end."""
     return json.dumps(line, ensure_ascii=False, separators=(",", ":")).encode("utf-8", "replace") + b"\n"
+
+
+def edits_of(request: Line, default: int) -> int:
+    """How many edits an editor says that it has made, if it says so."""
+    given = request.get("edits")
+    return given if type(given) is int and 0 <= given <= MOST_NUMBER else default
 
 
 def number(request: Line, name: str, default: int | None = None) -> int:
@@ -47,7 +62,7 @@ def number(request: Line, name: str, default: int | None = None) -> int:
     return value
 
 
-def words(request: Line, name: str) -> str:
+def string(request: Line, name: str) -> str:
     """A field that is a string."""
     value = request.get(name)
     if not isinstance(value, str) or not is_whole(value):
@@ -72,16 +87,16 @@ def replacements(request: Line) -> list[tuple[int, int, str]]:
     found = request.get("changes")
     if not isinstance(found, list) or not all(_is_replacement(one) for one in found):
         raise Wrong("field", "changes has to be a list of [begin, end, text].")
-    if len(found) > MOST_CHANGES:
-        raise Wrong("long", f"An edit has {MOST_CHANGES:,} changes at most.")
+    if len(found) > MOST_REPLACEMENTS:
+        raise Wrong("long", f"An edit has {MOST_REPLACEMENTS:,} changes at most.")
     return [(begin, end, text) for begin, end, text in found]
 
 
 def ranges(request: Line) -> list[tuple[int, int]]:
-    """The stretches that are to have looks."""
+    """The stretches that are given looks."""
     found = request.get("ranges")
-    if not isinstance(found, list) or len(found) > MOST_CHANGES or not all(_is_range(one) for one in found):
-        raise Wrong("field", f"ranges has to be a list of [begin, end], of {MOST_CHANGES:,} at most.")
+    if not isinstance(found, list) or len(found) > MOST_REPLACEMENTS or not all(_is_range(one) for one in found):
+        raise Wrong("field", f"ranges has to be a list of [begin, end], of {MOST_REPLACEMENTS:,} at most.")
     return [(begin, end) for begin, end in found]
 
 
@@ -107,5 +122,3 @@ def _is_replacement(one: object) -> bool:
     begin, end, text = one
     return (type(begin) is int and type(end) is int and isinstance(text, str)
             and max(abs(begin), abs(end)) <= MOST_NUMBER)
-
-

@@ -1,7 +1,7 @@
 """Where an engine meets its editors: a Unix socket in the data folder, which nobody but this account reaches.
 
-An editor starts `bin/note engine NAME`, which hands lines on between its standard input and output and the socket.
-Where no engine listens there, it leaves one running on its own, which ends after its last editor. So no editor's end
+An editor starts `bin/note engine NAME`, which relays lines between its standard input and output and the socket.
+Where no engine listens there, it starts one as a process of its own, which ends after its last editor. So no editor's end
 takes the engine from the others.
 """
 import contextlib
@@ -18,27 +18,26 @@ from collections.abc import Callable, Iterator
 
 from share.engine.editor import Peer
 from share.engine.engine import Engine
-from share.engine.protocol import MOST_LINE
 from share.format.link import Link
 from share.store import notes, read_only
 from share.store.note_file import make_folder
 from share.sync.session import Bar, Session
 from share.text.errors import Trouble
+from share.text.line import PIECE, Assembler
 
-# How long a relay waits for an engine to listen, and an engine for one that is ending.
-START_SECONDS = 60
-AGAIN_SECONDS = 0.01
-# An engine to which nobody has come for so long ends.
-ALONE_SECONDS = 10
-# The note is looked at so often where nothing comes, and at least so often where editors send without a pause.
-TURN_SECONDS, BUSY_SECONDS = 0.5, 0.05
-PIECE, MOST_FILES = 1 << 18, 1_024
-# A pipe that takes something takes so much without making the writer wait.
+# How long a relay waits for an engine to listen, and an engine for one that is ending; and the time between two tries.
+START_SECONDS, TRY_SECONDS = 60, 0.01
+# How long an engine waits for its first editor before it ends.
+FIRST_EDITOR_SECONDS = 10
+# The longest time between two turns: where nothing comes, and where editors send without a pause or are to be told something soon.
+RESTING_SECONDS, PRESSED_SECONDS = 0.5, 0.05
+MOST_FILES = 1_024
+# The most bytes that a pipe which takes something takes without making the writer wait.
 OF_A_PIPE = 4_096
-# So many lines of an editor wait to be done at most, before no more is read.
-MOST_LINES = 1_000
+# The most lines of an editor that wait to be done, before no more is read.
+MOST_UNDONE = 1_000
 CREDENTIALS = struct.Struct("iII")
-Opens = Callable[[Bar, Callable[[], None]], Session]
+ServerOpens = Callable[[Bar, Callable[[], None]], Session]
 
 
 def run_folder() -> pathlib.Path:
@@ -48,7 +47,7 @@ def run_folder() -> pathlib.Path:
 
 @contextlib.contextmanager
 def _socket_path(name: str) -> Iterator[str]:
-    """The path of a note's socket, which is short, whatever the folder's is: a socket's may have 107 bytes."""
+    """The path of a note's socket, which is short even where the folder's isn't: a socket's may have 107 bytes."""
     folder = os.open(run_folder(), os.O_RDONLY | os.O_DIRECTORY | os.O_CLOEXEC)
     try:
         yield f"/proc/self/fd/{folder}/{name}.sock"
@@ -68,8 +67,8 @@ def connected(name: str) -> socket.socket | None:
         return None
 
 
-def agree(name: str, url: str | None, link: Link | None) -> None:
-    """Sees that a link and a log are those of the note that an engine has open, where one does. An engine that has just
+def agree_with_engine(name: str, url: str | None, link: Link | None) -> None:
+    """Checks that a link and a log are those of the note that an engine has open, where one does. An engine that has just
     been started makes the note as its first editor opens that."""
     if line := connected(name):
         with line:
@@ -77,7 +76,7 @@ def agree(name: str, url: str | None, link: Link | None) -> None:
             while not path.exists():
                 if time.monotonic() > end:
                     raise _silent(name)
-                time.sleep(AGAIN_SECONDS)
+                time.sleep(TRY_SECONDS)
         about = read_only.about(path)
         notes.agree(about, name, url, link)
         if url and url != about.url:
@@ -88,7 +87,7 @@ def _silent(name: str) -> Trouble:
     return Trouble(f"The engine of {name} doesn't answer. Look for a process that hangs.")
 
 
-def connected_or_started(name: str, opens: Opens) -> socket.socket:
+def connected_or_started(name: str, opens: ServerOpens) -> socket.socket:
     """A connection to the engine of a note, which is started where it isn't there."""
     notes.path_of(name)
     folder = run_folder()
@@ -100,12 +99,12 @@ def connected_or_started(name: str, opens: Opens) -> socket.socket:
             child = _started(name, opens)
         if time.monotonic() > end:
             raise _silent(name)
-        time.sleep(AGAIN_SECONDS)
+        time.sleep(TRY_SECONDS)
     return line
 
 
-def _started(name: str, opens: Opens) -> int:
-    """Leaves an engine running on its own; the process that waits for its begin."""
+def _started(name: str, opens: ServerOpens) -> int:
+    """Starts an engine as a process of its own; the number of that process."""
     if child := os.fork():
         return child
     status = 1
@@ -116,7 +115,7 @@ def _started(name: str, opens: Opens) -> int:
         nothing = os.open(os.devnull, os.O_RDWR)
         for standard in range(3):
             os.dup2(nothing, standard)
-        # Who waits for the end of something that the editor has open doesn't wait for the engine's.
+        # Nobody who waits for the end of a file that the editor has open is to wait for the engine's.
         os.closerange(3, MOST_FILES)
         serve(name, opens)
         status = 0
@@ -125,8 +124,8 @@ def _started(name: str, opens: Opens) -> int:
         os._exit(status)
 
 
-def serve(name: str, opens: Opens) -> None:
-    """Is the engine of a note until its last editor has left, unless another process is it."""
+def serve(name: str, opens: ServerOpens) -> None:
+    """Runs the engine of a note until its last editor has left, unless another process does."""
     with _lock(name) as has_lock:
         if has_lock:
             Server(name, opens).run()
@@ -134,7 +133,7 @@ def serve(name: str, opens: Opens) -> None:
 
 @contextlib.contextmanager
 def _lock(name: str) -> Iterator[bool]:
-    """Has one process at a time be a note's engine; an engine that is ending is waited for."""
+    """Lets one process at a time run a note's engine, and says whether this one may; waits for one that is ending."""
     file = os.open(run_folder() / f"{name}.lock", os.O_RDWR | os.O_CREAT | os.O_CLOEXEC, 0o600)
     try:
         end = time.monotonic() + START_SECONDS
@@ -146,19 +145,18 @@ def _lock(name: str) -> Iterator[bool]:
             if line := connected(name):
                 line.close()
                 break
-            time.sleep(AGAIN_SECONDS)
+            time.sleep(TRY_SECONDS)
         yield False
     finally:
         os.close(file)
 
 
 class Connection:
-    """A connection to an editor, as the engine's end of it."""
+    """A connection to an editor, as the engine's end of it. The engine's thread alone calls it."""
 
     def __init__(self, end: socket.socket):
         self.end = end
-        self.out, self._in = bytearray(), bytearray()
-        self._skips = False
+        self.out, self._assembler = bytearray(), Assembler()
         # Whether nothing more comes, and whether nothing can be sent either.
         self.has_ended = self.is_broken = False
         # Lines that came and wait to be done; None is one that was too long.
@@ -174,7 +172,7 @@ class Connection:
         return len(self.out)
 
     def send(self) -> None:
-        """Sends as much as goes."""
+        """Sends as much as the editor takes."""
         try:
             while self.out:
                 del self.out[:self.end.send(memoryview(self.out)[:PIECE].tobytes())]
@@ -185,38 +183,22 @@ class Connection:
             self.has_ended = self.is_broken = True
 
     def receive(self) -> None:
-        """Takes in what has come."""
+        """Reads what has come."""
         try:
             data = self.end.recv(PIECE)
         except BlockingIOError:
             return
         except OSError:
             data = b""
-        if not data:
-            self.has_ended = True
-            return
-        begin = len(self._in)
-        self._in += data
-        if b"\n" in data:
-            self._part(self._in.find(b"\n", begin))
-        elif self._skips or len(self._in) > MOST_LINE:
-            self._skips = True
-            self._in.clear()
-
-    def _part(self, end: int) -> None:
-        """Takes out whole lines."""
-        begin = 0
-        while end >= 0:
-            self.lines.append(None if self._skips or end - begin > MOST_LINE else bytes(self._in[begin:end]))
-            self._skips, begin = False, end + 1
-            end = self._in.find(b"\n", begin)
-        del self._in[:begin]
+        self.has_ended = self.has_ended or not data
+        self.lines += self._assembler.lines(data)
 
 
 class Server:
-    """An engine with its editors' connections."""
+    """An engine with its editors' connections. The thread that calls `run` is the engine's; `_wake` may be called by any, and by a
+    signal."""
 
-    def __init__(self, name: str, opens: Opens):
+    def __init__(self, name: str, opens: ServerOpens):
         self._name = name
         self._woken, self._waking = os.pipe()
         os.set_blocking(self._woken, False)
@@ -233,7 +215,7 @@ class Server:
         for number in signal.SIGTERM, signal.SIGINT:
             signal.signal(number, lambda *_: self._stop())
         self._listen()
-        end = time.monotonic() + ALONE_SECONDS
+        end = time.monotonic() + FIRST_EDITOR_SECONDS
         try:
             while not self._stops and (self._editors or time.monotonic() < end or not self._is_left_alone()):
                 self._turn()
@@ -248,7 +230,7 @@ class Server:
         self._wake()
 
     def _is_left_alone(self) -> bool:
-        """Has nobody come any more, unless somebody has come in this moment. Who comes later starts another engine,
+        """Stops listening, unless somebody has come in this moment; whether nobody has. Whoever comes later starts another engine,
         which waits for the end of this one."""
         with _socket_path(self._name) as path:
             os.unlink(path)
@@ -261,7 +243,7 @@ class Server:
         return not self._editors
 
     def _listen(self) -> None:
-        """Puts the note's socket in its place once it listens, so that who finds it is heard."""
+        """Puts the note's socket in its place once it listens, so that whoever finds it is answered."""
         with _socket_path(self._name) as path, _socket_path(f".{os.getpid()}") as fresh:
             with contextlib.suppress(FileNotFoundError):
                 os.unlink(fresh)
@@ -276,12 +258,12 @@ class Server:
         self._selector.register(self._listener, selectors.EVENT_READ)
 
     def _progress(self, done: int, total: int) -> None:
-        """Says how far a long history is read: as the note is opened, and where much comes at once."""
+        """Tells editors how far a long history is read: as the note is opened, and where much comes at once."""
         self._engine.progress(done, total)
         self._send_now()
 
     def _send_now(self) -> None:
-        """Sends what goes in the midst of something that takes long."""
+        """Sends what can be sent, in the midst of something that takes long."""
         for editor in [*self._editors]:
             editor.send()
 
@@ -293,7 +275,7 @@ class Server:
         for editor in self._editors:
             self._wait_for(editor)
         goes_on = self._engine.has_more() or any(editor.lines for editor in self._editors)
-        seconds = 0 if goes_on else BUSY_SECONDS if self._engine.is_restless() else TURN_SECONDS
+        seconds = 0 if goes_on else PRESSED_SECONDS if self._engine.is_restless() else RESTING_SECONDS
         for key, events in self._selector.select(seconds):
             if key.fileobj is self._listener:
                 self._accept()
@@ -307,9 +289,9 @@ class Server:
         self._send()
 
     def _wait_for(self, editor: Connection) -> None:
-        """Has the next turn begin as soon as an editor sends something, or takes something."""
-        # Who sends more than is done is read later.
-        reads = not editor.has_ended and len(editor.lines) < MOST_LINES
+        """Watches whether an editor sends something, or takes something, so that the next turn begins then."""
+        # What is sent faster than it is done is read later.
+        reads = not editor.has_ended and len(editor.lines) < MOST_UNDONE
         wanted = (selectors.EVENT_READ if reads else 0) | (selectors.EVENT_WRITE if editor.out else 0)
         known = self._selector.get_map().get(editor.end.fileno())
         if known and known.events == wanted:
@@ -334,8 +316,8 @@ class Server:
         self._editors[editor] = self._engine.joined(editor.write, editor.waiting)
 
     def _do_lines(self) -> None:
-        """Does what has come, editor by editor, until what came from others has to be looked at."""
-        end = time.monotonic() + BUSY_SECONDS
+        """Does what has come, editor by editor, until it is time to take in what came from others."""
+        end = time.monotonic() + PRESSED_SECONDS
         while time.monotonic() < end:
             waiting = [editor for editor in self._editors if editor.lines]
             if not waiting:
@@ -356,7 +338,8 @@ class Server:
 
 
 class Relay:
-    """Hands bytes on between standard input and output and a socket, both ways at once."""
+    """Relays bytes between standard input and output and a socket, both ways at once. It is all that its
+    process does, in one thread."""
 
     def __init__(self, line: socket.socket):
         self._line = line
@@ -365,7 +348,7 @@ class Relay:
         line.setblocking(False)
 
     def run(self) -> None:
-        """Hands on until the engine ends the line."""
+        """Relays until the engine closes the connection."""
         poll = select.poll()
         while not (self._is_over and not self._to_editor):
             for end, wanted in self._wanted():
@@ -400,7 +383,7 @@ class Relay:
                 self._line.shutdown(socket.SHUT_WR)
 
     def _exchange(self, events: int) -> None:
-        """Reads and writes as much as goes."""
+        """Reads from the socket and writes to it, as much as it takes."""
         try:
             if events & select.POLLOUT:
                 del self._to_engine[:self._line.send(self._to_engine[:PIECE])]
@@ -415,7 +398,7 @@ class Relay:
             self._to_engine.clear()
 
 
-def relayed(name: str, opens: Opens) -> None:
-    """Is an editor's way to the engine of a note."""
+def relayed(name: str, opens: ServerOpens) -> None:
+    """Relays between an editor and the engine of a note."""
     with connected_or_started(name, opens) as line:
         Relay(line).run()

@@ -1,20 +1,22 @@
 """What one editor has of a text: which version, with how many of its own edits, and what it has yet to take over.
 
-The engine numbers what it sends. An editor takes a notice over where that counts all edits which it has made, and
-drops it otherwise; the next edit tells which it was, since it has the version in which it was made.
+This is operational transformation with two counters, as in Jupiter (D. Nichols, P. Curtis, M. Dixon and J. Lamping,
+"High-latency, low-bandwidth windowing in the Jupiter collaboration system", UIST 1995), except that the engine alone
+transforms. It numbers what it sends. An editor takes a notice over where that counts all edits which it has made, and drops
+it otherwise; its next edit names the version in which it was made, and so says which notices it had taken over.
 """
 from collections.abc import Sequence
 
 from share.engine.protocol import Wrong
-from share.text.delta import NOTHING, Op, all_composed, carried_over, growth, in_turn, moved, of_changes
+from share.text.delta import NOTHING, Op, all_composed, growth, in_turn, moved, of_changes, transformed
 from share.text.units import Units
 
-# So many notices are kept that an editor may or may not have taken over.
+# The most notices that are kept because an editor may not have taken them over.
 MOST_SENT = 2_000
 
 
-class Carrying:
-    """One editor's text, beside the engine's."""
+class Transformer:
+    """One editor's text, beside the engine's. The engine's thread alone calls it."""
 
     def __init__(self, units: Units):
         self.units = units
@@ -32,7 +34,7 @@ class Carrying:
         return self._had is None and not self._sent
 
     def changed(self, op: Op) -> None:
-        """The engine's text has changed."""
+        """Takes over a change of the engine's text, which is to be sent."""
         if op:
             self._unsent.append(op)
         if len(self._unsent) > MOST_SENT:
@@ -50,7 +52,7 @@ class Carrying:
         return in_turn(op, self.units)
 
     def send_nothing(self) -> int:
-        """Says that something is sent that leaves the text as it is, as a new version, which this is."""
+        """The new version of something that is sent and leaves the text as it is."""
         self._send(NOTHING)
         return self.version
 
@@ -66,16 +68,16 @@ class Carrying:
         self._sent.insert(0, (older[-1][0], all_composed([op for _, op in older], self.units)))
 
     def send_text(self) -> None:
-        """Says that all the text is sent, as a new version."""
+        """Notes that the whole text is sent, as a new version."""
         self.version += 1
         self._sent, self._unsent = [(self.version, NOTHING)], []
 
     def void(self, edits: int) -> None:
-        """Says that it isn't known what the editor shows, which has made so many edits."""
+        """Notes that it isn't known what the editor shows, and how many edits it has made."""
         self.edits, self._had, self._sent, self._unsent = edits, None, [], []
 
     def seen(self, version: int) -> None:
-        """The editor has this version."""
+        """Notes that the editor has this version."""
         place = next((place for place, (sent, _) in enumerate(self._sent) if sent == version), None)
         if place is not None:
             self._had = version
@@ -85,20 +87,20 @@ class Carrying:
         elif version != self._had:
             raise Wrong("version", f"There is no version {version} that this editor can have.")
 
-    def carried(self, position: int) -> int:
+    def position(self, position: int) -> int:
         """Where a position of the editor's text is in the engine's."""
         return moved(position, self._pending(), self.units)
 
     def edit(self, version: int, changes: Sequence[tuple[int, int, str]], length: int) -> tuple[Op, Op]:
-        """An edit that was made in a version, carried over to the engine's text, which has so many units; and what
-        is to be sent then. Nothing has changed yet."""
+        """An edit that was made in a version, transformed for the engine's text, whose length in units is given; and what is to
+        be sent after it. Nothing has changed yet."""
         self.seen(version)
         pending = self._pending()
         own = self._own(changes, length - growth(pending, self.units))
-        return carried_over(own, pending, self.units)
+        return transformed(own, pending, self.units)
 
     def edited(self, left: Op) -> None:
-        """The edit is the editor's next one, and this is what it has yet to take over then."""
+        """Counts the edit as the editor's next one; what it has yet to take over then is given."""
         self._sent, self._unsent = [], [left] if left else []
         self.edits += 1
 
@@ -107,7 +109,7 @@ class Carrying:
         return all_composed([op for _, op in self._sent] + self._unsent, self.units)
 
     def _own(self, changes: Sequence[tuple[int, int, str]], length: int) -> Op:
-        """The op of changes of a text of so many units."""
+        """The op of an editor's changes, given the length of its text in units."""
         found = []
         for begin, end, text in changes:
             if not 0 <= begin <= end <= length:

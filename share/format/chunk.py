@@ -235,7 +235,6 @@ class Writer:
             one.did(run.kind, run.mentions[0])
         return True
 
-
     def _types_on(self, run: Run, one: _Expected) -> bool:
         """Adds letters that were typed where this site typed last, which are spelled as they are; whether they are that."""
         if (run.kind != INSERT or (run.seq, run.stamp, run.at) != (one.seq, one.stamp, one.at) or run.looks != one.looks

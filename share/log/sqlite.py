@@ -45,7 +45,7 @@ HELD = "SELECT place, raw = ? FROM entry WHERE hash = ?"
 ADD = "INSERT INTO entry (hash, raw) VALUES (?, ?)"
 STANDS = "SELECT EXISTS (SELECT 1 FROM entry WHERE place = ? AND coalesce(CAST(mark AS INTEGER), 0) = ?)"
 AFTER = ("SELECT place, coalesce(CAST(mark AS INTEGER), 0), CASE WHEN typeof(raw) = 'blob' AND length(raw) <= ? "
-          "THEN raw END FROM entry WHERE place > ? ORDER BY place LIMIT ?")
+         "THEN raw END FROM entry WHERE place > ? ORDER BY place LIMIT ?")
 ON = "SELECT said FROM presence WHERE typeof(said) = 'blob' AND length(said) <= ? ORDER BY seen DESC LIMIT ?"
 # What SQLite says where a table isn't as a log has it. 3.10's sqlite3 has no numbers for that.
 NO_LOG = re.compile(r"no such (table|column)|has no column|cannot modify|malformed|may not be modified")

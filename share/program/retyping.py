@@ -12,9 +12,10 @@ from contextlib import closing
 from typing import NamedTuple
 
 from share.admission.judge import Judge, rank
-from share.admission.left_out import LeftOut
+from share.admission.left_out import LeftOut, not_copied
 from share.format.entry import Author, Copied, Copy, Entry, Form
 from share.format.operation import Message, inserted, mentioned, typed
+from share.program.alike import Alike, One
 from share.program.effects import Stretch
 from share.program.site import Edited, Site, one_by_one
 from share.text.errors import Refused, counted
@@ -49,6 +50,8 @@ class Lost(NamedTuple):
     site: int
     author: bytes
     messages: list[Message]
+    # The hash of the last entry that has some of them; the others are before it.
+    last: bytes
 
     @property
     def text(self) -> bytes:
@@ -69,19 +72,21 @@ def lost(judge: Judge, anew: Set[Made] = frozenset()) -> list[Lost]:
         stretches.setdefault((one.site, one.author), []).append((one.first, one.last))
     found: list[Lost] = []
     for (site, author), seqs in stretches.items():
-        wanted, known, branches = _merged(seqs), set[Message](), dict[bytes, Lost]()
+        wanted, known, branches = _merged(seqs), set[Message](), dict[bytes, list[Message]]()
         for entry in sorted(judge.not_counting(site, author), key=lambda entry: entry.first):
-            messages = [message for message in entry.messages if _is_in(message.seq, wanted) and message not in known
+            messages = [message for message in _not_copied(entry, judge) if _is_in(message.seq, wanted) and message not in known
                         and not judge.is_let_through(message)]
             if messages:
                 known.update(messages)
-                branch = branches.pop(entry.before, None)
-                if branch is None:
-                    branch = Lost(site, author, [])
-                    found.append(branch)
-                branch.messages.extend(messages)
-                branches[entry.hash] = branch
+                branches[entry.hash] = branches.pop(entry.before, []) + messages
+        found += [Lost(site, author, messages, last) for last, messages in sorted(branches.items(), key=lambda one: one[1][0].seq)]
     return found
+
+
+def _not_copied(entry: Entry, judge: Judge) -> list[Message]:
+    """Those of an entry's messages for which no copy stands that counts. Those of another history may have the same seqs."""
+    seqs = {seq for one in not_copied(entry, 1, 0, judge.copies, judge) for seq in range(one.first, one.last + 1)}
+    return [message for message in entry.messages if message.seq in seqs]
 
 
 def _merged(stretches: Iterable[tuple[int, int]]) -> list[tuple[int, int]]:
@@ -174,62 +179,39 @@ class Typed(NamedTuple):
     """What was typed again: the edit, and which of its messages stands for which other one."""
 
     edited: Edited
-    copies: list[tuple[Copy, Message]]
+    copies: list[tuple[One, Message]]
 
 
 def type_again(found: Iterable[Lost], entries: Sequence[Entry], judge: Judge, site: Site) -> Typed:
     """Types at a site, which has all that counts of these entries, what was left out."""
-    left = {message: one.author for one in found for message in one.messages if inserted(message)}
-    made, edits, authors, parts = dict[Message, Message](), list[Edited](), dict(left), _parts(left, judge)
+    ones = [One(Copy(of.author, message.site, message.seq), message, of.last)
+            for of in found for message in of.messages if inserted(message)]
+    left = {one.message: one.copy.author for one in ones}
+    made, edits, alike = dict[Message, Message](), list[Edited](), Alike(ones, judge)
     for _ in range(MOST_VIEWS):
         view = _View(entries, judge, left)
         # Others may have the same names in each view.
-        edits += _typed_as_seen(view, _Typist(site, made, parts))
+        edits += _typed_as_seen(view, _Typist(site, made, alike.typed_for))
         left = {message: author for message, author in left.items() if message not in view.lost}
         if not (view.lost and left):
             break
-    edits.append(_Typist(site, made, parts).type_in_a_row(left, len(site.text()) if left else 0))
-    return Typed(one_by_one(edits), [(Copy(author, old.site, old.seq), made[part]) for old, author in authors.items()
-                                     for part in parts.get(old, [old]) if part in made])
+    edits.append(_Typist(site, made, alike.typed_for).type_in_a_row(left, len(site.text()) if left else 0))
+    return Typed(one_by_one(edits), [(old, made[part]) for old, parts in alike.stood_for() for part in parts if part in made])
 
 
-def _parts(left: Mapping[Message, bytes], judge: Judge) -> dict[Message, list[Message]]:
-    """Of messages that were left out those for which others of them stand, as their authors say, and these, in their order: what was
-    made anew was left out in its turn, and is typed once."""
-    known = {Copy(author, message.site, message.seq): message for message, author in left.items()}
-    found: dict[Message, list[Message]] = {}
-    for message, author in left.items():
-        groups: dict[Who, list[Message]] = {}
-        for copy in judge.copies_of(author, message.site, message.seq, typed(message)):
-            if copy in known and known[copy] != message:
-                groups.setdefault((copy.site, copy.author), []).append(known[copy])
-        for parts in groups.values():
-            if b"".join(map(typed, parts)) == typed(message):
-                found[message] = parts
-    # A copy may have copies, too, and those that say so may be anybody.
-    return {message: last for message in found if (last := _last_of(message, found, MOST_VIEWS))}
-
-
-def _last_of(message: Message, found: Mapping[Message, list[Message]], most: int) -> list[Message]:
-    """The messages that stand for one and for which no others do; nothing where they are too many times copied."""
-    if message not in found:
-        return [message]
-    parts = [_last_of(part, found, most - 1) for part in found[message]] if most else []
-    return [one for part in parts for one in part] if parts and all(parts) else []
-
-
-def words_of(copies: Iterable[tuple[Copy, Message]], form: Form, author: Author, last: Entry) -> list[Entry]:
+def words_of(copies: Iterable[tuple[One, Message]], form: Form, author: Author, last: Entry) -> list[Entry]:
     """The entries by which the author of copies, of which this is the last entry, says what they stand for."""
-    found: dict[tuple[bytes, int], list[tuple[int, int, int]]] = {}
-    for old, new in copies:
-        stretches = found.setdefault((old.author, old.site), [])
+    found: dict[tuple[bytes, int, bytes], list[tuple[int, int, int]]] = {}
+    for one, new in copies:
+        stretches = found.setdefault((one.copy.author, one.copy.site, one.last), [])
         seq, by, size = stretches[-1] if stretches else (0, 0, MOST_COPIES)
-        if size < MOST_COPIES and (seq + size, by + size) == (old.seq, new.seq):
+        if size < MOST_COPIES and (seq + size, by + size) == (one.copy.seq, new.seq):
             stretches[-1] = seq, by, size + 1
         else:
-            stretches.append((old.seq, new.seq, 1))
-    return [form.copies(Copied(*of, author.name, last.site, tuple(stretches[at:at + MOST_STRETCHES]), last.hash), author, last.site)
-            for of, stretches in found.items() for at in range(0, len(stretches), MOST_STRETCHES)]
+            stretches.append((one.copy.seq, new.seq, 1))
+    return [form.copies(Copied(of, site, author.name, last.site, tuple(stretches[at:at + MOST_STRETCHES]), last.hash), author, last.site,
+                        before)
+            for (of, site, before), stretches in found.items() for at in range(0, len(stretches), MOST_STRETCHES)]
 
 
 class _View:
@@ -313,7 +295,8 @@ class _Typist:
     def __init__(self, site: Site, made: dict[Message, Message], parts: Mapping[Message, Sequence[Message]]):
         self.site, self._made, self._parts = site, made, parts
         self._done = _Insertions()
-        self._waiting: list[tuple[int, Message]] = []
+        # What is typed next, each at its place.
+        self._waiting: dict[Message, int] = {}
 
     def type_in_a_row(self, messages: Iterable[Message], place: int) -> Edited:
         """Types messages one after the other from a place on."""
@@ -345,7 +328,7 @@ class _Typist:
         if parts != [message]:
             edits.append(self._type())
             self._done.add(message)
-        return [] if any(part in self._made for part in parts) else parts
+        return [] if any(part in self._made or part in self._waiting for part in parts) else parts
 
     def copies(self, names: Iterable[Names]) -> list[Names]:
         """The names of the characters that stand for these, as far as they were typed again."""
@@ -362,14 +345,14 @@ class _Typist:
         return found
 
     def _put(self, place: int, message: Message) -> Edited:
-        self._waiting.append((place, message))
+        self._waiting[message] = place
         return self._type() if len(self._waiting) >= MOST_AT_ONCE else Edited([])
 
     def _type(self) -> Edited:
         """Types what waits."""
-        waiting, self._waiting = self._waiting, []
-        edits = self.site.replace([(place, place, typed(message)) for place, message in waiting]) if waiting else []
-        for (_, message), edited in zip(waiting, edits):
+        waiting, self._waiting = self._waiting, {}
+        edits = self.site.replace([(place, place, typed(message)) for message, place in waiting.items()]) if waiting else []
+        for message, edited in zip(waiting, edits):
             if edited.refused is not None:
                 raise Refused(edited.refused)
             (self._made[message],) = edited.messages

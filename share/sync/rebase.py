@@ -70,7 +70,7 @@ class Remade:
         holdings, pairs = self._holdings, dict[bytes, list[tuple[int, int]]]()
         for entry, message, seqs in self._each():
             pairs.setdefault(entry.hash, []).extend((message.seq, seq) for seq in seqs or [0])
-            for of, old in holdings.standing.originals(entry, message.seq):
+            for of, old in holdings.standing.originals(entry, message.seq, holdings.rows):
                 if seqs or holdings.judge.entry_of(holdings.rows[of].entry.site, old) != of:
                     pairs.setdefault(of, []).extend((old, seq) for seq in seqs or [0])
         return said(form, holdings.clients, holdings.rows, last, pairs, holdings.withdrawn())

@@ -4,7 +4,7 @@ made the copy that isn't to stay hides it.
 Of a message and all that stands for it the message itself stays, else what its author made anew, else of those copies
 that have its bytes the one of the least site and seq.
 """
-from collections.abc import Callable, Iterator
+from collections.abc import Callable, Iterable, Iterator
 from typing import NamedTuple
 
 from share.admission.judge import Judge
@@ -70,24 +70,26 @@ class Recovered:
 
     def made_here(self, judge: Judge) -> Iterator[tuple[Copy, bool]]:
         """What was typed again here and counts, and whether each message of it is to be hidden."""
-        for whose in sorted(self._own):
-            for one in self._said[whose]:
-                for seq in range(one.seq, one.seq + one.size) if one.own else ():
-                    copy = one.copy(seq)
-                    if copy and judge.message_counts(*copy):
-                        yield copy, self._gives_way(judge, whose, seq, copy)
+        return self._to_be_seen(judge, ((whose, seq, copy) for whose in sorted(self._own) for one in self._said[whose] if one.own
+                                        for seq in range(one.seq, one.seq + one.size) if (copy := one.copy(seq))))
 
     def made_by_others(self, judge: Judge) -> Iterator[tuple[Copy, bool]]:
         """What others typed again and counts, as far as it is looked at, and whether each message of it is to be hidden."""
-        for whose, seq, copy in self._others:
-            if judge.message_counts(*copy):
-                yield copy, self._gives_way(judge, whose, seq, copy)
+        return self._to_be_seen(judge, self._others)
+
+    def _to_be_seen(self, judge: Judge, typed_again: Iterable[tuple[Who, int, Copy]]) -> Iterator[tuple[Copy, bool]]:
+        """A copy may stand for several messages, that were copies themselves: it gives way where it does so for one of them."""
+        found: dict[Copy, bool] = {}
+        for whose, seq, copy in typed_again:
+            if not found.get(copy) and judge.message_counts(*copy):
+                found[copy] = self._gives_way(judge, whose, seq, copy)
+        yield from found.items()
 
     def _gives_way(self, judge: Judge, whose: Who, seq: int, copy: Copy) -> bool:
         """Whether something else stays that stands for a message."""
         site, author = whose
         data = typed(judge.message(copy.site, copy.seq))
-        if any(judge.message_counts(*one) for one in judge.copies_of(author, site, seq, data)):
+        if judge.is_made_anew(author, site, seq, data):
             return True
         others = [Copy(author, site, seq)]
         others += [other for one in self._said[whose] if (other := one.copy(seq)) and (other.site, other.seq) < (copy.site, copy.seq)]

@@ -16,6 +16,7 @@ from share.format.link import is_network
 from share.format.operation import Message, length_after
 from share.log.base import open_log
 from share.program import retyping
+from share.program.alike import One
 from share.program.difference import Shown, differences, shown_by
 from share.program.intake import Coming, Pace
 from share.program.retyping import Lost
@@ -193,7 +194,7 @@ class Session:
 
     def recover(self) -> list[Lost]:
         """Types again what was left out, and says so of it; what that was."""
-        found, holdings, copies = self.lost(), self._holdings, list[tuple[Copy, Message]]()
+        found, holdings, copies = self.lost(), self._holdings, list[tuple[One, Message]]()
         self._was = shown_by(self.site)
 
         def work() -> Edited:
@@ -206,6 +207,8 @@ class Session:
         if found:
             # Who has a copy has the word of it, too.
             self._edited(work, lambda last: retyping.words_of(copies, self._form, self._client.author, last))
+            # Something may stand for what was left out that nobody has said of it yet.
+            self._hide_copies()
         return found
 
     def own(self) -> Set[Who]:
@@ -407,7 +410,7 @@ class Session:
               says: Says = lambda last: (), hidings: Sequence[Copy] = ()) -> None:
         """Puts messages that the site made into the file, after what is said of them up to their last entry, and has them
         sent."""
-        judge, author = self._holdings.judge, self._client.author
+        judge = self._holdings.judge
         made, before, length = [], self._last, judge.length(self.number)
         for part in in_entries(messages, length):
             before = self._form.entry(before, part, self._client.author, judge.built_on(part), length)

@@ -64,9 +64,10 @@ class Standing:
         # What is to be said of old entries that aren't here yet, by the hash of the last of them.
         self._open: dict[bytes, list[tuple[Copied, bool]]] = {}
         self._known: set[bytes] = set()
-        # The old entries of which a copy was made here; those copies, by whose they are.
+        # The old entries of which a copy was made here, and whose those copies are; all copies, by whose they are.
         self._own: dict[bytes, Entry] = {}
-        self._own_copies: dict[Who, list[tuple[bytes, Stretch]]] = {}
+        self._own_copies: set[Who] = set()
+        self._copies: dict[Who, list[tuple[bytes, Piece]]] = {}
         # Copies of which nothing remained when they were lost in their turn.
         self._void: set[Copy] = set()
         # Up to which seq it matters whether a client's messages count.
@@ -105,9 +106,11 @@ class Standing:
         old, new, size = piece.stretch
         for of, last in ((entry.site, entry.author), old + size - 1), ((piece.site, piece.author), new + size - 1):
             self._watched[of] = max(self._watched.get(of, 0), last)
+        if new:
+            self._copies.setdefault((piece.site, piece.author), []).append((entry.hash, piece))
         if piece.own and new:
             self._own[entry.hash] = entry
-            self._own_copies.setdefault((piece.site, piece.author), []).append((entry.hash, piece.stretch))
+            self._own_copies.add((piece.site, piece.author))
         elif piece.own and (entry.site, entry.author) in self._own_copies:
             self._void |= {Copy(entry.author, entry.site, seq) for seq in range(old, old + size)}
 
@@ -125,11 +128,19 @@ class Standing:
         return any(piece.speaks_of(seq) and (not piece.stretch.new or _counts(piece, seq, entry_of, rows))
                    for piece in self._pieces.get(entry.hash, ()))
 
-    def originals(self, copy: Entry, seq: int) -> Iterator[tuple[bytes, int]]:
-        """The messages for which one of these, that was made here, stands: the hashes of their entries, and their seqs."""
-        for of, (old, new, size) in self._own_copies.get((copy.site, copy.author), ()):
-            if new <= seq < new + size:
+    def originals(self, copy: Entry, seq: int, rows: Rows | None) -> Iterator[tuple[bytes, int]]:
+        """The messages for which one of these stands: the hashes of their entries, and their seqs. Without the rows it isn't looked at
+        whether another history of its number has it."""
+        for of, piece in self._copies.get((copy.site, copy.author), ()):
+            old, new, size = piece.stretch
+            if new <= seq < new + size and (rows is None or _entry_of(piece, seq, rows) == copy.hash):
                 yield of, old + seq - new
+
+    def copies(self, entry: Entry, seq: int, rows: Rows) -> Iterator[tuple[bytes, int]]:
+        """The messages that stand for one, whether they count or not: the hashes of their entries, and their seqs."""
+        for piece in self._pieces.get(entry.hash, ()):
+            if (copy := piece.copy(seq)) and (of := _entry_of(piece, copy.seq, rows)):
+                yield of, copy.seq
 
     def fronts(self, counts_up_to: Callable[[bytes, int], int]) -> list[int]:
         """What is to be looked at again where it changes: how far those count of which copies were made here."""
@@ -137,18 +148,19 @@ class Standing:
 
     def made_here(self, entry_of: EntryOf, rows: Rows) -> Iterator[tuple[Copy, bool]]:
         """The copies that were made here and count, and whether each is to be hidden."""
-        return self._to_be_seen(entry_of, lambda piece, seq: _counts(piece, seq, entry_of, rows))
+        return self._to_be_seen(entry_of, lambda piece, seq: _counts(piece, seq, entry_of, rows), rows)
 
     def made_by_all(self, entry_of: EntryOf, front_up_to: FrontUpTo) -> Iterator[tuple[Copy, bool]]:
         """The same of all that is looked at, where all of it was added as if it had been made here."""
         fronts = {piece: front_up_to(piece.author, piece.site, piece.last) if piece.last != NO_HASH else 0
                   for of in self._own for piece in self._pieces[of]}
-        return self._to_be_seen(entry_of, lambda piece, seq: 0 < piece.stretch.new + seq - piece.stretch.old <= fronts[piece])
+        return self._to_be_seen(entry_of, lambda piece, seq: 0 < piece.stretch.new + seq - piece.stretch.old <= fronts[piece], None)
 
-    def _to_be_seen(self, entry_of: EntryOf, counts: Callable[[Piece, int], bool]) -> Iterator[tuple[Copy, bool]]:
+    def _to_be_seen(self, entry_of: EntryOf, counts: Callable[[Piece, int], bool], rows: Rows | None) -> Iterator[tuple[Copy, bool]]:
         for entry in self._own.values():
             for seq in range(entry.first, entry.last + 1):
-                if any(True for _ in self.originals(entry, seq)):
+                # What stands for a copy is said to stand for what that was one of, too.
+                if any(of in self._own for of, _ in self.originals(entry, seq, rows)):
                     continue
                 copies: dict[Who, list[tuple[Copy, bool, bool]]] = {}
                 for piece in self._pieces[entry.hash]:
@@ -163,12 +175,16 @@ class Standing:
 
 def _counts(piece: Piece, seq: int, entry_of: EntryOf, rows: Rows) -> bool:
     """Whether what stands for a message counts: what its author made, and nothing else under the same number."""
-    copy, of = piece.copy(seq), piece.last
-    if copy is None:
-        return False
-    while of in rows and rows[of].entry.first > copy.seq:
+    copy = piece.copy(seq)
+    return copy is not None and (of := _entry_of(piece, copy.seq, rows)) is not None and entry_of(copy.site, copy.seq) == of
+
+
+def _entry_of(piece: Piece, seq: int, rows: Rows) -> bytes | None:
+    """The hash of the entry that has the copy of a seq; None where it isn't here."""
+    of = piece.last
+    while of in rows and rows[of].entry.first > seq:
         of = rows[of].entry.before
-    return of in rows and rows[of].entry.author == copy.author and entry_of(copy.site, copy.seq) == of
+    return of if of in rows and rows[of].entry.author == piece.author else None
 
 
 def _within(stretches: Sequence[tuple[int, int, int]], entry: Entry) -> Iterator[Stretch]:

@@ -180,14 +180,17 @@ class Holdings:
 
     def left_out(self) -> list[Lost]:
         """What others made with a key that is here, and was left out since a smaller hash holds in its place, or since it
-        builds on what was, and that nothing stands for."""
+        builds on what was, and that nothing stands for; of a message and its copies the copies alone."""
         stretches: dict[Who, list[LeftOut]] = {}
         for one in self.judge.left_out():
             if (one.site, one.author) in self.clients:
                 stretches.setdefault((one.site, one.author), []).append(one)
-        found = (self._lost_of(row) for of, ones in stretches.items() for row in self.judge.not_through(*of)
+        found = [self._lost_of(row) for of, ones in stretches.items() for row in self.judge.not_through(*of)
                  if not row.made and not self.judge.is_loose(row.entry.hash)
-                 and any(one.first <= row.entry.last and row.entry.first <= one.last for one in ones))
+                 and any(one.first <= row.entry.last and row.entry.first <= one.last for one in ones)]
+        left = {(entry.hash, message.seq) for entry, messages in found for message in messages}
+        found = [Lost(entry, [message for message in messages
+                              if left.isdisjoint(self.standing.copies(entry, message.seq, self.rows))]) for entry, messages in found]
         return [one for one in found if one.messages]
 
     def _lost_of(self, row: Row) -> Lost:

@@ -17,7 +17,8 @@ MODULES = ["test_storm", "test_all_editors", "test_page", "test_web", "test_kill
            "test_bad_input", "test_joining", "test_printing", "test_wire", "test_same_text", "test_told", "test_parts",
            "test_old", "test_sealing", "test_entry", "test_spelling", "test_reviewed", "test_carried", "test_carrying",
            "test_engine_vectors", "test_before", "test_packing", "test_chunks", "test_keystrokes", "test_slices",
-           "test_standing", "test_differing", "test_holdings", "test_completions", "test_rooms"]
+           "test_standing", "test_differing", "test_holdings", "test_completions", "test_rooms", "test_alike",
+           "test_framing"]
 
 
 def run(module: str) -> tuple[int, int, str]:

@@ -5,10 +5,13 @@ import pathlib
 import select
 import subprocess
 import time
+from collections.abc import Callable
+from typing import IO, Any
 
-from share.editors.mirror import Line, Mirror
+from share.editors.mirror import Mirror, TextChange
 from share.tests.support import NOTE, Case, engine_of
 from share.tests.waiting import PATIENCE, wait_for
+from share.text.line import Line
 
 
 class Editor:
@@ -25,24 +28,34 @@ class Editor:
             variables["VIALSHOAL_LINK"] = link
         self.process = subprocess.Popen(words, env=variables, bufsize=0, stdin=subprocess.PIPE, stdout=subprocess.PIPE)
         assert self.process.stdin and self.process.stdout
-        self._in, self._out = self.process.stdin.fileno(), self.process.stdout.fileno()
+        self._pipes: tuple[IO[bytes], IO[bytes]] = self.process.stdin, self.process.stdout
+        self._in, self._out = (pipe.fileno() for pipe in self._pipes)
         self._coming = b""
         # Lines that came, oldest first, and those that nobody has looked at.
         self.lines: list[Line] = []
-        self.mirror: Mirror | None = None
+        self._mirror: Mirror | None = None
         # Whether lines are handed to the mirror as they come.
         self.listens = True
         if opens:
             answer = self.ask("open", protocol=1, units=[units], **more)
             assert "error" not in answer, answer
-            self.mirror = Mirror(answer, self.send)
+            self._mirror = Mirror(answer, self.send)
             for line in self.lines[self.lines.index(answer) + 1:]:
-                self.mirror.take(line)
+                self._mirror.take(line)
+
+    @property
+    def mirror(self) -> Mirror:
+        """What it has of the note, once that is open."""
+        assert self._mirror
+        return self._mirror
+
+    @mirror.setter
+    def mirror(self, mirror: Mirror) -> None:
+        self._mirror = mirror
 
     @property
     def text(self) -> str:
         """What it shows."""
-        assert self.mirror
         return self.mirror.text
 
     def send(self, line: Line) -> None:
@@ -66,25 +79,22 @@ class Editor:
         return self.wait_for(lambda: next((line for line in self.lines if line.get("id") == given), None),
                              f"an answer to {what}")
 
-    def edit(self, *changes, **more: object) -> None:
+    def edit(self, *changes: TextChange, **more: object) -> None:
         """Makes an edit: changes as (begin, end, text)."""
-        assert self.mirror
         self.mirror.edit(changes, **more)
 
     def type(self, text: str) -> None:
         """Types at the end."""
-        assert self.mirror
         end = self.mirror.units.count(self.mirror.units.encode(self.text))
         self.edit((end, end, text))
 
     def settle(self) -> Line:
         """Waits until all edits are answered; the last answer."""
-        assert self.mirror
         mirror = self.mirror
         self.wait_for(lambda: mirror.answered == mirror.made, "all edits to be answered")
         return next(line for line in reversed(self.lines) if line.get("answer") == "edit" or not mirror.made)
 
-    def wait_for(self, condition, what: str):
+    def wait_for(self, condition: Callable[[], Any], what: str) -> Any:
         """The condition's value, as soon as it is a true one."""
         end = time.monotonic() + PATIENCE
         while not (value := condition()):
@@ -117,8 +127,8 @@ class Editor:
         *lines, self._coming = (self._coming + data).split(b"\n")
         for line in map(json.loads, lines):
             self.lines.append(line)
-            if self.mirror and self.listens:
-                self.mirror.take(line)
+            if self._mirror and self.listens:
+                self._mirror.take(line)
         return bool(data)
 
     def kill(self) -> None:
@@ -128,8 +138,8 @@ class Editor:
 
     def close(self) -> None:
         """Closes the note, and waits until the line has ended."""
-        if self.process.poll() is None and not self.process.stdin.closed:
-            self.process.stdin.close()
+        if self.process.poll() is None and not self._pipes[0].closed:
+            self._pipes[0].close()
             self.listens = False
             while self._receive():
                 pass
@@ -137,14 +147,14 @@ class Editor:
 
     def _end(self) -> None:
         self.process.wait(PATIENCE)
-        for pipe in self.process.stdin, self.process.stdout:
+        for pipe in self._pipes:
             pipe.close()
 
 
 class Engines(Case):
     """A test whose editors are closed at its end."""
 
-    def editor(self, data: str = "data", **more) -> Editor:
+    def editor(self, data: str = "data", **more: Any) -> Editor:
         """An editor of the person of a data folder."""
         editor = Editor(self.folder / data, **more)
         self.addCleanup(editor.close)

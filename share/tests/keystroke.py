@@ -5,6 +5,7 @@ what the terminal is sent for it.
 """
 import fcntl
 import multiprocessing
+import multiprocessing.synchronize
 import os
 import pty
 import random
@@ -59,7 +60,7 @@ def opened() -> Note:
     return Note(Session(notes.opened("large", None, None)))
 
 
-def type_beside(begun) -> None:
+def type_beside(begun: multiprocessing.synchronize.Event) -> None:
     """Types at the note's front, which isn't on the other screen: what is sent to that is for its own keys
     alone."""
     note = opened()

@@ -17,7 +17,7 @@ INSERT, DELETE, CHANGE_LOOKS, RESTORE = 1, 2, 3, 4
 
 # A character: the site that inserted it, and its offset in that site's file.
 Name = tuple[int, int]
-Rank = Callable[[Entry], tuple]
+Rank = Callable[[Entry], tuple[bytes, ...]]
 
 
 class Reading(NamedTuple):
@@ -82,7 +82,7 @@ class _Fields:
         assert self.at <= len(self.data)
 
 
-def rank(entry: Entry) -> tuple:
+def rank(entry: Entry) -> tuple[bytes, ...]:
     """The smaller one of two claims, or of two entries of one place, holds. Two claims of one author are told
     apart by their own hashes."""
     if entry.kind is Kind.CLAIM:
@@ -206,8 +206,9 @@ class Answer:
                    for entry in self.chains.get(messages[0].site, []))
 
     def _is_copied(self, entry: Entry, message: Message, known: Mapping[bytes, Entry]) -> bool:
-        """Whether a copy of a message of an entry counts: by the word of its author, or since it has all that was typed."""
-        others = b""
+        """Whether a copy of a message of an entry counts: by the word of its author, or since it has all that was typed, as one
+        message or as all those of one author and site together."""
+        others: dict[tuple[int, bytes], dict[int, bytes]] = {}
         for one in known.values():
             if one.kind is not Kind.COPIES or (one.copied.author, one.copied.site) != (entry.author, entry.site):
                 continue
@@ -222,8 +223,10 @@ class Answer:
                 if seq <= message.seq < seq + count and (found or not by):
                     if is_authors:
                         return True
-                    others += typed(found) if found and by else b""
-        return bool(others) and others == typed(message)
+                    if found and by:
+                        others.setdefault((found.site, one.copied.by), {})[found.seq] = typed(found)
+        return bool(typed(message)) and any(
+            typed(message) in (b"".join(parts[seq] for seq in sorted(parts)), *parts.values()) for parts in others.values())
 
     def _hashes(self) -> set[bytes]:
         """The hashes of the entries that hold."""
@@ -314,14 +317,14 @@ def tells_copies(entry: Entry, known: Mapping[bytes, Entry]) -> bool:
 
 def is_said_anew(entry: Entry, known: Mapping[bytes, Entry]) -> bool:
     """Whether its author says that it was made anew, and doesn't say what stands for what."""
-    return not tells_copies(entry, known) and any(one.kind is Kind.ANEW and (one.site, one.author) == (entry.site, entry.author)
-               and entry.hash in chained_to(one.before, known) for one in known.values())
+    own = [one for one in known.values() if one.kind is Kind.ANEW and (one.site, one.author) == (entry.site, entry.author)]
+    return not tells_copies(entry, known) and any(entry.hash in chained_to(one.before, known) for one in own)
 
 
 def chained_to(of: bytes, known: Mapping[bytes, Entry]) -> set[bytes]:
-    """An entry, and those to which it is chained."""
+    """An entry, and those to which it is chained. No chain goes through a word."""
     found: set[bytes] = set()
-    while of in known and of not in found:
+    while of in known and (known[of].messages or known[of].kind is Kind.CLAIM):
         found.add(of)
         of = known[of].before
     return found

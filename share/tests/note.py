@@ -2,10 +2,10 @@
 import re
 from collections.abc import Callable
 from dataclasses import dataclass
+from typing import Any
 
 from share.format.operation import DELETE, RESTORE, Message, names_of
 from share.program.site import Edited, Site, Told
-from share.sync.session import Session
 from share.text.change import LINE_END, Change, boundary, change, make
 from share.text.errors import Refused, Trouble
 from share.text.names import Names
@@ -22,7 +22,8 @@ class Undo:
 class Note:
     """The text as this site shows it. Positions count bytes, and stand between characters."""
 
-    def __init__(self, session: Session):
+    # A session, or what a test has in place of one.
+    def __init__(self, session: Any):
         self.session = session
         self.text = bytearray(session.text())
         self.cursor = self.top = 0

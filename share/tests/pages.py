@@ -33,8 +33,12 @@ class Server:
         assert select.select([self.process.stdout], [], [], PATIENCE)[0], "the server says nothing"
         self.said = self.process.stdout.readline()
         self.process.stdout.readline()
-        self.path = pathlib.Path(re.search(r"(/\S+\.html)", self.said)[1])
-        self.address, port, self.secret = FOUND.search(self.path.read_text(encoding="utf-8")).groups()
+        shown = re.search(r"(/\S+\.html)", self.said)
+        assert shown, self.said
+        self.path = pathlib.Path(shown[1])
+        found = FOUND.search(self.path.read_text(encoding="utf-8"))
+        assert found
+        self.address, port, self.secret = found.groups()
         self.port = int(port)
         self.host = f"127.0.0.1:{port}"
 
@@ -42,7 +46,8 @@ class Server:
         """Ends it; the status."""
         if self.process.poll() is None:
             self.process.send_signal(number)
-        self.process.stdout.close()
+        if self.process.stdout:
+            self.process.stdout.close()
         return self.process.wait(PATIENCE)
 
     def get(self, path: str = "/", *headers: str, host: str | None = "") -> tuple[int, bytes, bytes]:

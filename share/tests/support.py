@@ -10,11 +10,12 @@ import subprocess
 import sys
 import tempfile
 import unittest
-from collections.abc import Callable
+from collections.abc import Callable, Iterable, Iterator
 
 from share.admission.judge import Judge, rank
 from share.format import link as links
-from share.format.entry import Form, Kind, Plain, in_entries
+from share.format.entry import Entry, Form, Kind, Plain, in_entries
+from share.format.operation import Message
 from share.log.base import START, Log, open_log
 from share.program.process import Program
 from share.program.site import Edited, Site, Told
@@ -24,7 +25,7 @@ from share.store.read_only import found_in, shown
 from share.sync.session import Session, Status
 from share.tests.note import Note
 from share.tests.servers import RedisServer
-from share.tests.waiting import wait_for
+from share.tests.waiting import wait_for as wait_for
 
 TOP = pathlib.Path(__file__).resolve().parents[2]
 NOTE = str(TOP / "bin" / "note")
@@ -38,7 +39,7 @@ class Person:
         self.data = data
 
     @contextlib.contextmanager
-    def here(self):
+    def here(self) -> Iterator[None]:
         """Has what is opened meanwhile be of this person."""
         before = os.environ.get("VIALSHOAL_DATA")
         os.environ["VIALSHOAL_DATA"] = str(self.data)
@@ -88,9 +89,9 @@ class Case(unittest.TestCase):
         """Somebody with a data folder of this name."""
         return Person(self.folder / name)
 
-    def opened(self, person: Person, *words: str | None, **more: str | None) -> Note:
+    def opened(self, person: Person, name: str = "note", url: str | None = None, link: str | None = None) -> Note:
         """A note that is open until the test ends."""
-        note = person.open(*words, **more)
+        note = person.open(name, url, link)
         self.addCleanup(note.session.close)
         return note
 
@@ -111,12 +112,12 @@ class Case(unittest.TestCase):
         link = self.person(names[0]).link()
         return [first, *(self.opened(self.person(name), link=link) for name in names[1:])]
 
-    def note(self, *words: str, **environment: str) -> subprocess.CompletedProcess:
+    def note(self, *words: str, **environment: str) -> subprocess.CompletedProcess[str]:
         """A run of bin/note."""
         return subprocess.run([NOTE, *words], capture_output=True, text=True, timeout=120, check=False,
                               stdin=subprocess.DEVNULL, env={**os.environ, **environment})
 
-    def assert_says(self, run: subprocess.CompletedProcess, *parts: str) -> None:
+    def assert_says(self, run: subprocess.CompletedProcess[str], *parts: str) -> None:
         """That a command ended with status 2 and one line that has these parts."""
         self.assertEqual(run.returncode, 2, run.stderr)
         self.assertEqual(len(run.stderr.splitlines()), 1, run.stderr)
@@ -143,7 +144,7 @@ class Carried:
         self.form, self.number, self.author = form, number, form.new_author()
         self.judge, self.site = Judge(), Site(number)
         claim = form.claim(number, self.author)
-        self.made, self.coming = [claim], []
+        self.made, self.coming = [claim], list[Entry]()
         self.judge.add(claim)
 
     def text(self) -> bytes:
@@ -225,7 +226,7 @@ class Pair(Case):
         self.assertEqual(self.notes[0].text.decode(), words)
 
 
-def are_alike(notes) -> bool:
+def are_alike(notes: Iterable[Note]) -> bool:
     """Whether notes show the same, with all sent and nothing that waits."""
     for note in notes:
         note.take_in()
@@ -258,7 +259,7 @@ def raws_of(log: Log) -> list[bytes | None]:
     return raws
 
 
-def change(path: pathlib.Path, statement: str, *values) -> None:
+def change(path: pathlib.Path, statement: str, *values: object) -> None:
     """Changes a file of SQLite behind everyone's back."""
     with contextlib.closing(sqlite3.connect(path)) as file, file:
         file.execute(statement, values)
@@ -301,7 +302,7 @@ def take(person: Person, site: int) -> None:
         log.append([other.raw])
 
 
-def plain_text(messages) -> bytes:
+def plain_text(messages: Iterable[Message]) -> bytes:
     """What a plain site shows that takes in messages as they come."""
     program = Program(65_000)
     try:

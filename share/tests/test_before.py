@@ -7,6 +7,7 @@ import pathlib
 import shutil
 import subprocess
 import tarfile
+from typing import Any
 from unittest import mock
 
 from share.admission.ledger import Row
@@ -84,7 +85,7 @@ class Before(Case):
 class AtVersionsOfBefore(Case):
     """Versions that don't know chunks keep and carry what has them, and say so."""
 
-    def before(self) -> mock._patch:
+    def before(self) -> "mock._patch[dict[int, Any]]":
         """Has entries of chunks be of a kind that isn't known, as they were to the version before."""
         known = {number: kind for number, kind in entry.KINDS.items() if kind not in NEW}
         return mock.patch.object(entry, "KINDS", known)
@@ -153,5 +154,3 @@ class AtVersionsOfBefore(Case):
         wait_for(lambda: are_alike([two]), "all to be sent")
         self.assertIn(bad, raws_of(log))
         log.close()
-
-

@@ -8,11 +8,11 @@ from unittest import mock
 from share.editors.mirror import Mirror
 from share.engine import transform
 from share.engine.protocol import Wrong
-from share.engine.transform import Carrying
+from share.engine.transform import Transformer
 from share.program.undo import united, without
 from share.text import rope
 from share.text.change import Change, boundary
-from share.text.delta import carried_over, composed, growth, in_text, in_turn, moved, of_changes
+from share.text.delta import composed, growth, in_text, in_turn, moved, of_changes, transformed
 from share.text.line import Line
 from share.text.names import Names
 from share.text.rope import Measured, Outside, Split, shown, swapped
@@ -47,7 +47,7 @@ class Peer:
     def __init__(self, text: str, units: Units):
         self.to_engine: deque[Line] = deque()
         self.to_editor: deque[Line] = deque()
-        self.carrying = Carrying(units)
+        self.transformer = Transformer(units)
         opened = {"text": text, "version": 0, "edits": 0, "units": units.name}
         self.mirror = Mirror(opened, self.to_engine.append)
 
@@ -76,7 +76,7 @@ class Crossing(unittest.TestCase):
                 self.take(peer, peers, peer.to_engine.popleft())
             else:
                 self.send(peer)
-        while any(peer.to_engine or peer.to_editor or peer.carrying.has_news() or peer.carrying.is_void for peer in peers):
+        while any(peer.to_engine or peer.to_editor or peer.transformer.has_news() or peer.transformer.is_void for peer in peers):
             for peer in peers:
                 while peer.to_engine:
                     self.take(peer, peers, peer.to_engine.popleft())
@@ -84,11 +84,11 @@ class Crossing(unittest.TestCase):
                 while peer.to_editor:
                     peer.mirror.take(peer.to_editor.popleft())
         self.assertEqual({peer.mirror.text for peer in peers}, {self.text})
-        self.assertEqual([peer.mirror.made for peer in peers], [peer.carrying.edits for peer in peers])
+        self.assertEqual([peer.mirror.made for peer in peers], [peer.transformer.edits for peer in peers])
 
     def take(self, peer: Peer, peers: list[Peer], line: Line) -> None:
         """Does what an engine does with a line."""
-        units, carry = peer.carrying.units, peer.carrying
+        units, carry = peer.transformer.units, peer.transformer
         if line["do"] == "seen":
             try:
                 carry.seen(line["version"])
@@ -110,8 +110,8 @@ class Crossing(unittest.TestCase):
         before, self.text = self.text, after(self.text, own, units)
         for other in peers:
             if other is not peer:
-                changes = self.in_units(before, in_text(own, units), units, other.carrying.units)
-                other.carrying.changed(of_changes(changes, other.carrying.units))
+                changes = self.in_units(before, in_text(own, units), units, other.transformer.units)
+                other.transformer.changed(of_changes(changes, other.transformer.units))
         peer.to_editor.append({"answer": "edit", "edits": carry.edits})
 
     @staticmethod
@@ -127,7 +127,7 @@ class Crossing(unittest.TestCase):
 
     def send(self, peer: Peer) -> None:
         """Sends what is new."""
-        carry = peer.carrying
+        carry = peer.transformer
         if carry.is_void:
             carry.send_text()
             peer.to_editor.append({"notice": "text", "version": carry.version, "edits": carry.edits, "text": self.text})
@@ -146,7 +146,7 @@ class Crossing(unittest.TestCase):
                              for changes in (some, others))
             self.assertEqual((after(text, first, units), after(text, second, units)), (one, two))
             self.assertEqual(growth(first, units), units.count(units.encode(one)) - units.count(units.encode(text)))
-            over, under = carried_over(first, second, units)
+            over, under = transformed(first, second, units)
             both = after(one, under, units)
             self.assertEqual(both, after(two, over, units))
             self.assertEqual(after(text, composed(first, under, units), units), both)

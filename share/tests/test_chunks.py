@@ -134,7 +134,7 @@ class Chunks(unittest.TestCase):
 
 def length_of(chunk: bytes) -> int:
     """How many characters a chunk says that its site had."""
-    numbers, at = [], len(BEGIN) + 1
+    numbers, at = list[int](), len(BEGIN) + 1
     while len(numbers) < 4:
         end = next(end for end in range(at, len(chunk)) if chunk[end] < 0x80)
         numbers.append(sum((byte & 0x7F) << 7 * place for place, byte in enumerate(chunk[at:end + 1])))

@@ -4,8 +4,8 @@ import subprocess
 import unittest
 
 from share.cli import installing
-from share.cli import main as note
-from share.cli.verbs import VERBS
+from share.cli.script_words import SCRIPT_VERBS
+from share.cli.words import NOTE_VERBS
 from share.tests.support import NOTE, TOP, Case
 
 COMPLETIONS = TOP / "share" / "completions"
@@ -35,14 +35,14 @@ class Completed(Case):
         return {found for line in listed.splitlines() if line.startswith("  -") for found in OPTION.findall(line)}
 
     def test_verbs(self) -> None:
-        self.assertEqual(sorted(self.offered("")), sorted(note.VERBS + VERBS + installing.VERBS))
+        self.assertEqual(sorted(self.offered("")), sorted(NOTE_VERBS + SCRIPT_VERBS + installing.INSTALLING_VERBS))
         self.assertEqual(self.offered("his"), ["history"])
 
     def test_options(self) -> None:
         self.assertEqual(set(self.offered("--")), self.helped())
-        for verb in VERBS + installing.VERBS:
+        for verb in SCRIPT_VERBS + installing.INSTALLING_VERBS:
             self.assertEqual(set(self.offered(verb, "--")), self.helped(verb), verb)
-        for verb in note.VERBS:
+        for verb in NOTE_VERBS:
             self.assertLessEqual(set(self.offered(verb, "--")), self.helped(), verb)
         self.assertEqual(self.offered("export", "picnic", "--format", ""), ["text", "html"])
 

@@ -3,6 +3,7 @@ who made it anew."""
 import contextlib
 import os
 import shutil
+import sqlite3
 import time
 from collections.abc import Sequence
 from typing import Any
@@ -260,7 +261,6 @@ class Damaged(Copied):
         second = self.opened(self.berta)
         self.assert_shown("one behind two within", first, carla, second)
 
-
     def beside_its_copy(self) -> None:
         """Has the log have the original beside its copy, which nobody who is on has made."""
         self.alone().session.close()
@@ -289,6 +289,30 @@ class Damaged(Copied):
         self.claim(self.anna, self.entry_of(self.anna).site)
         # Who made it shows it again, whoever has hidden it.
         self.assert_shown("behind", self.opened(self.berta), self.opened(self.person("late"), link=self.anna.link()))
+
+
+class WithTheKeysAlone(Copied):
+    """A disk has the keys of the numbers under which another one typed, and made anew what it had typed; nothing of that counts now."""
+
+    def test_what_was_made_anew_is_made_anew_once(self) -> None:
+        anna, again, url = self.person("anna"), self.person("again"), self.file_log()
+        anna.open(url=url).session.close()
+        first = self.written_and_closed(anna, "once ").site
+        self.claim(anna, first)
+        note = anna.open()
+        wait_for(lambda: (note.take_in(), note.session.number != first and words(note.text) == ["once"])[1], "it to be made anew")
+        written(note, "")
+        second = note.session.number
+        note.session.close()
+        self.claim(anna, second)
+        again.open(link=anna.link()).session.close()
+        with contextlib.closing(sqlite3.connect(again.path())) as file, file:
+            file.execute("ATTACH ? AS other", (str(anna.path()),))
+            file.execute("INSERT INTO client SELECT * FROM other.client WHERE site IN (?, ?)", (first, second))
+        shutil.rmtree(anna.data)
+        note = self.opened(again)
+        wait_for(lambda: are_alike([note]) and words(note.text) == ["once"], "it to be there once")
+        self.assertEqual(sum(b"once " in one.data for one in note.session.messages()), 1)
 
 
 class Renewed(Copied):

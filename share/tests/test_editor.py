@@ -18,9 +18,9 @@ from typing import Any
 
 from share.store import atomic
 from share.editors.terminal.keys import (ESCAPE_SECONDS, LONGEST_PASTE, PASTE_LOST_SECONDS, PASTE_QUIET_SECONDS,
-                                         SEQUENCE_SECONDS, Event, Key, Keyboard, Pasted, shown)
-from share.editors.terminal.app import Bar, edit
-from share.sync.session import Status
+                                         SEQUENCE_SECONDS, Event, Key, Keyboard, Pasted, safe_for_terminal)
+from share.editors.terminal.app import edit
+from share.sync.session import Bar, Status
 from share.tests.support import TOP, Case, python, wait_for
 from share.tests.terminals import Terminal
 from share.text.errors import Refused, Trouble
@@ -124,7 +124,7 @@ class Keys(unittest.TestCase):
             data = b"".join(chance.choices(pieces, k=chance.randrange(12)))
             for event in pressed(data, *sorted(chance.choices(range(len(data) + 1), k=2))):
                 text = event.text if isinstance(event, Pasted) else event if isinstance(event, str) else ""
-                self.assertEqual(shown(text, "\r\t"), text)
+                self.assertEqual(safe_for_terminal(text, "\r\t"), text)
 
 
 class Pastes(unittest.TestCase):
@@ -205,7 +205,7 @@ class Shown(unittest.TestCase):
     def test_all_characters(self) -> None:
         dots = [*range(0x20), *range(0x7F, 0xA0), *range(0x2028, 0x202F), *range(0x2066, 0x206A)]
         text = "".join(map(chr, range(0x110000)))
-        seen = shown(text)
+        seen = safe_for_terminal(text)
         self.assertEqual(len(seen), len(text))
         for number in dots:
             self.assertEqual(seen[number], "\u00b7")
@@ -214,7 +214,7 @@ class Shown(unittest.TestCase):
         seen.encode()
 
     def test_what_is_kept(self) -> None:
-        self.assertEqual(shown("a\tb\r\n\x1b[31mc\udc80", "\n\t"), "a\tb\u00b7\n\u00b7[31mc\ufffd")
+        self.assertEqual(safe_for_terminal("a\tb\r\n\x1b[31mc\udc80", "\n\t"), "a\tb\u00b7\n\u00b7[31mc\ufffd")
 
 
 # Saves, and is killed at the call of the system that is named by its number.
@@ -455,7 +455,7 @@ def scripted(text: str, seconds: str, can_type: str) -> None:
         note = curses.wrapper(edit, "diary", open_note)
         pathlib.Path(os.environ["CLOSED"]).with_name("end").write_bytes(note.text)
     except Trouble as why:
-        print(shown(f"trouble: {why}"))
+        print(safe_for_terminal(f"trouble: {why}"))
 
 
 class Scripted(Case):

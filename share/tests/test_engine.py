@@ -10,6 +10,7 @@ from share.format import presence
 from share.store import nicknames
 from share.tests.editors import Editor, Engines
 from share.tests.support import TOP, wait_for
+from share.text.line import Line
 
 PAGE = TOP / "docs" / "ENGINE.md"
 
@@ -37,13 +38,14 @@ class Sessions(Engines):
             else:
                 self.expect(ada, json.loads(what))
 
-    def expect(self, editor: Editor, wanted: dict) -> None:
+    def expect(self, editor: Editor, wanted: Line) -> None:
         """Waits for a line; what is of the moment may differ, and states come at any time."""
         if "state" in wanted.values():
             editor.wait_for(lambda: editor.notices("state"), "a state")
             self.assertEqual({*editor.notices("state")[0]} - {"unproved"}, {*wanted})
             return
-        def got() -> dict | None:
+
+        def got() -> Line | None:
             known = [line for line in editor.lines if line.get("notice") not in ("state", "cursors")]
             return known[self.place] if len(known) > self.place else None
         line = editor.wait_for(got, f"{wanted}")
@@ -182,7 +184,7 @@ class Sessions(Engines):
 class Company(Engines):
     """Who is on, and where their cursors are."""
 
-    def place_of(self, editor: Editor, name: str) -> dict | None:
+    def place_of(self, editor: Editor, name: str) -> Line | None:
         """The cursor of a name, as an editor shows it."""
         return next((one for one in editor.mirror.cursors if one["name"] == name), None)
 
@@ -236,7 +238,7 @@ class Company(Engines):
         second.shows("🎉é漢\n")
         first.ask("cursor", version=first.mirror.version, at=3)
         self.sees(second, "Ada", at=2, colour="#123abc")
-        self.assertNotIn("anchor", self.place_of(second, "Ada"))
+        self.assertNotIn("anchor", self.place_of(second, "Ada") or {"anchor": 0})
         second.ask("cursor", version=second.mirror.version, at=4, anchor=0)
         self.sees(first, "Bo", at=5, anchor=0)
         # It stays with its character, and goes on with who types.
@@ -279,6 +281,7 @@ class Company(Engines):
                 self.assertLessEqual(len(found.name), 40)
                 self.assertTrue(found.name.isprintable() or not found.name.isascii())
                 again = presence.read(presence.written(found))
+                assert again
                 self.assertEqual(again._replace(name=""), found._replace(name=""))
         long = presence.Present(bytes(16), bytes(16), 7, "#000000", (0, 0), None, "🎉" * 40)
         self.assertEqual(presence.read(presence.written(long)), long)

@@ -10,11 +10,11 @@ from concurrent.futures import ThreadPoolExecutor
 from concurrent.futures import TimeoutError as FutureTimeout
 from unittest import mock
 
-from share.cli.verbs import differences
-from share.editors.mirror import Line, Mirror
+from share.cli.line_changes import line_changes
+from share.editors.mirror import Mirror
 from share.engine import server as serving
 from share.engine.engine import Engine
-from share.engine.transform import Carrying
+from share.engine.transform import Transformer
 from share.format import link as links
 from share.format.presence import Present, written
 from share.program.process import Ended
@@ -27,6 +27,8 @@ from share.tests.support import NOTE, Case, type_at_the_end
 from share.tests.terminals import children
 from share.tests.waiting import PATIENCE, wait_for
 from share.text.change import Change
+from share.text.errors import Trouble
+from share.text.line import Line
 from share.text.rope import Measured
 from share.text.units import UNITS
 
@@ -102,7 +104,7 @@ class Here(Case):
         got = self.meet()
         self.assertEqual([line.get("error") for line in got[0] if line.get("answer") == "edit"],
                          [None, "field", "field"])
-        first.made = peer.carry.edits
+        first.made = peer.transformer.edits
         asked.append(json.dumps({"do": "text", "edits": first.made}).encode())
         self.meet()
         second.edit([(4, 4, " and later")])
@@ -151,12 +153,24 @@ class Here(Case):
         self.meet()
         self.assertEqual(second.text, first.text)
         self.assertLess(time.process_time() - begin, 20)
-        carrying, begin = Carrying(UNITS["utf-8"]), time.process_time()
+        transformer, begin = Transformer(UNITS["utf-8"]), time.process_time()
         for number in range(2_000):
-            carrying.changed([1 + number * 2, b"x"])
-            carrying.send()
-        carrying.edit(0, [(0, 0, "y")], 20_000)
+            transformer.changed([1 + number * 2, b"x"])
+            transformer.send()
+        transformer.edit(0, [(0, 0, "y")], 20_000)
         self.assertLess(time.process_time() - begin, 5)
+
+    def test_a_session_whose_text_fails_as_it_is_opened_is_closed_and_opened_anew(self) -> None:
+        engine = Engine("note", lambda: Session(notes.opened("note", None, None)), lambda: None)
+        self.addCleanup(engine.close)
+        sent: list[bytes] = []
+        peer, opening = engine.joined(sent.append, lambda: 0), b'{"do":"open","protocol":1,"units":["utf-8"]}'
+        with mock.patch.object(Session, "text", side_effect=Trouble("It ended.")), mock.patch.object(
+                Session, "close", autospec=True, side_effect=Session.close) as closes:
+            engine.take(peer, [opening])
+        self.assertEqual((json.loads(sent.pop())["words"], engine.session, closes.call_count), ("It ended.", None, 1))
+        engine.take(peer, [opening])
+        self.assertEqual((json.loads(sent.pop())["text"], peer.is_open), ("", True))
 
     def test_doing_again_much_brings_back_what_was_taken_alone(self) -> None:
         (peer, first, _, asked), (_, second, _, _) = self.editors
@@ -204,7 +218,7 @@ class Here(Case):
         chance, begin = random.Random(1), time.process_time()
         old = "".join(f"{chance.random()}\n\n" for _ in range(2_500))
         new = old.replace("\n\n", " \n\n")
-        found = differences(old, new)
+        found = line_changes(old, new)
         text = old
         for first, last, part in found:
             text = text[:first] + part + text[last:]
@@ -229,7 +243,7 @@ class Apart(Engines):
         first = self.editor("bo", link=link, opens=False)
         wait_for((self.folder / "bo" / "run" / "note.sock").exists, "an engine")
         with self.person("bo").here(), ThreadPoolExecutor(1) as threads:
-            agrees = threads.submit(serving.agree, "note", None, links.read(link))
+            agrees = threads.submit(serving.agree_with_engine, "note", None, links.read(link))
             with self.assertRaises(FutureTimeout):
                 # The other one isn't refused, though the note isn't here yet.
                 agrees.result(0.5)

@@ -3,7 +3,8 @@ import json
 import pathlib
 import unittest
 
-from share.editors.mirror import Line, Mirror
+from share.editors.mirror import Mirror
+from share.text.line import Line
 from share.text.units import UNITS, Units
 
 VECTORS = pathlib.Path(__file__).resolve().parents[1] / "engine" / "vectors" / "client.json"

@@ -196,6 +196,7 @@ class Wrong(unittest.TestCase):
             self.assert_bad("say nothing", spelled(kind=7, first=0, body=copies_body(numbers=numbers)))
         for end in range(len(copies_body()) - 10):
             self.assert_bad("say nothing", spelled(kind=7, first=0, body=copies_body()[:end]))
+
     def test_words_in_no_chain_have_no_place_in_one(self) -> None:
         copied = Copied(ANNE.name, 7, bytes(16), 8, ((1, 2, 3), (9, 5, 300)))
         for entry in FORM.copies(copied, ANNE, 7), FORM.copies(copied, Author(bytes(16), b""), 8), FORM.renewed("Ann", 7, ANNE):

@@ -8,7 +8,7 @@ import subprocess
 import sys
 from unittest import mock
 
-from share.editors.terminal.app import state_of_others
+from share.editors.terminal.status_line import state_of_others
 from share.program import process
 from share.program.process import command, file_of, is_unproved
 from share.sync.session import Status

@@ -3,6 +3,7 @@ figures of a note of 100,000 messages are printed where VIALSHOAL_FIGURES is set
 import contextlib
 import os
 import time
+from collections.abc import Callable
 from unittest import mock
 
 from share.format import link as links
@@ -29,7 +30,7 @@ ROUND, EACH = 1_000, 1
 def history(count: int) -> tuple[list[list[Message]], bytes]:
     """So many messages of two sites, in rounds of one site each, and the text that they make."""
     sites = Program(1), Program(2)
-    rounds, length = [], 0
+    rounds, length = list[list[Message]](), 0
     while length < count:
         typing, taking = sites if len(rounds) % 2 == 0 else sites[::-1]
         events = [typing.event("type", length + number, b"%d" % (number % 10)) for number in range(ROUND)]
@@ -119,7 +120,7 @@ class Joining(Case):
         self.told(f"a key by the median, {what}", seconds[KEYS // 2])
         self.told(f"a key at most, {what}", seconds[-1])
 
-    def tried(self, what: str, url: str, away) -> None:
+    def tried(self, what: str, url: str, away: Callable[[], object]) -> None:
         """Joins a long note, types, and opens it again, also without its log."""
         rounds, text = history(LONG)
         link, person = self.fill(url, rounds), self.person("ann")

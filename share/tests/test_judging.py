@@ -10,6 +10,7 @@ import unittest
 from collections.abc import Callable, Iterable, Sequence
 from functools import partial
 from itertools import chain as chained
+from itertools import permutations
 from typing import NamedTuple
 
 from hypothesis import HealthCheck, given, settings
@@ -17,7 +18,7 @@ from hypothesis import strategies as st
 
 from share.admission.judge import LEAP, Judge, Rank, rank
 from share.format.entry import NO_HASH, Author, Bad, Copied, Entry, Kind, Plain
-from share.format.operation import Message
+from share.format.operation import Message, typed
 from share.program.process import Program
 from share.sync.backlog import Backlog
 from share.tests import naive
@@ -634,6 +635,75 @@ class MadeAnew(unittest.TestCase):
         came = [self.unsent if one == self.sent else one for one in self.all]
         judge = Judge([*came, FORM.made_anew(self.more, self.second)])
         self.assertEqual((judge.front(2), judge.incomplete()), (2, 0))
+
+
+class WhatStandsForWhat(unittest.TestCase):
+    """What is told as left out hangs on which words of copies came, and not on when or in which order."""
+
+    def setUp(self) -> None:
+        FORM.salt = 0
+        self.first, self.second, self.third, _ = AUTHORS
+        self.claims = [FORM.claim(site, author) for site, author in zip(SITES, AUTHORS)]
+        some = [FORM.entry(self.claims[0], [inserting(1, 1, 1, None, 0, data)], self.first) for data in (b"ab", b"ba")]
+        self.holds, self.lost = sorted(some, key=rank)
+        (message,) = self.lost.messages
+        self.letters = typed(message)
+
+    def told_as_left_out(self, *entries: Entry) -> list[tuple[int, int]]:
+        """What is told in the end of entries that come in this order, where it is asked after each."""
+        follower = Follower(self)
+        for entry in [*self.claims, self.holds, self.lost, *entries]:
+            follower.add(entry)
+            follower.agrees()
+        return [(one.site, one.first) for one in follower.judge.left_out()]
+
+    def copies(self, *seqs: int, of: Entry, by: Author) -> Entry:
+        """The word of an author that messages of his, of an entry and those before it, stand for what was left out."""
+        return FORM.copies(Copied(self.first.name, 1, of.author, of.site, tuple((1, seq, 1) for seq in seqs), of.hash), by, of.site)
+
+    def typed_by_second(self, *parts: bytes) -> Entry:
+        """An entry in which another one types these."""
+        starts = [sum(map(len, parts[:at])) for at in range(len(parts))]
+        return FORM.entry(self.claims[1], [inserting(2, seq, seq + 1, None, start, data)
+                                           for seq, (start, data) in enumerate(zip(starts, parts), 1)], self.second)
+
+    def test_the_last_entry_that_has_the_copies_may_come_last(self) -> None:
+        begin = self.typed_by_second(self.letters)
+        last = FORM.entry(begin, [inserting(2, 2, 3, None, 2, b"more")], self.second)
+        said = self.copies(1, of=last, by=self.second)
+        for order in permutations([begin, last, said]):
+            self.assertEqual(self.told_as_left_out(*order), [])
+        self.assertEqual(self.told_as_left_out(said, begin), [(1, 1)])
+
+    def test_parts_follow_one_another_in_whatever_order_they_are_spoken_of(self) -> None:
+        parts = self.typed_by_second(*(self.letters[at:at + 1] for at in range(2)))
+        said = [self.copies(seq, of=parts, by=self.second) for seq in (1, 2)]
+        for order in permutations([parts, *said]):
+            self.assertEqual(self.told_as_left_out(*order), [])
+        swapped = self.typed_by_second(*(self.letters[at:at + 1] for at in (1, 0)))
+        for seqs in permutations([1, 2]):
+            self.assertEqual(self.told_as_left_out(swapped, self.copies(*seqs, of=swapped, by=self.second)), [(1, 1)])
+
+    def test_two_who_copied_it_do_not_make_one_that_is_no_copy(self) -> None:
+        whole = self.typed_by_second(self.letters)
+        again = FORM.entry(self.claims[2], [inserting(3, 1, 2, None, 0, self.letters)], self.third)
+        said = [self.copies(1, of=of, by=by) for of, by in ((whole, self.second), (again, self.third))]
+        self.assertEqual(self.told_as_left_out(whole, again, *said), [])
+
+    def test_no_chain_goes_through_a_word(self) -> None:
+        word = FORM.copies(Copied(self.first.name, 1, self.second.name, 2, ((1, 1, 1),), NO_HASH), self.second, 2, self.lost.hash)
+        anew = FORM.made_anew(self.lost._replace(hash=word.hash), self.first)
+        self.assertEqual(self.told_as_left_out(word, anew), [(1, 1)])
+
+    @tries(60)
+    @given(histories(["write"] * 4 + ["fork"] * 3 + ["say_copied"] * 5 + ["claim", "say_made_anew", "forge"]), SEEDS)
+    def test_of_many_words_it_is_what_the_rules_say(self, history: History, seed: int) -> None:
+        chance, follower = random.Random(seed), Follower(self)
+        for entry in handed(history.entries, chance):
+            follower.add(entry)
+            if chance.random() < 0.2:
+                follower.agrees()
+        follower.agrees()
 
 
 if __name__ == "__main__":

@@ -40,6 +40,7 @@ class Life:
     def _live(self) -> None:
         killer = threading.Timer(0.3 if self._dies_early else 15, self._process.kill)
         killer.start()
+        assert self._process.stdout and self._process.stderr
         for line in self._process.stdout:
             word, number = line.split()
             if word == "open" and not self._dies_early:
@@ -76,8 +77,8 @@ class Killed(Case):
         self.people = [self.person("p0"), self.person("p1"), self.person("p2")]
         # The words that each life has typed, and may have typed.
         self.lives: list[Life] = []
-        self.backups: list[tuple[Person, object]] = []
-        self.together: list[tuple[Person, list[pathlib.Path]]] = []
+        self.backups: list[tuple[Person, pathlib.Path]] = []
+        self.put_together: list[tuple[Person, list[pathlib.Path]]] = []
         self.was_put_back_together = False
 
     def round(self, number: int) -> None:
@@ -204,9 +205,9 @@ class Killed(Case):
     def put_back_together(self, number: int) -> None:
         """Puts a folder and the server back, together, to how they were at one moment; or copies both for that."""
         self.server.kill()
-        if self.together:
+        if self.put_together:
             self.was_put_back_together = True
-            person, copies = self.together.pop()
+            person, copies = self.put_together.pop()
             for folder, copy in zip((person.data, self.server.folder), copies):
                 shutil.rmtree(folder)
                 shutil.copytree(copy, folder)
@@ -215,7 +216,7 @@ class Killed(Case):
             copies = [self.folder / f"{kind}{number}" for kind in ("person", "server")]
             for folder, copy in zip((person.data, self.server.folder), copies):
                 shutil.copytree(folder, copy)
-            self.together.append((person, copies))
+            self.put_together.append((person, copies))
         self.server.start()
 
     def test_rounds(self) -> None:

@@ -11,7 +11,7 @@ import unittest
 
 from share.admission.judge import Judge, rank
 from share.admission.left_out import LeftOut
-from share.editors.terminal.app import state_of_others
+from share.editors.terminal.status_line import state_of_others
 from share.format.entry import Author, Entry, Form, Kind, Plain, in_entries
 from share.format.operation import Message, length_after, typed
 from share.program import retyping
@@ -27,8 +27,8 @@ SENTENCE = "Dear all, we meet at ten. "
 ROUNDS = 12
 
 
-class Taken(Case):
-    """A note in which somebody with the link takes the number of one who wrote."""
+class Three(Case):
+    """People with a note that one of them has begun."""
 
     def setUp(self) -> None:
         super().setUp()
@@ -57,6 +57,10 @@ class Taken(Case):
             note.session.close()
         self.assertEqual(shown(self.carol), ("Dear all of you, we meet at ten. Bob. ", []))
         return anna.session.number
+
+
+class Taken(Three):
+    """A note in which somebody with the link takes the number of one who wrote."""
 
     def test_what_was_made_anew_and_left_out_in_its_turn_is_typed_again_once(self) -> None:
         take(self.anna, self.begun())

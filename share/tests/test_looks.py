@@ -8,7 +8,7 @@ import subprocess
 from share.format.operation import may_dress, mentioned
 from share.program.site import Edited, Site
 from share.tests.editors import Editor, Engines
-from share.tests.support import NOTE, Case, wait_for
+from share.tests.support import NOTE, Case, alive, wait_for
 from share.text.looks import DEFAULT, Looks, Run, is_bold, is_slanted, setting, with_weight
 from share.text.names import Names
 
@@ -181,7 +181,10 @@ class Shown(Engines):
         first.edit((0, 0, "one two three"))
         first.settle()
         wait_for(lambda: (first.read(0.02), first.notices("state")[-1]["log"] == "sent")[1], "all to be sent")
+        engine = self.engine("ada")
         first.close()
+        # As it closes the file the engine takes away what SQLite has beside it.
+        wait_for(lambda: not alive(engine), "the engine to end")
         shutil.copytree(self.folder / "ada", self.folder / "copied", ignore=shutil.ignore_patterns("run"))
         os.rename(self.folder / "shared", self.folder / "away")
         (self.folder / "shared").write_bytes(b"")

@@ -128,8 +128,8 @@ class Files(OldCase):
     def test_a_damaged_end_of_a_journal_is_left_out_and_told(self) -> None:
         path = self.journals / "1.journal"
         whole = path.read_bytes()
-        for damaged, left in ((whole + b"x" * 30, 5), (whole[:-1], 4), (whole[:-20] + bytes([whole[-20] ^ 1])
-                                                                      + whole[-19:], 4), (whole + b"\0" * 500, 5)):
+        changed = whole[:-20] + bytes([whole[-20] ^ 1]) + whole[-19:]
+        for damaged, left in (whole + b"x" * 30, 5), (whole[:-1], 4), (changed, 4), (whole + b"\0" * 500, 5):
             path.write_bytes(damaged)
             old = self.read()
             self.assertEqual(counts(old), {1: left, 2: 2, 3: 2})

@@ -274,8 +274,8 @@ class Packing(Case):
 
     def test_it_is_written_while_much_comes(self) -> None:
         note = self.opened(self.ann)
-        with mock.patch.object(snapshot, "MANY", 3), mock.patch.object(Site, "keep", autospec=True,
-                                                                     side_effect=Site.keep) as kept:
+        with mock.patch.object(snapshot, "MANY", 3), mock.patch.object(
+                Site, "keep", autospec=True, side_effect=Site.keep) as kept:
             for number in range(6):
                 type_at_the_end(note, str(number))
                 note.take_in()

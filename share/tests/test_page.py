@@ -53,9 +53,12 @@ KEPT_KEYS = """((keys) => {
 })(arguments[0])"""
 
 
-def setUpModule() -> None:  # pylint: disable=invalid-name
+BROWSER: Browser
+
+
+def setUpModule() -> None:
     """Starts one Chromium for all."""
-    global BROWSER  # pylint: disable=global-statement
+    global BROWSER
     BROWSER = Browser()
     unittest.addModuleCleanup(BROWSER.close)
 
@@ -118,6 +121,11 @@ class Pages(Case):
 
 class Writing(Pages):
     """Two windows of one person, with one note for all tests."""
+
+    data: pathlib.Path
+    server: Server
+    first: Window
+    second: Window
 
     @classmethod
     def setUpClass(cls) -> None:
@@ -458,7 +466,7 @@ def load_tests(loader: unittest.TestLoader, tests: unittest.TestSuite, _: object
     if IS_HERE:
         return tests
     print("Chromium, its driver or python3-selenium isn't installed: the page's tests in a browser are skipped.", flush=True)
-    return loader.suiteClass()
+    return loader.suiteClass([])
 
 
 if __name__ == "__main__":

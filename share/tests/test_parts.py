@@ -8,8 +8,8 @@ from collections.abc import Iterator
 from types import ModuleType
 
 from share.editors.terminal import layout
-from share.editors.terminal.layout import (NEAR, PART, Layout, Text, cluster_after, cluster_before, decoded, drawn, word_after,
-                                           word_before)
+from share.editors.terminal.layout import (CLUSTER_BYTES, PART_BYTES, Layout, ScreenRow, Text, cluster_after, cluster_before, decoded,
+                                           drawn, word_after, word_before)
 from share.program.site import MOST_BYTES, split
 from share.tests.support import Case
 from share.text.change import Change, boundary, make
@@ -28,18 +28,19 @@ class Rows(Case):
         for _ in range(200):
             yield "".join(chance.choices(ALPHABET, k=chance.randrange(200))).encode()
         yield b"\xff\x80\x80" * 30 + b"\r\xf0\x9f"
-        yield b"\x80" * (2 * PART)
-        yield "é".encode() * PART + b"\r" + b"x" * (PART + 1)
+        yield b"\x80" * (2 * PART_BYTES)
+        yield "é".encode() * PART_BYTES + b"\r" + b"x" * (PART_BYTES + 1)
         for character in "🇩🇪", "👩\u200d👩\u200d👧", "e\u0301", "\u1112\u1161\u11ab":
-            for size in range(PART - 9, PART):
+            for size in range(PART_BYTES - 9, PART_BYTES):
                 yield b"x" * size + character.encode() + b"\r"
                 yield b"x" * size + character.encode() * 60
-        yield "\u0301".encode() * PART
+        yield "\u0301".encode() * PART_BYTES
 
     def test_rows_have_the_whole_text(self) -> None:
         for text in map(bytearray, self.texts()):
             layout = Layout(text, WIDTH)
-            row, at = layout.row_at(0), 0
+            row: ScreenRow | None = layout.row_at(0)
+            at = 0
             while row:
                 self.assertEqual(row.begin, at)
                 self.assertLessEqual(sum(width for _, _, width in row.cells), WIDTH)
@@ -61,17 +62,16 @@ class Rows(Case):
                 self.assertLessEqual(row.position(row.column(position)), row.end)
 
     def test_a_part_of_a_long_line_is_short(self) -> None:
-        layout = Layout(bytearray(b"x" * (10 * PART + 1)), WIDTH)
-        ends = {layout.row_at(position).end for position in range(1, PART + 1)}
-        self.assertEqual(max(ends), PART + WIDTH)
-
+        layout = Layout(bytearray(b"x" * (10 * PART_BYTES + 1)), WIDTH)
+        ends = {layout.row_at(position).end for position in range(1, PART_BYTES + 1)}
+        self.assertEqual(max(ends), PART_BYTES + WIDTH)
 
     def test_parts_of_a_long_line_begin_at_characters(self) -> None:
         for character in "🇩🇪", "👩\u200d👩\u200d👧", "e\u0301":
-            text = b"x" * (PART - 3) + character.encode() * PART
-            part = Layout(text, WIDTH).row_at(PART + NEAR).part
-            self.assertEqual((part - PART + 3) % len(character.encode()), 0)
-            self.assertLess(part - PART, len(character.encode()))
+            text = b"x" * (PART_BYTES - 3) + character.encode() * PART_BYTES
+            part = Layout(text, WIDTH).row_at(PART_BYTES + CLUSTER_BYTES).part
+            self.assertEqual((part - PART_BYTES + 3) % len(character.encode()), 0)
+            self.assertLess(part - PART_BYTES, len(character.encode()))
 
 
 def without_packages() -> ModuleType:
@@ -129,7 +129,7 @@ class Characters(Case):
             position = begin
             for _ in range(100):
                 position = step(text, position)
-            self.assertTrue(0 < abs(position - begin) <= 100 * (NEAR + 3))
+            self.assertTrue(0 < abs(position - begin) <= 100 * (CLUSTER_BYTES + 3))
 
     def test_a_place_in_a_long_line_is_found_at_once(self) -> None:
         def seconds(text: Text) -> float:

@@ -32,11 +32,11 @@ class Printing(Case):
             written(note, words)
         note.session.close()
 
-    def printed(self, person: Person, *more: str, name: str = "note", **environment: str):
+    def printed(self, person: Person, *more: str, name: str = "note", **environment: str) -> subprocess.CompletedProcess[str]:
         """A run that prints somebody's note."""
         return self.note(name, "--print", *more, VIALSHOAL_DATA=str(person.data), **environment)
 
-    def assert_prints(self, run: subprocess.CompletedProcess, text: str, *missing: str) -> None:
+    def assert_prints(self, run: subprocess.CompletedProcess[str], text: str, *missing: str) -> None:
         """That a run printed a text, and said that these are missing, each in a line."""
         self.assertEqual((run.stdout, run.returncode), (text, INCOMPLETE if missing else 0), run.stderr)
         self.assertEqual(len(run.stderr.splitlines()), len(missing), run.stderr)
@@ -145,7 +145,7 @@ class ReadOnly(Case):
             written(note, words)
         note.session.close()
 
-    def as_somebody(self) -> subprocess.CompletedProcess:
+    def as_somebody(self) -> subprocess.CompletedProcess[str]:
         """A run that prints the note by an account that can read it alone."""
         for path in [self.folder, *self.folder.rglob("*")]:
             path.chmod(0o555 if path.is_dir() else 0o444)

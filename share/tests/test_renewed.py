@@ -1,6 +1,7 @@
 """Notes that begin anew with their text, without the history and without what some have typed; and what those are told who
 have the old one."""
 import contextlib
+import functools
 import json
 import os
 import pty
@@ -13,6 +14,7 @@ from share.program.site import Site
 from share.store import nicknames, notes, renewal
 from share.store.read_only import found_in
 from share.tests.editors import Editor
+from share.tests.note import Note
 from share.tests.support import NOTE, Case, Person, type_at_the_end, wait_for, written
 from share.text.errors import Trouble
 from share.text.looks import Looks
@@ -37,6 +39,12 @@ class Renewing(Case):
 
     said = ""
 
+    @staticmethod
+    def stands_in(note: Note, words: str) -> bool:
+        """Whether words have come to a note."""
+        note.take_in()
+        return words.encode() in note.text
+
     def written(self, url: str | None = None) -> dict[str, int]:
         """Has Mallory write a line, and Ann and Bob between its words, behind it and within what each other wrote; the
         numbers by the names."""
@@ -44,7 +52,7 @@ class Renewing(Case):
         for name, after, words in (("mallory", "", "SPAM SPAM. "), ("ann", "SPAM ", "one "), ("bob", "SPAM. ", "two three "),
                                    ("ann", "two ", "and "), ("mallory", "two", "SPAM"), ("bob", "and ", "so ")):
             note = notes[name]
-            wait_for(lambda one=note, of=after: (one.take_in(), of.encode() in one.text)[1], "what it stands after")
+            wait_for(functools.partial(self.stands_in, note, after), "what it stands after")
             note.moved_to(note.text.index(after.encode()) + len(after))
             note.type(words)
             written(note, "")
@@ -186,6 +194,7 @@ class Renewing(Case):
         self.assertIsNone(renewal.renewed_by(judge, set()))
         judge.add(form.renewed("A\x1b[31m" + "n" * 300, client.site, client.author))
         said = renewal.renewed_by(judge, set())
+        assert said
         self.assertEqual((said["site"], said["own"], len(said["name"])), (client.site, False, 40))
         self.assertEqual(judge.count().messages, Judge(rows).count().messages)
 

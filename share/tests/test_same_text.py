@@ -1,6 +1,7 @@
 """Sites that share a note show the same, however their entries come."""
 import random
 
+from share.format.entry import Entry
 from share.format.operation import inserted
 from share.tests.support import Case, Pair, edit_at_random, plain_text
 from share.text.change import change
@@ -16,7 +17,7 @@ class SameText(Pair):
     def test_at_random(self) -> None:
         chance = random.Random(1)
         self.notes.append(self.joined())
-        held: list[list] = [[] for _ in self.notes]
+        held: list[list[Entry]] = [[] for _ in self.notes]
         sent = [0 for _ in self.notes]
         for turn in range(EDITS):
             for number, note in enumerate(self.notes):

@@ -4,10 +4,11 @@ import json
 import os
 import subprocess
 
-from share.cli.html import Run, page
-from share.cli.verbs import differences
+from share.cli.html import page
+from share.cli.line_changes import line_changes
 from share.tests.editors import Editor
 from share.tests.support import NOTE, Case, Person, raws_of, wait_for
+from share.text.looks import Run
 
 
 class Verbs(Case):
@@ -121,10 +122,10 @@ class Verbs(Case):
         for old, new in (("", ""), ("", "a\n"), ("a\n", ""), ("a\nb\nc\n", "a\nB\nc\n"), ("a\r\nb", "a\nb"),
                          ("x\n" * 9_000 + "y", "x\n" * 8_999 + "yé"), ("abc", "abc")):
             text = old
-            for begin, end, part in differences(old, new):
+            for begin, end, part in line_changes(old, new):
                 text = text[:begin] + part + text[end:]
             self.assertEqual(text, new)
-        self.assertEqual(differences("a\nb\nc\n", "a\nB\nc\n"), [(2, 4, "B\n")])
+        self.assertEqual(line_changes("a\nb\nc\n", "a\nB\nc\n"), [(2, 4, "B\n")])
 
 
 if __name__ == "__main__":

@@ -332,7 +332,6 @@ class Peers(Shared):
             (author,) = [one.author for one in disk.clients() if one.site == site]
         return self.form.claim(site, author)
 
-
     def test_claims_of_all_numbers_keep_a_newcomer_out(self) -> None:
         numbers = range(1, 3)
         with mock.patch("share.sync.numbers.GREATEST_SITE", len(numbers)):

@@ -58,7 +58,8 @@ class SlowLine(Case):
         self.assertGreater(total, len(self.raws))
         self.assertLess(done, total / 2)
         wait_for(lambda: (note.take_in(), len(note.text) > 20)[1], "text to come")
-        self.assertLess(note.session.status().reading[0], total / 2)
+        reading = note.session.status().reading
+        self.assertLess(reading and reading[0], total / 2)
         line.rate = 10**9
         wait_for(lambda: (note.take_in(), note.session.status())[1].reading is None, "all to be read")
         self.assertEqual(len(self.assert_meet(note)), len(self.text) + len(b"at once mine "))
@@ -78,7 +79,13 @@ class SlowLine(Case):
             # It is there before all was read that the log had.
             self.assertFalse(note.session._courier.has_read())
             lengths = set[int]()
-            wait_for(lambda: (note.take_in(), lengths.add(len(note.text)), note.session.status().can_type)[2], "a number")
+
+            def can_type() -> bool:
+                note.take_in()
+                lengths.add(len(note.text))
+                return note.session.status().can_type
+
+            wait_for(can_type, "a number")
             with contextlib.closing(open_log(self.server.url, self.form.note)) as log:
                 self.assertGreater(log.size(), note.session._courier._size)
         finally:

@@ -6,7 +6,8 @@ import unittest
 from share.admission.judge import Judge
 from share.format.entry import Author, Copied, Copy, Entry, Plain
 from share.format.operation import Message
-from share.store.note_file import Client, Row
+from share.admission.ledger import Row
+from share.store.note_file import Client
 from share.sync.recovered import Recovered
 from share.sync.standing import Standing, in_stretches, said
 from share.tests.naive import inserting

@@ -38,7 +38,7 @@ class Storms(Case):
         folder.mkdir(0o700)
         words = ["mount", "-t", "tmpfs", "-o", f"size={DISK_BYTES},mode=700", "none", str(folder)]
         if os.geteuid() == 0 and shutil.which("mount") and subprocess.run(words, capture_output=True, check=False).returncode == 0:
-            self.addCleanup(subprocess.run, ["umount", "-l", str(folder)], check=False)
+            self.addCleanup(lambda: subprocess.run(["umount", "-l", str(folder)], check=False))
 
     def storm(self, seed: int, rounds: int) -> None:
         """Has people of one note go through some rounds."""

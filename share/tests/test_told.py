@@ -145,7 +145,7 @@ class Tells(Pair):
 
     def named(self, note: Note) -> dict[tuple[int, int], int]:
         """Where the names of both sites are shown."""
-        site, found = note.session.site, {}
+        site, found = note.session.site, dict[tuple[int, int], int]()
         for number in 1, 2:
             (answer,) = site._program.ask([site._program.event("where", number, 0, TYPED)])
             for at, position, data in stretches(answer):

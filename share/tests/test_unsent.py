@@ -63,7 +63,7 @@ class InAFile(Case):
 
     def stopped_between_batches(self, person: Person, after: int) -> None:
         """Has an editor send so many batches and be stopped."""
-        append, sent = SqliteLog.append, []
+        append, sent = SqliteLog.append, list[int]()
 
         def appended(log: SqliteLog, raws: Sequence[bytes]) -> None:
             if len(sent) == after:

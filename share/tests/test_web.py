@@ -14,13 +14,13 @@ from unittest import mock
 import aiohttp
 
 from share.editors.web import guard
-from share.editors.web.bridge import MOST_MESSAGE, NO_FIELDS, Assembler, refusal
+from share.editors.web.bridge import MOST_MESSAGE, NO_FIELDS, page_refusal
 from share.editors.web.opening import redirect
 from share.editors.web.server import files
-from share.engine.protocol import MOST_LINE
 from share.tests.pages import Server, talking
 from share.tests.support import TOP, Case, Person, engine_of, python, wait_for
 from share.text.errors import Trouble
+from share.text.line import MOST_LINE, Assembler, Line
 
 VECTORS = TOP / "share" / "tests" / "vectors.mjs"
 UPGRADE = ["Connection: Upgrade", "Upgrade: websocket", "Sec-WebSocket-Version: 13",
@@ -55,6 +55,13 @@ class Vectors(unittest.TestCase):
         self.assertRegex(done.stdout, r"^[2-9][0-9] cases, 0 failed\n$")
 
 
+def refused(line: bytes | None) -> Line:
+    """What a page is answered whose line isn't handed on."""
+    answer = page_refusal(line)
+    assert answer
+    return answer
+
+
 class Bridging(unittest.TestCase):
     """What of a page's messages is handed on, without a server."""
 
@@ -77,14 +84,14 @@ class Bridging(unittest.TestCase):
         self.assertEqual(assembler.lines(b"\n"), [4 * piece])
 
     def test_no_request_names_a_file_or_a_link(self) -> None:
-        self.assertIsNone(refusal(b'{"do":"edit","version":0,"edits":1,"changes":[]}'))
+        self.assertIsNone(page_refusal(b'{"do":"edit","version":0,"edits":1,"changes":[]}'))
         for line in (b'{"do":"save","path":"/tmp/x"}', b'{"do":"edit","do":"save"}', b'{"do":"link"}', b'{"do":["save"]}', b"{}"):
-            self.assertEqual(refusal(line)["error"], "unknown", line)
+            self.assertEqual(refused(line)["error"], "unknown", line)
         for name in NO_FIELDS:
-            self.assertEqual(refusal(b'{"do":"on","id":3,"%s":1}' % name.encode())["id"], 3)
+            self.assertEqual(refused(b'{"do":"on","id":3,"%s":1}' % name.encode())["id"], 3)
         for line in (b"", b"[]", b"tea", b'{"do":"\xff"}', b"[" * 100_000):
-            self.assertEqual(refusal(line)["error"], "json", line[:9])
-        self.assertEqual(refusal(None)["error"], "long")
+            self.assertEqual(refused(line)["error"], "json", line[:9])
+        self.assertEqual(refused(None)["error"], "long")
 
 
 class Missing(unittest.TestCase):
@@ -168,6 +175,9 @@ class Starting(Served):
 
 class OneServer(Case, unittest.IsolatedAsyncioTestCase):
     """Tests that have a server in common."""
+
+    data: pathlib.Path
+    server: Server
 
     @classmethod
     def setUpClass(cls) -> None:
@@ -280,7 +290,7 @@ class Strangers(OneServer):
         for headers in ({"Origin": "http://evil.example"}, {"Origin": "null"}, {"Host": "evil.example"},
                         {"Host": f"localhost:{self.server.port}", "Origin": f"http://localhost:{self.server.port}"}):
             with self.assertRaises(aiohttp.WSServerHandshakeError) as refused:
-                async with talking(self.server, **headers):
+                async with talking(self.server, None, False, **headers):
                     pass
             self.assertEqual(refused.exception.status, 403)
 
@@ -313,6 +323,7 @@ class Strangers(OneServer):
         with subprocess.Popen(words, stdout=subprocess.PIPE, text=True) as other:
             try:
                 # What it was sent in all.
+                assert other.stdout
                 self.assertEqual(other.stdout.readline(), "0\n")
                 async with talking(self.server) as talk:
                     await talk.line(notice="welcome")
@@ -339,8 +350,10 @@ class Sockets(OneServer):
         path = self.folder / "saved"
         async with talking(self.server, opens=True) as talk:
             await talk.send({"do": "edit", "version": 0, "edits": 1, "changes": [[0, 0, "kept"]]})
-            for request in ({"do": "save", "path": str(path)}, {"do": "save", "path": str(path), "replace": True},
-                            {"do": "history", "path": str(path)}, {"do": "link"}, {"do": "open", "log": str(path)}):
+            requests: list[Line] = [
+                {"do": "save", "path": str(path)}, {"do": "save", "path": str(path), "replace": True},
+                {"do": "history", "path": str(path)}, {"do": "link"}, {"do": "open", "log": str(path)}]
+            for request in requests:
                 self.assertEqual((await talk.ask(request.pop("do"), **request))["error"], "unknown", request)
             await talk.socket.send_bytes(b'tea\n{"do":"edit","id":77,"do":"save","path":"/"}\n')
             self.assertEqual((await talk.line(error="json"))["answer"], "")

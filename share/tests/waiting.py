@@ -1,10 +1,12 @@
 """How long tests wait for what has to come."""
 import time
+from collections.abc import Callable
+from typing import Any
 
 PATIENCE = 120
 
 
-def wait_for(condition, what: str, patience: float = PATIENCE):
+def wait_for(condition: Callable[[], Any], what: str, patience: float = PATIENCE) -> Any:
     """The condition's value, as soon as it is a true one."""
     end = time.monotonic() + patience
     while not (value := condition()):

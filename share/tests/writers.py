@@ -1,6 +1,7 @@
 """Editors that somebody writes in, each with the note open that is called `note`: a terminal's, Emacs, Neovim, and a page
 in Chromium. All are driven by keys, and can be killed at any moment."""
 import contextlib
+import functools
 import json
 import os
 import pathlib
@@ -213,7 +214,7 @@ def kill(writers: Iterable[Writer], processes: Callable[[], Iterable[int]]) -> N
         for process in processes():
             with contextlib.suppress(ProcessLookupError):
                 os.kill(process, signal.SIGKILL)
-            wait_for(lambda one=process: not runs(one), "a process to end", PATIENCE)
+            wait_for(functools.partial(lambda one: not runs(one), process), "a process to end", PATIENCE)
 
 
 def runs(process: int) -> bool:

@@ -1,5 +1,5 @@
 """Changes of a text as one value, counted in an editor's units: what is kept, deleted and inserted, from the front
-on. Two that were made of the same text are carried over one another."""
+on. Two that were made of the same text are transformed over one another."""
 from collections.abc import Iterable, Iterator, Sequence
 
 from share.text.units import Units
@@ -111,7 +111,7 @@ def composed(first: Op, second: Op, units: Units) -> Op:
     return made.done()
 
 
-def carried_over(first: Op, second: Op, units: Units) -> tuple[Op, Op]:
+def transformed(first: Op, second: Op, units: Units) -> tuple[Op, Op]:
     """Two ops of one text, the first as it is after the second, and the second as it is after the first. In one
     place what the first inserts stands before what the second does."""
     if not first or not second:

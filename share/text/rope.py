@@ -194,4 +194,3 @@ def _bytes_of(data: bytes, position: int, units: Units, told: int) -> int:
     if not text.startswith(before) or units.count(units.encode(before)) != position:
         raise Split(f"Position {told} is inside a character.")
     return len(data.decode("utf-8", "surrogateescape")[:len(before)].encode("utf-8", "surrogateescape"))
-

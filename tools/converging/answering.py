@@ -6,7 +6,6 @@ from __future__ import annotations
 import itertools
 import re
 import sys
-from collections import defaultdict
 from collections.abc import Callable, Iterable, Iterator, Sequence
 
 from tools.converging.shown import Character, names_of, runs_of, shown, text_of

@@ -17,7 +17,10 @@ HEAD = "4f544331 0001 "
 # deletes the a.
 WORKED = HEAD + "0f 01 03 09 05 05 01 04 61 0e 0f 0f 02 01 0b 00 05 01 05 08 01 01 01 08"
 # Site 300 changes looks, restores, and types in other ones; site 1 goes on between.
-OTHERS = HEAD + "0f ac02 02 80808080808001 07 0b 02 0f 00 01 00 00 0f 01 ffffff7f 01 00 06 01 610f62 01 ac02 00 0c 01 02 00 00 03 05 01 03 01 41 00 80 63"
+OTHERS = (
+    HEAD + "0f ac02 02 80808080808001 07 0b 02 0f 00 01 00 00 0f 01 ffffff7f 01 00 06 01 610f62 "
+    "01 ac02 00 0c 01 02 00 00 03 05 01 03 01 41 00 80 63"
+)
 SYMBOLS = bytes.fromhex("00 01 02 03 04 05 06 07 08 0b 0c 0e 0f 61 80")
 # Behind what short strings come, and of how many bytes these are at most.
 BEGINNINGS = {
@@ -77,7 +80,8 @@ class Told(Chunks):
         self.assertEqual(pack(TEXT, told, {1: 2}), [bytes.fromhex(WORKED)])
         self.assertEqual(pack(TEXT, told, {1: 4, 2: 1}), [bytes.fromhex(HEAD + "0f 01 05 0c 07 05 01 06 08")])
         self.assertEqual(pack(TEXT, told, {1: 99, 2: 1}), [])
-        self.assertEqual(pack(TEXT, told), [bytes.fromhex(HEAD + "0f 01 01 01 00 06 02 61626364 02 06 05 00 65" + WORKED[WORKED.index("61") :])])
+        packed = HEAD + "0f 01 01 01 00 06 02 61626364 02 06 05 00 65" + WORKED[WORKED.index("61") :]
+        self.assertEqual(pack(TEXT, told), [bytes.fromhex(packed)])
 
     def test_no_operations(self) -> None:
         self.assertEqual(self.read(HEAD), [])
@@ -110,7 +114,8 @@ class Told(Chunks):
 
     def test_the_caret_and_the_looks_are_as_at_first(self) -> None:
         self.assertEqual(self.read(f"{HEAD} 0f 01 07 07 03 61"), [insert(1, 7, 7, None, 3, b"a")])
-        self.refused("0f 01 07 07 03 05 00 61", "0f 01 07 07 03 04 02 61", f"0f 01 07 07 03 03 {DEFAULT_LOOKS.hex()} 61", "0f 01 07 07 03 08")
+        plain = f"0f 01 07 07 03 03 {DEFAULT_LOOKS.hex()} 61"
+        self.refused("0f 01 07 07 03 05 00 61", "0f 01 07 07 03 04 02 61", plain, "0f 01 07 07 03 08")
         self.refused("0f 01 07 07 03 05 01 03 61")
 
     def test_15_is_a_code_here(self) -> None:

@@ -203,7 +203,10 @@ def of_chunks() -> Sequence[Script]:
             f"2 unpack 1 {later}; 2 unpack 1 {later}; 2 unpack 1 {first}; 2 unpack 1 {later}; 2 text 1; 2 unpack 1 {reused};"
             f"2 unpack 1 {chunk('0f01010100 62')}; 2 unpack 1 {typed[:-2]}; 2 type 1 0 d; 2 pack 1 1 3 3 1 5 1 7 1",
         ),
-        events("unpack-the-cause-last", f"2 unpack 1 {later}; 2 unpack 1 {chunk('0f05010100 7a 0f01010100 61')}; 2 text 1; 2 unpack 1 {later}"),
+        events(
+            "unpack-the-cause-last",
+            f"2 unpack 1 {later}; 2 unpack 1 {chunk('0f05010100 7a 0f01010100 61')}; 2 text 1; 2 unpack 1 {later}",
+        ),
         events(
             "unpack-before-viewers",
             f"1 open user 1; 1 unpack 1 {typed}; 1 unpack 1 {chunk('0f02010300 05 01 03 78 79 7a 0f01030400 07 00 01 00 01')}; 1 text 1;"

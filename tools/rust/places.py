@@ -34,7 +34,8 @@ INSTEAD: dict[str, list[tuple[str, str]]] = {
         ),
         (
             "    fn drop(self) {\n        let Ring {\n            nodes,\n            spare,\n            cursor: _,\n        } = self;\n",
-            "    fn drop(&mut self) {\n        // SAFETY: neither is used after this, nor dropped again.\n        let (nodes, spare) = unsafe {\n"
+            "    fn drop(&mut self) {\n        // SAFETY: neither is used after this, nor dropped again.\n"
+            "        let (nodes, spare) = unsafe {\n"
             "            (ManuallyDrop::take(&mut self.nodes), ManuallyDrop::take(&mut self.spare))\n        };\n",
         ),
         ("use looks::Refusal;\n", "use looks::Refusal;\nuse std::mem::ManuallyDrop;\n"),
@@ -70,7 +71,10 @@ def passed(name: str, kind: str) -> tuple[str, str]:
     if found is None:
         return f"{name}: {kind}", ""
     pointer, make = ("*mut", "from_raw_parts_mut") if found[1] else ("*const", "from_raw_parts")
-    statement = f"// SAFETY: the caller passes so many, that nothing else has meanwhile.\n    let {name} = unsafe {{ {make}({name}_at, {name}_len) }};"
+    statement = (
+        "// SAFETY: the caller passes so many, that nothing else has meanwhile.\n"
+        f"    let {name} = unsafe {{ {make}({name}_at, {name}_len) }};"
+    )
     return f"{name}_at: {pointer} {found[2]}, {name}_len: usize", statement
 
 

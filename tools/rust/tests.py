@@ -37,7 +37,8 @@ class Proofs(unittest.TestCase):
 
     def test_ghost_members_go_with_their_docs(self) -> None:
         source = (
-            "ghost use A.{b};\n\n/// A.\n#[derive(Drop)]\npub struct A {\n    a: u8,\n    /// Seen.\n    pub ghost b: { C } by { d e },\n}\n\n"
+            "ghost use A.{b};\n\n/// A.\n#[derive(Drop)]\npub struct A {\n    a: u8,\n    /// Seen.\n"
+            "    pub ghost b: { C } by { d e },\n}\n\n"
             "impl Model for A {\n    ghost view = { λ a. { a } };\n}\n"
         )
         self.assertEqual(rust(source), "/// A.\npub struct A {\n    a: u8,\n}\n")
@@ -48,7 +49,8 @@ class Proofs(unittest.TestCase):
 
     def test_laws_go_with_their_calls(self) -> None:
         source = (
-            "/// A law.\npub fn law()\n    ensures { A }\n{}\n\nimpl A {\n    /// Another.\n    pub fn lemma_a(&self) {\n        let _ = &self.b;\n    }\n\n"
+            "/// A law.\npub fn law()\n    ensures { A }\n{}\n\nimpl A {\n    /// Another.\n"
+            "    pub fn lemma_a(&self) {\n        let _ = &self.b;\n    }\n\n"
             "    fn c(&self) -> u8 {\n        self.b.lemma_a();\n        a::lemma_b(&self.b);\n        1\n    }\n}\n"
         )
         self.assertEqual(rust(source), "impl A {\n    fn c(&self) -> u8 {\n        1\n    }\n}\n")
@@ -69,8 +71,14 @@ class Forms(unittest.TestCase):
         self.assertEqual(rust(source), wanted)
 
     def test_uses_lead_to_fallible(self) -> None:
-        source = "use crate::A;\nuse b::{C, Gone};\nuse std::alloc::Global;\nuse std::marker::{Model, PhantomData};\n\nfn f(a: A, g: Global) -> Vec<C> {\n    h\n}\n"
-        wanted = "use crate::A;\nuse b::C;\nuse fallible::{Global, Vec};\nuse std::marker::PhantomData;\n\nfn f(a: A, g: Global) -> Vec<C> {\n    h\n}\n"
+        source = (
+            "use crate::A;\nuse b::{C, Gone};\nuse std::alloc::Global;\n"
+            "use std::marker::{Model, PhantomData};\n\nfn f(a: A, g: Global) -> Vec<C> {\n    h\n}\n"
+        )
+        wanted = (
+            "use crate::A;\nuse b::C;\nuse fallible::{Global, Vec};\nuse std::marker::PhantomData;\n\n"
+            "fn f(a: A, g: Global) -> Vec<C> {\n    h\n}\n"
+        )
         self.assertEqual(rewritten(source, f"{source}// \n    ensures {{ Gone }}"), wanted)
 
     def test_names_and_modules_go(self) -> None:
@@ -80,7 +88,10 @@ class Forms(unittest.TestCase):
         self.assertFalse(has_items("//! A.\nuse a::b;\n"))
 
     def test_exports_take_what_c_passes(self) -> None:
-        source = 'use texts::A;\n\n/// A.\n#[unsafe(no_mangle)]\npub extern "C" fn vialshoal_a(alloc: Global, room: &mut [u8]) -> u32 {\n    0\n}\n'
+        source = (
+            'use texts::A;\n\n/// A.\n#[unsafe(no_mangle)]\n'
+            'pub extern "C" fn vialshoal_a(alloc: Global, room: &mut [u8]) -> u32 {\n    0\n}\n'
+        )
         made = with_exports(source)
         self.assertIn(
             'pub unsafe extern "C" fn vialshoal_a(room_at: *mut u8, room_len: usize) -> u32 {\n    let alloc = Global;\n',
@@ -91,7 +102,10 @@ class Forms(unittest.TestCase):
 
 
 class Conditions(unittest.TestCase):
-    SOURCE = "impl<T> Ring<T> {\n    /// A.\n    pub fn seek(&mut self, tag: u64)\n        requires here { Has tag }\n    {\n        b()\n    }\n}\n"
+    SOURCE = (
+        "impl<T> Ring<T> {\n    /// A.\n    pub fn seek(&mut self, tag: u64)\n"
+        "        requires here { Has tag }\n    {\n        b()\n    }\n}\n"
+    )
 
     def test_docs_say_what_a_public_function_asks(self) -> None:
         self.assertIn(

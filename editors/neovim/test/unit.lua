@@ -81,7 +81,8 @@ end)
 
 test('a status line says what is left out', function()
   local note = fake.with('tea')
-  note.job, note.state = 1, { log = 'sent', unsent = 0, on = 1, types = true, renewed = { site = 8, own = false }, unproved = true, left_out = {
+  note.job = 1
+  note.state = { log = 'sent', unsent = 0, on = 1, types = true, renewed = { site = 8, own = false }, unproved = true, left_out = {
     { site = 7, own = false, name = 'A%da\27', characters = 14, messages = 1 },
     { site = 9, own = true, characters = 3, messages = 2 },
     { site = 4, own = false, characters = 2, messages = 2 },

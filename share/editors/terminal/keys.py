@@ -31,7 +31,7 @@ PASTES_ON, PASTES_OFF = b"\x1b[?2004h", b"\x1b[?2004l"
 _PASTE_BEGIN, _PASTE_END = b"\x1b[200~", b"\x1b[201~"
 
 
-def shown(text: str, kept: str = "") -> str:
+def safe_for_terminal(text: str, kept: str = "") -> str:
     """A text as it may be sent to a terminal: a dot in place of each control character that isn't to be
     kept."""
     def safe(found: re.Match[str]) -> str:
@@ -110,7 +110,7 @@ _SEQUENCE = re.compile(rb"""\x1b(?:
         |[\xc0-\xdf][\x80-\xbf]|[\xe0-\xef][\x80-\xbf]{2}|[\xf0-\xf7][\x80-\xbf]{3})
     )""", re.VERBOSE)
 # What can become a sequence with more bytes.
-_BEGUN = re.compile(rb"""\x1b(?:
+_UNFINISHED = re.compile(rb"""\x1b(?:
     \x1b?(?:\[(?:\[|[0-?]*[ -/]*)?)?
   | \x1b?O[0-9;]*
   | [\]P_^X][^\x07\x1b]*\x1b?
@@ -218,7 +218,7 @@ class Keyboard:
             elif found := _SEQUENCE.match(data, at):
                 at = found.end()
                 yield from self._meant(found, now)
-            elif _BEGUN.match(data, at):
+            elif _UNFINISHED.match(data, at):
                 if len(data) - at <= LONGEST_SEQUENCE:
                     break
                 at = len(data)

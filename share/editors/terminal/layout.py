@@ -9,20 +9,21 @@ from dataclasses import dataclass
 from functools import lru_cache
 
 from share.editors.terminal.keys import CONTROL, DOT, UNREADABLE
+from share.text.change import LINE_END
 
 # The bytes of a text, or of a part of it.
 Text = bytes | bytearray
 # Where a character begins in its part of a line, what is drawn for it, and how many columns that takes.
 Cell = tuple[int, str, int]
 
-LINE_END = 0x0D
+LINE_END_BYTE = LINE_END[0]
 TAB = 8
 # A longer line is laid out in parts, each beginning a row, so that a key in a line of a megabyte is answered
 # at once.
-PART = 4_096
+PART_BYTES = 4_096
 # No character takes more bytes, so that a run of marks without an end is walked in pieces. It is a multiple of
 # a flag's size: a row of flags is parted into pairs from where this begins.
-NEAR = 256
+CLUSTER_BYTES = 256
 # A word is looked for in so many bytes at a time.
 STRETCH = 1_024
 # What marks are drawn over that have no character before them.
@@ -30,7 +31,7 @@ BASE = "\u25cc"
 
 
 @dataclass
-class Row:
+class ScreenRow:
     """A row: where it begins and ends in the text, its cells, and where its part of a line begins."""
 
     begin: int
@@ -93,7 +94,7 @@ def simple_clusters(text: str) -> list[str]:
     return [text[begin:end] for begin, end in zip(begins, [*begins[1:], len(text)])]
 
 
-def joined(found: list[str]) -> list[str]:
+def with_marks(found: list[str]) -> list[str]:
     """Characters, those that can't be seen with the one before them."""
     out: list[list[str]] = []
     for one in found:
@@ -110,7 +111,7 @@ def _clusters() -> Callable[[str], list[str]]:
         find = importlib.import_module("regex").compile(r"\X").findall
     except ImportError:
         return simple_clusters
-    return lambda text: [*text] if text.isascii() else joined(find(text))
+    return lambda text: [*text] if text.isascii() else with_marks(find(text))
 
 
 def _width() -> Callable[[str], int]:
@@ -134,35 +135,35 @@ class Layout:
 
     def __init__(self, text: Text, width: int):
         self.text, self.width = text, width
-        self._parts: dict[int, list[Row]] = {}
+        self._parts: dict[int, list[ScreenRow]] = {}
 
-    def row_at(self, position: int) -> Row:
+    def row_at(self, position: int) -> ScreenRow:
         """The row in which a position lies."""
         rows = self._rows(self._part_begin(position))
         return next((row for row in reversed(rows) if row.begin <= position), rows[0])
 
-    def after(self, row: Row) -> Row | None:
+    def after(self, row: ScreenRow) -> ScreenRow | None:
         """The row below; None below the last one."""
         if row.end >= len(self.text):
             return None
         return self.row_at(row.end + self._ends_line(row.end))
 
-    def before(self, row: Row) -> Row | None:
+    def before(self, row: ScreenRow) -> ScreenRow | None:
         """The row above; None above the first one."""
         return self.row_at(row.begin - 1) if row.begin else None
 
-    def moved(self, row: Row, count: int) -> Row:
+    def moved(self, row: ScreenRow, count: int) -> ScreenRow:
         """The row so many below another, or above it, or the last one on the way there."""
         step = self.before if count < 0 else self.after
         for _ in range(abs(count)):
             row = step(row) or row
         return row
 
-    def goes_on(self, row: Row) -> bool:
+    def goes_on(self, row: ScreenRow) -> bool:
         """Whether a row's line goes on in the row below."""
         return not self._ends_line(row.end)
 
-    def below(self, row: Row, height: int) -> list[Row]:
+    def below(self, row: ScreenRow, height: int) -> list[ScreenRow]:
         """A row and those below it, so many in all at most."""
         rows = [row]
         while len(rows) < height and (next_row := self.after(rows[-1])):
@@ -170,12 +171,12 @@ class Layout:
         return rows
 
     def _ends_line(self, position: int) -> bool:
-        return position >= len(self.text) or self.text[position] == LINE_END
+        return position >= len(self.text) or self.text[position] == LINE_END_BYTE
 
     def _part_begin(self, position: int) -> int:
         """Where the line, or the part of a long line, begins in which a position lies."""
         line = self.text.rfind(b"\r", 0, position) + 1
-        number = (position - line) // PART
+        number = (position - line) // PART_BYTES
         begin = self._cut(line, number)
         # The end of a line is in the part before it.
         if begin > position or number and begin == position and self._ends_line(position):
@@ -186,25 +187,25 @@ class Layout:
         line = self.text.rfind(b"\r", 0, begin) + 1
         end = self.text.find(b"\r", begin)
         end = len(self.text) if end < 0 else end
-        number = (begin - line) // PART + 1
-        return min(end, self._cut(line, number)) if line + number * PART < end else end
+        number = (begin - line) // PART_BYTES + 1
+        return min(end, self._cut(line, number)) if line + number * PART_BYTES < end else end
 
     def _cut(self, line: int, number: int) -> int:
         """Where a part of a line begins: where a character does, at its place or soon after it."""
-        limit = line + number * PART
+        limit = line + number * PART_BYTES
         if not number:
             return line
-        near = next_boundary(self.text, limit - NEAR)
-        for one in clusters(decoded(self.text[near:limit + NEAR].partition(b"\r")[0])):
+        near = next_boundary(self.text, limit - CLUSTER_BYTES)
+        for one in clusters(decoded(self.text[near:limit + CLUSTER_BYTES].partition(b"\r")[0])):
             if near >= limit:
                 return near
             near += size_of(one)
         return near if near >= limit else next_boundary(self.text, limit)
 
-    def _rows(self, begin: int) -> list[Row]:
+    def _rows(self, begin: int) -> list[ScreenRow]:
         if begin not in self._parts:
             rows = rows_of(bytes(self.text[begin:self._part_end(begin)]), self.width)
-            self._parts[begin] = [Row(begin + first, begin + end, cells, begin) for first, end, cells in rows]
+            self._parts[begin] = [ScreenRow(begin + first, begin + end, cells, begin) for first, end, cells in rows]
         return self._parts[begin]
 
 
@@ -257,7 +258,7 @@ def pieces(text: str, width: int) -> list[str]:
 
 def simple_parts(character: str) -> list[str]:
     """The parts of a character that are drawn beside each other."""
-    return joined([*character])
+    return with_marks([*character])
 
 
 def next_boundary(text: Text, position: int) -> int:
@@ -271,19 +272,19 @@ def next_boundary(text: Text, position: int) -> int:
 
 def cluster_before(text: Text, position: int) -> int:
     """Where the character before a position begins."""
-    if not position or text[position - 1] == LINE_END:
+    if not position or text[position - 1] == LINE_END_BYTE:
         return max(0, position - 1)
-    begin = text.rfind(b"\r", max(0, position - NEAR), position) + 1
-    begin = begin or next_boundary(text, position - NEAR)
+    begin = text.rfind(b"\r", max(0, position - CLUSTER_BYTES), position) + 1
+    begin = begin or next_boundary(text, position - CLUSTER_BYTES)
     return position - size_of(clusters(decoded(text[begin:position]))[-1])
 
 
 def cluster_after(text: Text, position: int) -> int:
     """Where the character after a position ends."""
-    if position >= len(text) or text[position] == LINE_END:
+    if position >= len(text) or text[position] == LINE_END_BYTE:
         return min(len(text), position + 1)
-    end = text.find(b"\r", position, position + NEAR)
-    end = end if end >= 0 else next_boundary(text, min(len(text), position + NEAR))
+    end = text.find(b"\r", position, position + CLUSTER_BYTES)
+    end = end if end >= 0 else next_boundary(text, min(len(text), position + CLUSTER_BYTES))
     return position + size_of(clusters(decoded(text[position:end]))[0])
 
 

@@ -9,27 +9,24 @@ from collections.abc import AsyncIterator, Sequence
 
 from aiohttp import WSCloseCode, WSMsgType, web
 
-from share.engine.protocol import MOST_LINE, Wrong, read, written
-from share.text.line import Line
+from share.engine.protocol import Wrong, parse, serialize
+from share.text.line import PIECE, Assembler, Line
 
 # What a page may ask for. It names no file: who has the secret alone is to reach this note and nothing else.
 REQUESTS = {"open", "edit", "undo", "redo", "looks", "cursor", "seen", "text", "on", "who", "history", "past", "close"}
 NO_FIELDS = {"path", "replace", "link", "log", "url"}
 # A page's messages have so many bytes at most, so that who hasn't said the secret can't fill the memory.
 MOST_MESSAGE = 1 << 18
-PIECE = 1 << 18
 # What the engine's command says at its end, and how much of that a WebSocket's last words may be.
-MOST_SAID, MOST_REASON = 4_096, 120
+MOST_STDERR, MOST_REASON = 4_096, 120
 # An engine's command that doesn't end by itself is ended after so long.
 END_SECONDS = 5
 
 
-def refusal(data: bytes | None) -> Line | None:
+def page_refusal(data: bytes | None) -> Line | None:
     """What a page is answered whose line isn't handed on; None where it is. None is a line that was too long."""
     try:
-        if data is None:
-            raise Wrong("long", f"The line has more than {MOST_LINE:,} bytes.")
-        request = read(data)
+        request = parse(data)
     except Wrong as why:
         return {"answer": "", "error": why.code, "words": str(why)}
     what = request.get("do")
@@ -39,35 +36,6 @@ def refusal(data: bytes | None) -> Line | None:
     if type(request.get("id")) is int:
         line["id"] = request["id"]
     return line
-
-
-class Assembler:
-    """Makes lines of a page's messages."""
-
-    def __init__(self) -> None:
-        self._in = bytearray()
-        self._skips = False
-
-    def lines(self, data: bytes) -> list[bytes | None]:
-        """The lines that end in a message; None is one that was too long."""
-        *ended, rest = data.split(b"\n")
-        found = [self._line(end) for end in ended]
-        self._add(rest)
-        return found
-
-    def _line(self, end: bytes) -> bytes | None:
-        self._add(end)
-        line = None if self._skips else bytes(self._in)
-        self._in.clear()
-        self._skips = False
-        return line
-
-    def _add(self, data: bytes) -> None:
-        self._skips = self._skips or len(self._in) + len(data) > MOST_LINE
-        if self._skips:
-            self._in.clear()
-        else:
-            self._in += data
 
 
 async def messages(socket: web.WebSocketResponse) -> AsyncIterator[bytes]:
@@ -131,9 +99,9 @@ class Bridge:
         assembler = Assembler()
         async for data in messages(self._socket):
             for line in assembler.lines(data):
-                answer = refusal(line)
+                answer = page_refusal(line)
                 if answer is not None:
-                    await self._socket.send_str(written(answer).decode())
+                    await self._socket.send_str(serialize(answer).decode())
                 elif line is not None:
                     self._engine.stdin.write(line + b"\n")
             await self._engine.stdin.drain()
@@ -147,8 +115,8 @@ class Bridge:
     async def _listen(self) -> None:
         """Keeps what the engine's command says last."""
         assert self._engine.stderr
-        while data := await self._engine.stderr.read(MOST_SAID):
-            self._said = (self._said + data)[-MOST_SAID:]
+        while data := await self._engine.stderr.read(MOST_STDERR):
+            self._said = (self._said + data)[-MOST_STDERR:]
 
 
 async def bridged(socket: web.WebSocketResponse, command: Sequence[str]) -> None:

@@ -87,7 +87,7 @@ export class Editor {
     return this.cm.listSelections().filter((one) => !one.empty()).every((one) => {
       let left = one.from();
       for (const mark of this.cm.findMarks(one.from(), one.to()).filter((found) => this.#bold.has(found))) {
-        const { from, to } = mark.find();
+        const { from, to } = /** @type {CodeMirror.MarkerRange} */ (mark.find());
         if (CodeMirror.cmpPos(from, left) <= 0 && CodeMirror.cmpPos(to, left) > 0) left = to;
       }
       return CodeMirror.cmpPos(left, one.to()) >= 0;
@@ -171,6 +171,7 @@ export class Editor {
   #shown({ name, colour, at, anchor }, old) {
     old?.marks.forEach((mark) => mark.clear());
     const [place, other] = [at, anchor ?? at].map((index) => this.#places.at(index));
+    /** @type {{ clear(): void }[]} */
     const marks = [this.cm.setBookmark(place, { widget: caret(name, colour), handleMouseEvents: true })];
     if (anchor !== undefined) {
       const [from, to] = at < anchor ? [place, other] : [other, place];

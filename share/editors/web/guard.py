@@ -8,7 +8,7 @@ import secrets
 from collections.abc import Mapping
 from typing import Protocol
 
-SECRET_BYTES = 16
+PAGE_SECRET_BYTES = 16
 ADDRESS = "127.0.0.1"
 
 
@@ -21,7 +21,7 @@ class Headers(Protocol):
 
 def new_secret() -> str:
     """A secret that nobody guesses."""
-    return secrets.token_hex(SECRET_BYTES)
+    return secrets.token_hex(PAGE_SECRET_BYTES)
 
 
 def is_secret(said: bytes, secret: str) -> bool:

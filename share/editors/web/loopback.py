@@ -6,9 +6,9 @@ import struct
 # Linux says of a connection which account has its other end, where that is on this machine.
 SOCK_DIAG, BY_FAMILY, REQUEST, NO_COOKIE = 4, 20, 1, 0xFFFFFFFF
 ASKED = struct.Struct("=IHHIIBBBBI")
-ENDS, REST = struct.Struct(">HH16s16s"), struct.Struct("=III")
+ENDPOINTS, REST = struct.Struct(">HH16s16s"), struct.Struct("=III")
 KIND, ACCOUNT_AT = struct.Struct("=IH"), 80
-ANSWER_BYTES, ANSWER_SECONDS = 4_096, 1.0
+ANSWER_BYTES, KERNEL_SECONDS = 4_096, 1.0
 # So many may wait to be accepted, and are looked at in a row.
 BACKLOG = 64
 ROOT = 0
@@ -35,10 +35,10 @@ def account_of(line: socket.socket) -> int | None:
     """The account that has the other end of a connection over IPv4; None where the system doesn't say."""
     try:
         (there, its_port), (here, own_port) = line.getpeername(), line.getsockname()
-        body = ENDS.pack(its_port, own_port, *(socket.inet_aton(host).ljust(16, b"\0") for host in (there, here)))
+        body = ENDPOINTS.pack(its_port, own_port, *(socket.inet_aton(host).ljust(16, b"\0") for host in (there, here)))
         body += REST.pack(0, NO_COOKIE, NO_COOKIE)
         with socket.socket(socket.AF_NETLINK, socket.SOCK_RAW, SOCK_DIAG) as system:
-            system.settimeout(ANSWER_SECONDS)
+            system.settimeout(KERNEL_SECONDS)
             system.send(ASKED.pack(ASKED.size + len(body), BY_FAMILY, REQUEST, 1, 0, socket.AF_INET, socket.IPPROTO_TCP,
                                    0, 0, NO_COOKIE) + body)
             answer = system.recv(ANSWER_BYTES)

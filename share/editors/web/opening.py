@@ -55,7 +55,7 @@ def opens_a_browser(path: pathlib.Path) -> bool:
     return False
 
 
-def on_page(name: str, command: Sequence[str], user: str, browses: bool) -> None:
+def serve_note(name: str, command: Sequence[str], user: str, browses: bool) -> None:
     """Serves the note's page until the user ends it, who is called so at first."""
     secret = guard.new_secret()
     with listening() as socket:

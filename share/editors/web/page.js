@@ -16,6 +16,7 @@ const NO_ENGINE = 1011;
 const MOST_WORDS = 5;
 const MOST_LEFT_OUT = 3;
 
+/** @type {(id: string) => any} */
 const element = (id) => document.getElementById(id);
 
 /** How much of somebody's text is left out for good, in words. */
@@ -248,7 +249,8 @@ class Page {
   // The user's cursor.
 
   #moved() {
-    this.#cursorTimer ??= setTimeout(() => {
+    if (this.#cursorTimer) return;
+    this.#cursorTimer = setTimeout(() => {
       this.#cursorTimer = undefined;
       this.#client?.cursor(...this.editor.place());
     }, CURSOR_MS);

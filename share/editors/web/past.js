@@ -5,6 +5,7 @@ import { OPTIONS } from "./editor.js";
 /* global CodeMirror */
 
 const DID = { typed: "typed", deleted: "deleted", restored: "restored", looked: "in other looks" };
+/** @type {(id: string) => any} */
 const element = (id) => document.getElementById(id);
 
 /** How much was left out and whose it is, in words. */

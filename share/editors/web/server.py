@@ -14,12 +14,12 @@ from aiohttp import WSCloseCode, WSMsgType, web
 from share.editors.web import guard
 from share.editors.web.bridge import MOST_MESSAGE, bridged
 from share.editors.web.loopback import BACKLOG, OwnSocket
-from share.engine.protocol import written
+from share.engine.protocol import serialize
 from share.text.errors import Trouble
 
 HERE = pathlib.Path(__file__).absolute().parent
 CODEMIRROR = pathlib.Path("/usr/share/javascript/codemirror")
-OWN = ["secret.js", "page.js", "page.css", "client.js", "editor.js", "keys.js", "past.js", "people.js", "places.js"]
+PAGE_FILES = ["secret.js", "page.js", "page.css", "client.js", "editor.js", "keys.js", "past.js", "people.js", "places.js"]
 LIBRARY = ["lib/codemirror.js", "lib/codemirror.css", "addon/dialog/dialog.js", "addon/dialog/dialog.css",
            "addon/search/searchcursor.js", "addon/search/search.js"]
 TYPES = {".html": "text/html", ".js": "text/javascript", ".css": "text/css"}
@@ -32,7 +32,7 @@ SECRET_SECONDS, MOST_STRANGERS = 10, 16
 def files() -> dict[str, pathlib.Path]:
     """The files that the page is made of, by their addresses."""
     found = {"/": HERE / "page.html"}
-    found |= {f"/{name}": HERE / name for name in OWN}
+    found |= {f"/{name}": HERE / name for name in PAGE_FILES}
     found |= {f"/codemirror/{name}": CODEMIRROR / name for name in LIBRARY}
     for path in found.values():
         if not path.is_file():
@@ -87,7 +87,7 @@ class Page:
         finally:
             self.strangers.pop(socket, None)
         self.open.add(socket)
-        await socket.send_str(written({"notice": "welcome", "name": self.name}).decode())
+        await socket.send_str(serialize({"notice": "welcome", "name": self.name}).decode())
         await bridged(socket, self.command)
         return socket
 

@@ -1,0 +1,99 @@
+"""By what a note is reached: the log's address, the link and the password that the command line names."""
+import argparse
+import contextlib
+import getpass
+import os
+import pathlib
+import sys
+from collections.abc import Callable
+
+from share.engine import server
+from share.format import link as links
+from share.format.link import Link
+from share.store import notes
+from share.sync.session import Bar, Session
+from share.text.errors import Trouble
+
+OpensWithBar = Callable[[Bar, Callable[[], None]], Session]
+
+
+def secret(name: str | None, variable: str) -> str | None:
+    """What a file or a variable has that no argument may, since every account sees those."""
+    if name is None:
+        return os.environ.get(variable) or None
+    try:
+        return pathlib.Path(name).read_text(encoding="utf-8").strip()
+    except (OSError, ValueError) as why:
+        raise Trouble(f"{name} can't be read ({why}).") from why
+
+
+def given_url(given: argparse.Namespace) -> str | None:
+    """Where the log is, if that was given."""
+    return links.url_of(given.log) if given.log else None
+
+
+def given_link(given: argparse.Namespace) -> Link | None:
+    """The link, if one was given."""
+    spelled = secret(given.link_file, "VIALSHOAL_LINK")
+    return links.read(spelled) if spelled else None
+
+
+def given_password(given: argparse.Namespace) -> str | None:
+    """The server's password, if one was given."""
+    return secret(given.password_file, "VIALSHOAL_PASSWORD")
+
+
+def has_terminal() -> bool:
+    """Whether a user can be asked."""
+    return sys.stdin.isatty() and sys.stdout.isatty()
+
+
+def given_or_asked_link(given: argparse.Namespace, name: str) -> Link | None:
+    """The link that was given, or that is asked for where there is no such note."""
+    link = given_link(given)
+    if link or notes.is_here(name) or not has_terminal():
+        return link
+    print(f"There is no note {name} here. To join one, paste its link, which isn't shown; Enter alone makes a new "
+          "note.")
+    try:
+        spelled = getpass.getpass("Link: ")
+    except (EOFError, KeyboardInterrupt) as why:
+        raise Trouble("No note was made.") from why
+    return links.read(spelled) if spelled.strip() else None
+
+
+def require_agreement(given: argparse.Namespace, name: str, link: Link | None) -> None:
+    """Refuses a log or a link that aren't the note's, before an engine is asked."""
+    server.agree_with_engine(name, given_url(given), link)
+
+
+def opener(given: argparse.Namespace, name: str, link: Link | None) -> OpensWithBar:
+    """Opens the note that the command line names; what was left out of it is told."""
+    url, password = given_url(given), given_password(given)
+
+    def opened(bar: Bar, wake: Callable[[], None]) -> Session:
+        told: list[str] = []
+        session = Session(notes.opened(name, url, link, password, told.append), password, bar, wake)
+        for left_out in told:
+            session.tell(left_out)
+        return session
+
+    return opened
+
+
+def opener_by_link(given: argparse.Namespace, name: str) -> OpensWithBar:
+    """The same, where nobody can be asked for a link."""
+    return opener(given, name, given_link(given))
+
+
+def quiet_opener(given: argparse.Namespace, name: str) -> Callable[[Callable[[], None]], Session]:
+    """The same, where nobody sees how much is read so far."""
+    opens = opener_by_link(given, name)
+    return lambda wake: opens(lambda done, total: None, wake)
+
+
+def own_name() -> str:
+    """What others see at this person's cursor."""
+    with contextlib.suppress(KeyError, OSError):
+        return os.environ.get("VIALSHOAL_NAME") or getpass.getuser()
+    return ""

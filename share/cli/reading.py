@@ -1,0 +1,146 @@
+"""The verbs for scripts that read notes, for which no number is needed."""
+import argparse
+import pathlib
+
+from share.cli import access, html
+from share.cli.output import print_bytes, print_json, print_text, report_missing
+from share.engine import server
+from share.format.history import Messages
+from share.format.operation import INSERT, typed
+from share.program import replay, retyping
+from share.program.replay import Replays, Step, Wrote
+from share.program.site import Site
+from share.store import atomic, contents, nicknames, notes, read_only
+from share.store.contents import Counted
+from share.text.errors import Trouble, counted
+from share.text.line import Line
+from share.text.rope import shown, swapped
+
+# What was done, in words, where that isn't a word already.
+DONE = {"looked": "changed the looks of"}
+# What stands in a step's place before what was left out for good.
+LEFT_OUT = "left out"
+# How much of what was typed is shown in a line.
+MOST_QUOTED = 60
+
+
+def cat(given: argparse.Namespace) -> int:
+    """Prints a note's text."""
+    messages, missing, _ = _found_messages(given)
+    text = shown(swapped(_site_of(messages).text()))
+    if given.json:
+        return print_json({"note": given.name, "text": text, "missing": missing}, missing)
+    print_text(text)
+    return report_missing(missing)
+
+
+def export(given: argparse.Namespace) -> int:
+    """Writes a note's text as a file."""
+    messages, missing, _ = _found_messages(given)
+    site = _site_of(messages)
+    data = swapped(site.text())
+    if given.format == "html":
+        data = html.page(given.name, site.text(), site.runs()).encode()
+    site.close()
+    if given.file == "-":
+        print_bytes(data)
+    elif not given.replace and atomic.exists(given.file):
+        raise Trouble(f"{given.file} exists. --replace replaces it.")
+    else:
+        atomic.save(given.file, data)
+    return report_missing(missing)
+
+
+def history(given: argparse.Namespace) -> int:
+    """Prints a note's text as it was."""
+    messages, missing, left_out = _found_messages(given)
+    if not 0 <= given.at <= len(messages):
+        raise Trouble(f"The note's history has {counted(len(messages), 'message')}.")
+    replays = Replays()
+    past = replays.past(messages, given.at)
+    replays.close()
+    text = shown(swapped(past.text))
+    if given.json:
+        return print_json({"note": given.name, "at": given.at, "length": len(messages), "text": text,
+                           "stretches": [_stretch(past.text, one) for one in past.wrote], "left_out": left_out}, missing)
+    print_text(text)
+    return report_missing(missing)
+
+
+def log(given: argparse.Namespace) -> int:
+    """Says what was done, step by step, and by whom."""
+    messages, missing, left_out = _found_messages(given)
+    found = replay.steps(messages, 0, len(messages))
+    own, names = _own_sites(given.name), nicknames.known(given.name)
+    if given.json:
+        steps = [replay.as_line(one) | {"own": one.site in own, "name": names.get(one.site, ""),
+                                        "text": _text_of(messages, one)} for one in found]
+        return print_json({"note": given.name, "length": len(messages), "steps": steps, "left_out": left_out}, missing)
+    for one in found:
+        who = names.get(one.site) or f"site {one.site}" + (" (you)" if one.site in own else "")
+        what = (f"typed {_quoted(_text_of(messages, one))}" if one.did == "typed" else
+                f"{DONE.get(one.did, one.did)} {counted(one.size, 'byte')}")
+        print_text(f"{one.end:>9}  {who:<18}  {what}\n")
+    for line in left_out:
+        print_text(f"{LEFT_OUT:>9}  {retyping.called(line):<18}  typed {_quoted(line['text'])}\n")
+    return report_missing(missing)
+
+
+def list_notes(given: argparse.Namespace) -> int:
+    """Lists the notes that are here."""
+    found = []
+    for path in sorted((notes.data_folder() / "notes").glob(f"*{notes.SUFFIX}")):
+        name = path.name[:-len(notes.SUFFIX)]
+        if notes.NAME.fullmatch(name):
+            found.append(_listed(name, path))
+    if given.json:
+        return print_json({"notes": found}, [])
+    for one in found:
+        words = [one["name"], one.get("log") or "no log", "open" if one["open"] else "", one.get("trouble", "")]
+        print_text("  ".join(filter(None, words)) + "\n")
+    return 0
+
+
+def _found_messages(given: argparse.Namespace) -> Counted:
+    """The messages of a note, and what is missing of it."""
+    found = contents.found(given.name, access.given_url(given), access.given_link(given), access.given_password(given))
+    return contents.counted(given.name, found)
+
+
+def _site_of(messages: Messages) -> Site:
+    return Site(replay.REPLAYING, messages)
+
+
+def _own_sites(name: str) -> set[int]:
+    """This person's numbers in a note."""
+    path = notes.path_of(name)
+    return read_only.own_sites(path) if path.exists() else set()
+
+
+def _listed(name: str, path: pathlib.Path) -> Line:
+    """What is known of a note without opening it."""
+    line: Line = {"name": name, "path": str(path), "open": False}
+    try:
+        about = read_only.about(path)
+    except Trouble as why:
+        return line | {"trouble": str(why)}
+    running = server.connected(name)
+    if running:
+        running.close()
+    return line | {"open": bool(running), "log": about.url, "sealed": about.sealed}
+
+
+def _text_of(messages: Messages, step: Step) -> str:
+    """What a step typed."""
+    data = b"".join(typed(one) for one in messages[step.begin:step.end] if one.kind == INSERT)
+    return shown(swapped(data))
+
+
+def _stretch(text: bytes, one: Wrote) -> Line:
+    return {"site": one.site, "text": shown(swapped(text[one.begin:one.end]))}
+
+
+def _quoted(text: str) -> str:
+    """The begin of a text, in quotes."""
+    cut = text if len(text) <= MOST_QUOTED else text[:MOST_QUOTED - 1] + "…"
+    return repr(cut)

@@ -1,0 +1,148 @@
+"""The terminal's screen: what is drawn on it, and what comes from its keys."""
+import curses
+import os
+import select
+import sys
+import time
+from collections import deque
+from collections.abc import Iterator, Sequence
+from contextlib import contextmanager, suppress
+
+from share.editors.terminal.keys import PASTES_OFF, PASTES_ON, Event, Keyboard, safe_for_terminal
+from share.editors.terminal.layout import ScreenRow, rows_of
+
+# What is read of a paste at a time, and in one read.
+MOST_TYPED_AT_ONCE, READ_BYTES = 1 << 18, 1 << 16
+WAKE_BYTES = 4_096
+
+
+class Screen:
+    """A terminal: a window with the last line kept for what the editor says, and the keys."""
+
+    def __init__(self, window: "curses.window"):
+        self.window, self.gone = window, False
+        self.keys: deque[Event] = deque()
+        self.progress: tuple[int, int] | None = None
+        self.keyboard = Keyboard()
+        self._woken, self._waking = os.pipe()
+        os.set_blocking(self._waking, False)
+        curses.raw()
+        window.keypad(False)
+
+    @contextmanager
+    def pastes(self) -> Iterator[None]:
+        """Has the terminal say what is pasted, as long as this is open."""
+        self.window.refresh()
+        _send(PASTES_ON)
+        try:
+            yield
+        finally:
+            _send(PASTES_OFF)
+
+    @property
+    def height(self) -> int:
+        """How many rows a text has."""
+        return max(1, self.window.getmaxyx()[0] - 1)
+
+    @property
+    def width(self) -> int:
+        """How many columns a text has. One more is for a cursor after the last."""
+        return max(2, self.window.getmaxyx()[1] - 1)
+
+    def wake(self) -> None:
+        """Ends the waiting, from any thread."""
+        # So many wait that one more says nothing, where the pipe is full.
+        with suppress(BlockingIOError):
+            os.write(self._waking, b"!")
+
+    def progressed(self, done: int, total: int) -> None:
+        """Takes over how much is done of all, from any thread."""
+        self.progress = done, total
+        self.wake()
+
+    def wait(self, seconds: float) -> None:
+        """Waits for a key, to be woken, or for the time's end."""
+        due = self.keyboard.due()
+        seconds = seconds if due is None else min(seconds, due - time.monotonic())
+        try:
+            ready, _, _ = select.select([sys.stdin, self._woken], [], [], max(0, seconds))
+            if self._woken in ready:
+                os.read(self._woken, WAKE_BYTES)
+            typed = self._typed() if sys.stdin in ready else b""
+        except (OSError, ValueError):
+            self.gone, typed = True, b""
+        now = time.monotonic()
+        self.keys.extend(self.keyboard.feed(typed, now) if typed else self.keyboard.expire(now))
+        self._fit()
+
+    def _typed(self) -> bytes:
+        """What the terminal has sent; of a long paste, a good part."""
+        out = bytearray()
+        while len(out) < MOST_TYPED_AT_ONCE and select.select([sys.stdin], [], [], 0)[0]:
+            if not (more := os.read(sys.stdin.fileno(), READ_BYTES)):
+                self.gone = True
+                break
+            out += more
+        return bytes(out)
+
+    def _fit(self) -> None:
+        """Follows the terminal's size."""
+        try:
+            columns, lines = os.get_terminal_size(sys.stdout.fileno())
+        except OSError:
+            return
+        if columns and lines and (lines, columns) != self.window.getmaxyx():
+            curses.resizeterm(lines, columns)
+            self.window.clear()
+
+    def put(self, line: int, words: str, look: int = 0) -> None:
+        """Draws a line."""
+        # A window that has become smaller meanwhile is drawn again at the next turn.
+        with suppress(curses.error):
+            self.window.move(line, 0)
+            self.window.clrtoeol()
+            self.window.addstr(line, 0, words, look)
+
+    def _mark(self, line: int, row: ScreenRow, begin: int, end: int) -> None:
+        """Shows a stretch reversed, as far as it is in a row; of its end at least a cell."""
+        if begin <= row.end and end > row.begin:
+            first, last = row.column(max(begin, row.begin)), row.column(min(end, row.end))
+            with suppress(curses.error):
+                self.window.chgat(line, min(first, self.width), max(1, last - first), curses.A_REVERSE)
+
+    def say(self, left: str, right: str = "") -> tuple[int, int]:
+        """Draws the status line, with more to the right where there is room, and gives the place after what is
+        said. Long words take lines of the text, too."""
+        rows = [cells for _, _, cells in rows_of(safe_for_terminal(left).encode(), self.width - 1)][-self.height:]
+        size = 0
+        for line, cells in enumerate(rows, self.height + 1 - len(rows)):
+            words, size = "".join(seen for _, seen, _ in cells), sum(width for _, _, width in cells)
+            room = self.width - 1 - size
+            end = right if line == self.height and len(right) + 3 <= room else ""
+            self.put(line, f" {words}{end.rjust(room)}", curses.A_REVERSE)
+        return self.height, 1 + size
+
+    def draw(self, rows: list[ScreenRow], cursor: int, words: tuple[str, str], asks: bool = False,
+             others: Sequence[int] = (), selected: tuple[int, int] | None = None) -> None:
+        """Draws rows of a text with others' cursors and what is selected, the status line, and the cursor at its place;
+        after a question, where one is asked."""
+        at = 0, 0
+        for line in range(self.height):
+            row = rows[line] if line < len(rows) else None
+            self.put(line, "".join(cell for _, cell, _ in row.cells) if row else "")
+            if row and row.begin <= cursor <= row.end:
+                at = line, row.column(cursor)
+            if row:
+                for begin, end in [*((place, place + 1) for place in others), *([selected] if selected else [])]:
+                    self._mark(line, row, begin, end)
+        said = self.say(*words)
+        line, column = said if asks else at
+        with suppress(curses.error):
+            self.window.move(line, min(column, self.width))
+        self.window.refresh()
+
+
+def _send(sequence: bytes) -> None:
+    """Sends a sequence to the terminal, if that is still there."""
+    with suppress(OSError):
+        os.write(sys.stdout.fileno(), sequence)

@@ -1,0 +1,71 @@
+"""What the note is asked to do, in a thread of its own."""
+from collections.abc import Callable
+from concurrent.futures import Future
+
+from share.editors.note import EngineNote
+from share.editors.terminal.screen import Screen
+from share.editors.terminal.status_line import StatusLine
+from share.editors.terminal.view import View
+from share.editors.terminal.waiting import Waiting
+from share.editors.terminal.worker import Outcome, Worker
+from share.sync.session import Status
+from share.text.errors import Refused
+
+CANT_TYPE = "You can't type yet: this editor has no number of its own, which it gets once the log answers."
+
+
+class Work:
+    """Has the note do one thing after another; what fails ends the editing."""
+
+    def __init__(self, note: EngineNote, status: Status, thread: Worker, screen: Screen, waiting: Waiting, view: View,
+                 line: StatusLine):
+        self.status = status
+        # What ended the editing: the text can be moved in and saved then, and no more.
+        self.failure: BaseException | None = None
+        self._note, self._thread, self._screen = note, thread, screen
+        self._waiting, self._view, self._line = waiting, view, line
+
+    def do(self, work: Callable[[], Outcome]) -> Outcome | None:
+        """Has the note do something, and gives what that gives; None where it failed."""
+        if self.failure:
+            return None
+        future = self._thread.do(work)
+        self._waiting.until_done(future)
+        self._screen.progress = None
+        self._view.look()
+        if self._note.notice:
+            self._line.say(self._note.notice)
+            self._note.notice = ""
+        if not (why := future.exception()):
+            return future.result()
+        if isinstance(why, Refused):
+            self._line.say(str(why))
+        else:
+            self.stop(why)
+        return None
+
+    def edit(self, work: Callable[[], Outcome]) -> Outcome | None:
+        """Has the note make an edit, where one can be made."""
+        if self.status.can_type:
+            return self.do(work)
+        self._line.say(CANT_TYPE)
+        return None
+
+    def take_in(self) -> None:
+        """Has the note take in what came from others."""
+
+        def taken_in() -> None:
+            self._note.take_in()
+            self.status = self._note.session.status()
+
+        self.do(taken_in)
+
+    def close(self) -> "Future[None]":
+        """Closes the note, after all that it was asked to do."""
+        closing = self._thread.do(self._note.session.close)
+        closing.add_done_callback(lambda _: self._screen.wake())
+        return closing
+
+    def stop(self, why: BaseException) -> None:
+        """Ends the editing; the first reason counts."""
+        self.failure = self.failure or why

@@ -1,0 +1,86 @@
+"""Edits that the engine makes for an editor by the characters' names: undo and redo, looks, and typing again what was left out."""
+from functools import partial
+from itertools import chain
+
+from share.engine import protocol
+from share.engine.arrivals import Arrivals
+from share.engine.authors import Authors
+from share.engine.editor import Peer
+from share.engine.protocol import Wrong
+from share.engine.shared_text import SharedText
+from share.program.retyping import Lost
+from share.program.site import Told
+from share.program.undo import Step, do, looks_of
+from share.sync.session import Session
+from share.text.errors import Refused, Trouble
+from share.text.line import Line
+from share.text.looks import Looked, setting
+from share.text.names import united
+
+
+class ByName:
+    """The requests `undo`, `redo`, `looks`, `lost` and `recover`. What they change also the editor that asks is told by a notice. The
+    engine's thread alone calls it."""
+
+    def __init__(self, session: Session, text: SharedText, arrivals: Arrivals, authors: Authors):
+        self._session, self._text, self._arrivals, self._authors = session, text, arrivals, authors
+
+    def undo(self, peer: Peer, redo: bool) -> Line:
+        """Takes back an editor's last edit that changes something, or does it again."""
+        self._arrivals.check_typing()
+        peer.typed_end = None
+        while step := peer.undoing.next(redo):
+            changed = self._do(peer, step, redo)
+            peer.undoing.done(redo, changed)
+            if changed.does_something():
+                return {"done": True}
+        return {"done": False}
+
+    def look(self, peer: Peer, request: Line) -> Line:
+        """Makes stretches bold, or of a colour, as far as they aren't; as one edit."""
+        peer.transformer.seen(protocol.number(request, "version"))
+        sets = setting(*protocol.looks(request))
+        places = [(self._text.place(peer, begin), self._text.place(peer, end)) for begin, end in protocol.ranges(request)]
+        self._arrivals.check_typing()
+        site = self._session.site
+        names = united(chain.from_iterable(site.names(*one) for one in places))
+        looked = [Looked(*one, sets(one[1])) for parts in looks_of(site, names) for one in parts]
+        peer.typed_end = None
+        changed = self._do(peer, Step(looked=looked), redo=True)
+        if changed.does_something():
+            peer.undoing.add(changed)
+        return {}
+
+    def _do(self, peer: Peer, step: Step, redo: bool) -> Step:
+        """Takes an edit back, or does it; what that changed."""
+        told: list[Told] = []
+        changed = Step()
+        try:
+            edited = self._session.edit(partial(do, step=step, redo=redo, told=told, changed=changed))
+        except Trouble as why:
+            self._arrivals.catch_up()
+            raise Wrong("unkept", str(why)) from why
+        for part in told:
+            self._text.show(part, peer)
+        if edited.refused is not None:
+            raise Wrong("refused", str(Refused(edited.refused)), number=edited.refused)
+        return changed
+
+    def lost(self) -> Line:
+        """What was left out."""
+        return {"lost": self._authors.lost(self._session.lost())}
+
+    def recover(self) -> Line:
+        """Types again what was left out."""
+        self._arrivals.check_typing()
+        found: list[Lost] = []
+        try:
+            found = self._session.recover()
+        except Trouble as why:
+            raise Wrong("unkept", str(why)) from why
+        except Refused as why:
+            raise Wrong("refused", str(why), number=why.number) from why
+        finally:
+            self._arrivals.catch_up()
+        self._arrivals.look_at_number()
+        return {"lost": self._authors.lost(found)}

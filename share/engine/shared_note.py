@@ -1,0 +1,119 @@
+"""A note that is open, in its parts: the text, who is on, what comes, what is typed, and the history."""
+from collections.abc import Callable, Sequence
+
+from share.engine import protocol
+from share.engine.arrivals import Arrivals
+from share.engine.authors import Authors
+from share.engine.by_name import ByName
+from share.engine.editor import Peer
+from share.engine.edits import EditRequests
+from share.engine.formatting import Formatting
+from share.engine.history import History
+from share.engine.others import OtherEditors
+from share.engine.presence import EditorPresence
+from share.engine.protocol import Wrong
+from share.engine.shared_text import SharedText
+from share.store import atomic
+from share.sync.session import Session
+from share.text.line import MOST_LINE, Line
+from share.text.looks import COLOURS
+
+
+class SharedNote:
+    """A note that editors have open. The engine's thread alone calls it; `wake` is called by any."""
+
+    def __init__(self, name: str, session: Session, peers: Sequence[Peer], others: OtherEditors, wake: Callable[[], None],
+                 answer: Callable[[Peer, Line, Line], None]):
+        self.name, self.session, self._peers = name, session, peers
+        self.formatting = Formatting()
+        self.text = SharedText(session, peers, [others.moved, lambda change, _: self.formatting.moved(change)])
+        self.authors = Authors(name, session)
+        self.arrivals = Arrivals(name, session, peers, self.text, self.authors)
+        self.presence = EditorPresence(session, peers, self.text, others, self.authors)
+        self.edits = EditRequests(session, self.text, self.arrivals)
+        self.by_name = ByName(session, self.text, self.arrivals, self.authors)
+        self.history = History(session, self.text, self.authors, wake, answer)
+
+    def take_in(self) -> None:
+        """Takes in what came from others, and answers what has been done meanwhile."""
+        try:
+            self.arrivals.take_in()
+            self.presence.meet(self.arrivals.status)
+            if self._sees_looks():
+                self.formatting.look(self.session.site)
+            self.arrivals.trouble = None
+        except Exception as fault:  # pylint: disable=broad-except
+            self.arrivals.failed(fault)
+        self.history.answer()
+
+    def show(self, peer: Peer) -> None:
+        """Sends an editor what is new, but for the text."""
+        peer.show_cursors(self.presence.cursors_for(peer))
+        peer.show_looks(self.formatting, self.text.measured)
+        peer.show_state(self.arrivals.state())
+
+    def has_more(self) -> bool:
+        """Whether some of what came is still to be taken in."""
+        return self.session.has_more() and not self.arrivals.trouble
+
+    def is_restless(self) -> bool:
+        """Whether something is to be said soon, though nothing comes."""
+        return self.presence.has_to_say or self.formatting.is_due and self._sees_looks()
+
+    def _sees_looks(self) -> bool:
+        """Whether an editor shows looks."""
+        return any(peer.sees_looks for peer in self._peers)
+
+    def opened(self, peer: Peer) -> Line:
+        """What an editor is answered that opens the note."""
+        if peer.name:
+            self.authors.are_called({self.session.number: peer.name})
+        line = {"note": self.name, "units": peer.transformer.units.name, "text": self.text.measured.text(), "version": 0, "edits": 0,
+                "you": peer.who, "site": self.session.number, "most": MOST_LINE}
+        return line | {"colours": COLOURS} if peer.sees_looks else line
+
+    def save(self, request: Line) -> Line:
+        """Does the request `save`."""
+        path = protocol.string(request, "path")
+        if not path.startswith(("/", "~")):
+            # The engine's folder is that of whichever editor started it.
+            raise Wrong("unsaved", "path has to begin with / or ~.")
+        try:
+            if request.get("replace") is not True and atomic.exists(path):
+                raise Wrong("exists", f"{path} exists.")
+            return {"path": str(atomic.save(path, self.text.measured.as_file()))}
+        except atomic.NotSaved as why:
+            raise Wrong("unsaved", str(why)) from why
+
+    def close(self) -> None:
+        """Closes the note; what isn't sent stays in its file."""
+        self.history.close()
+        self.session.close()
+
+
+def _seen(peer: Peer, request: Line) -> Line:
+    peer.transformer.seen(protocol.number(request, "version"))
+    return {}
+
+
+def _send_text(peer: Peer, request: Line) -> Line:
+    peer.transformer.void(protocol.number(request, "edits"))
+    return {}
+
+
+# What an editor that has opened the note may ask for, but for edits; None is answered later.
+HANDLERS: dict[str, Callable[[SharedNote, Peer, Line], Line | None]] = {
+    "undo": lambda note, peer, _: note.by_name.undo(peer, redo=False),
+    "redo": lambda note, peer, _: note.by_name.undo(peer, redo=True),
+    "looks": lambda note, peer, request: note.by_name.look(peer, request),
+    "cursor": lambda note, peer, request: note.presence.cursor(peer, request),
+    "seen": lambda _, peer, request: _seen(peer, request),
+    "text": lambda _, peer, request: _send_text(peer, request),
+    "on": lambda note, *_: note.presence.people(),
+    "who": lambda note, peer, request: note.history.who(peer, request),
+    "history": lambda note, peer, request: note.history.steps(peer, request),
+    "past": lambda note, peer, request: note.history.past(peer, request),
+    "lost": lambda note, *_: note.by_name.lost(),
+    "recover": lambda note, *_: note.by_name.recover(),
+    "save": lambda note, _, request: note.save(request),
+}

@@ -1,0 +1,118 @@
+"""The text of a note as its editors are shown it, and how a change of it comes to each of them."""
+from collections.abc import Callable, Iterable, Sequence
+from contextlib import suppress
+
+from share.engine.editor import Peer
+from share.engine.protocol import Wrong
+from share.program.site import Told
+from share.sync.session import Session
+from share.text.change import Change
+from share.text.delta import Op, in_text, of_changes
+from share.text.names import Names
+from share.text.rope import Measured, Outside, Split, shown, swapped
+from share.text.units import Units
+
+# What follows a change of the text; the names of what that brings may be known.
+Follower = Callable[[Change, list[Names] | None], None]
+
+
+class SharedText:
+    """A note's text. Each change of it goes to the editors that don't show it yet, and all places in it follow. The engine's
+    thread alone calls it."""
+
+    def __init__(self, session: Session, peers: Sequence[Peer], followers: Sequence[Follower]):
+        self.measured = Measured(session.text())
+        self._session, self._peers, self._followers = session, peers, followers
+        # What undoes the changes that may turn out not to be kept, in the order of these; None where there are none.
+        self._inverse: list[Change] | None = None
+
+    def place(self, peer: Peer, position: int) -> int:
+        """The place in bytes of a position in an editor's text."""
+        try:
+            return self.measured.place(peer.transformer.position(position), peer.transformer.units)
+        except Outside as why:
+            raise Wrong("outside", f"Position {position} is outside the text.") from why
+        except Split as why:
+            raise Wrong("split", f"Position {position} is inside a character.") from why
+
+    def changes_of(self, op: Op, units: Units) -> list[Change]:
+        """The changes of an op in the note's bytes, from the last one to the first."""
+        place = self.measured.place
+        try:
+            return [Change(place(begin, units), place(end, units), swapped(units.decode(data).encode()))
+                    for begin, end, data in reversed(in_text(op, units))]
+        except Outside as why:
+            raise Wrong("outside", str(why)) from why
+        except Split as why:
+            raise Wrong("split", str(why)) from why
+
+    def begin_unkept(self) -> None:
+        """Remembers from now on how to take back what is changed."""
+        self._inverse = []
+
+    def end_unkept(self) -> None:
+        """Takes what was changed since for kept."""
+        self._inverse = None
+
+    def take_back(self) -> None:
+        """Shows the text without edits that weren't kept. Two texts alone don't tell where between equal characters it was that
+        something stood, and what is typed beside it meanwhile would come to stand within a word."""
+        inverse, self._inverse = self._inverse or [], None
+        with suppress(Exception):
+            self.change((one, None) for one in reversed(inverse))
+
+    def take_out(self, peer: Peer, own: Op, now: bytes) -> None:
+        """Shows a text where something else came of an edit than its editor shows."""
+        units = peer.transformer.units
+        data, size = units.encode(self.measured.text()), units.size
+        # Two texts alone don't tell where between equal characters it was that something stood.
+        undone = [(begin, begin + units.count(new), data[size * begin:size * end]) for begin, end, new in in_text(own, units)]
+        peer.transformer.changed(of_changes(undone, units))
+        self.become(now)
+
+    def show(self, told: Told, undoes: Peer | None = None) -> None:
+        """Shows what the site's text has become, perhaps because one of the editors asked for that."""
+        if not isinstance(told, list):
+            self.become(told)
+            return
+        named = [(one, [] if not one.new else [one.names] if one.names else None) for one in told]
+        self.change(named, undoes=undoes)
+
+    def become(self, now: bytes) -> None:
+        """Shows a text, where it isn't known what has changed."""
+        before = self.measured.as_note()
+        if now != before:
+            self.change((one, None) for one in self._session.differing(before, now))
+
+    def change(self, changes: Iterable[tuple[Change, list[Names] | None]], but: Peer | None = None,
+               undoes: Peer | None = None) -> None:
+        """Shows all editors, but perhaps one, changes that the site has made, with the names of what they bring where these are
+        known. The cursor of who asked for them goes where they are."""
+        open_ones = [peer.transformer for peer in self._peers if peer.is_open and peer is not but]
+        made: dict[Units, list[tuple[int, int, bytes]]] = {one.units: [] for one in open_ones}
+        for one, names in changes:
+            whole = self.measured.whole(one)
+            for units, found in made.items():
+                found.append(self._in_units(whole, units))
+            if self._inverse is not None:
+                before = self.measured.slice(whole.begin, whole.end)
+                self._inverse.append(Change(whole.begin, whole.begin + len(whole.new), before))
+            self.measured.replace(whole)
+            self._move(one, names)
+            if undoes:
+                undoes.jump = one.begin + len(one.new)
+        ops = {units: of_changes(found, units) for units, found in made.items()}
+        for transformer in open_ones:
+            transformer.changed(ops[transformer.units])
+
+    def _in_units(self, whole: Change, units: Units) -> tuple[int, int, bytes]:
+        """A change of whole characters as editors that count in these units make it."""
+        begin, end = self.measured.position(whole.begin, units), self.measured.position(whole.end, units)
+        return begin, end, units.encode(shown(swapped(whole.new)))
+
+    def _move(self, one: Change, names: list[Names] | None) -> None:
+        """Moves all places along with a change."""
+        for follow in self._followers:
+            follow(one, names)
+        for peer in self._peers:
+            peer.moved(one)

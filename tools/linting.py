@@ -1,0 +1,103 @@
+"""Runs the linters, each over the files that are its own."""
+from __future__ import annotations
+
+import importlib.util
+import os
+import shutil
+import subprocess
+import sys
+from collections.abc import Callable, Iterator
+from pathlib import Path
+from typing import NamedTuple
+
+TOP = Path(__file__).resolve().parent.parent
+EMACS_PACKAGE = "editors/emacs/vialshoal.el"
+PACKAGE_LINT = Path("/usr/share/emacs/site-lisp/elpa-src")
+# The commands, the Python modules whose types are looked at, and the files; each with the package of Debian's that has it.
+COMMANDS = {"mypy": "mypy", "flake8": "flake8", "tsc": "node-typescript", "luacheck": "lua-check", "emacs": "emacs-nox"}
+MODULES = {"nacl": "python3-nacl", "hypothesis": "python3-hypothesis", "wcwidth": "python3-wcwidth", "regex": "python3-regex",
+           "aiohttp": "python3-aiohttp", "selenium": "python3-selenium"}
+FILES = {"/usr/share/nodejs/@types/codemirror/index.d.ts": "libjs-codemirror"}
+# The folders that have Python, each with the tests in it.
+PYTHON = ("share", "tools", "editors", "bench", "bin")
+# Scripts whose names aren't each other's, so that one run of mypy can read them.
+SCRIPTS = (("bin",), ("bench",), ("editors",))
+PACKAGES = ("share", "tools")
+
+
+class Step(NamedTuple):
+    """What is looked at, and how."""
+
+    what: str
+    words: list[str]
+
+
+def missing() -> list[str]:
+    """The packages that are needed and aren't here."""
+    found = [package for command, package in COMMANDS.items() if not shutil.which(command)]
+    found += [package for module, package in MODULES.items() if not importlib.util.find_spec(module)]
+    found += [package for path, package in FILES.items() if not Path(path).exists()]
+    return found if package_lint() else [*found, "elpa-package-lint"]
+
+
+def package_lint() -> Path | None:
+    """The folder of Emacs's package-lint."""
+    return next(iter(sorted(PACKAGE_LINT.glob("package-lint-*"))), None)
+
+
+def install() -> None:
+    """Installs what is missing, where that may be done."""
+    if missing() and os.geteuid() == 0 and shutil.which("apt-get"):
+        environment = {**os.environ, "DEBIAN_FRONTEND": "noninteractive"}
+        for words in ["update"], ["install", "-y", "--no-install-recommends", *missing()]:
+            subprocess.run(["apt-get", *words], env=environment, stdout=sys.stderr, check=False)
+        importlib.invalidate_caches()
+    if missing():
+        sys.exit(f"lint: these packages are missing, and the linters need them: {' '.join(missing())}")
+
+
+def scripts(folders: tuple[str, ...]) -> list[str]:
+    """The Python files of some folders whose names don't say that they are, and that are no modules of a package."""
+    paths = (path for folder in folders for path in sorted((TOP / folder).rglob("*")) if path.is_file() and "out" not in path.parts)
+    return [str(path.relative_to(TOP)) for path in paths if path.suffix == ".py" or not path.suffix and is_python(path)]
+
+
+def is_python(path: Path) -> bool:
+    """Whether a file's first line names Python."""
+    with path.open("rb") as file:
+        first = file.readline()
+    return first.startswith(b"#!") and b"python" in first
+
+
+def cache() -> Path:
+    """Where mypy keeps what it knows, outside the tree."""
+    return Path(os.environ.get("XDG_CACHE_HOME") or Path.home() / ".cache") / "vialshoal" / "mypy"
+
+
+def steps() -> Iterator[Step]:
+    """What is looked at, one after the other."""
+    mypy = ["mypy", "--config-file", "pyproject.toml", f"--cache-dir={cache()}"]
+    yield Step("the types of share/ and tools/", [*mypy, *PACKAGES])
+    for folders in SCRIPTS:
+        yield Step(f"the types of {', '.join(folders)}/", [*mypy, *scripts(folders)])
+    yield Step("flake8", ["flake8", *PACKAGES, *scripts(PYTHON[2:])])
+    for name in "page", "node":
+        yield Step(f"the types of the {name}'s JavaScript", ["tsc", "--project", f"tools/types/{name}.json"])
+    yield Step("Lua", ["luacheck", "--quiet", "--no-cache", "editors/neovim"])
+    yield Step("Emacs Lisp", ["emacs", "-Q", "--batch", "-L", str(package_lint()), "-l", "tools/lint.el", EMACS_PACKAGE])
+
+
+def passes(step: Step, run: Callable[..., subprocess.CompletedProcess[str]] = subprocess.run) -> bool:
+    """Whether nothing is wrong; prints what is."""
+    done = run(step.words, cwd=TOP, stdin=subprocess.DEVNULL, stdout=subprocess.PIPE, stderr=subprocess.STDOUT, text=True, check=False)
+    if done.returncode:
+        print(f"lint: {step.what}:\n{done.stdout}", flush=True)
+    return done.returncode == 0
+
+
+def main() -> int:
+    """The status: 1 where something is wrong."""
+    install()
+    results = [passes(step) for step in steps()]
+    print(f"{sum(results)} passed, {len(results) - sum(results)} failed")
+    return 0 if all(results) else 1
