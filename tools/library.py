@@ -35,11 +35,11 @@ Version: 0.1
 Cflags: -I${{prefix}}
 Libs: -L${{prefix}} -lvialshoal
 """
-MORE = """The crates are proved first, where no gate on this machine did that, in half an hour; then its own, in some minutes. Without --unproved
-it is never made of what isn't proved."""
+MORE = """The crates are proved first, where no gate on this machine did that, in half an hour; then its own, in some minutes. Without
+--unproved it is never made of what isn't proved."""
 UNPROVED = "make it as ordinary Rust, by cargo, in half a minute"
-WASM = """a package for Node, and for pages, that has the library as WebAssembly, which stock Rust compiles from rust/ and which isn't proved;
-alone it makes nothing else, and needs no toolchain"""
+WASM = """a package for Node, and for pages, that has the library as WebAssembly, which stock Rust compiles from rust/ and which isn't
+proved; alone it makes nothing else, and needs no toolchain"""
 
 
 def commit() -> str:

@@ -11,7 +11,6 @@ from typing import TYPE_CHECKING
 from tools import TOP
 from tools.packages import making
 from tools.packages.calling import Words, call
-from tools.packages.examples import example
 from tools.packages.lacking import Lacking
 from tools.packages.scripts import plain_rows
 
