@@ -10,6 +10,7 @@ import subprocess
 import sys
 import tempfile
 from collections.abc import Iterator, Sequence
+from contextlib import contextmanager
 from functools import cache
 from pathlib import Path
 
@@ -23,20 +24,27 @@ IS_DONE_IN_A_RUN = re.compile(r"^logic=proved", re.MULTILINE)
 IS_DONE_IN_THE_GATE = re.compile(r"^rt: \w+ (?:proved$|is kept)", re.MULTILINE)
 
 
-def needed_crates() -> dict[str, str]:
-    """The crates that the program is made of, itself among them, each with its line of crates.txt."""
-    lines = {}
-    for line in (TOP / "crates.txt").read_text().splitlines():
-        name, colon, _ = line.partition(":")
-        if colon and not line.startswith("#"):
-            lines[name.strip()] = line
+def crate_lines() -> dict[str, str]:
+    """All crates, each with its line of crates.txt."""
+    lines = (line for line in (TOP / "crates.txt").read_text().splitlines() if ":" in line and not line.startswith("#"))
+    return {line.split(":")[0].split()[0]: line for line in lines}
+
+
+def uses(line: str) -> list[str]:
+    """What a crate uses, by its line."""
+    return line.partition(":")[2].split()
+
+
+def needed_crates(top: str = PROGRAM) -> dict[str, str]:
+    """The crates that a program or a library is made of, itself among them, each with its line of crates.txt."""
+    lines = crate_lines()
     found: dict[str, str] = {}
-    left = [PROGRAM]
+    left = [top]
     while left:
         name = left.pop()
         if name in lines and name not in found:
             found[name] = lines[name]
-            left += lines[name].partition(":")[2].split()
+            left += uses(lines[name])
     return found
 
 
@@ -46,20 +54,24 @@ def kit() -> str:
     return first_line(["rt", "version"])
 
 
+def toolchain_folder() -> Path:
+    return Path(first_line(["rt", "doc"])).parent
+
+
 def proved_files(crates: Sequence[str]) -> Iterator[Path]:
     for name in sorted(crates):
         for part in PROVED_PARTS:
             yield from sorted(it for it in (TOP / "crates" / name / part).rglob("*") if it.is_file())
 
 
-def sum_of_sources() -> str:
-    """The sum of all that the program is proved from: its crates' files and lines, and HANDLES."""
-    crates = needed_crates()
+def sum_of_sources(top: str = PROGRAM) -> str:
+    """The sum of all that a program or a library is proved from: its crates' files and lines, and HANDLES."""
+    crates = needed_crates(top)
     return sum_of_files(proved_files(list(crates)), sorted(crates.items()), (TOP / "HANDLES").read_bytes())
 
 
 PROVED = Build("proved", PROVED_FOLDER, "proved", "rt", kit, sum_of_sources)
-BUILT = PROVED.program
+BUILT = PROVED.file
 
 
 def copy_crates(crates: dict[str, str], to: Path) -> None:
@@ -71,13 +83,19 @@ def copy_crates(crates: dict[str, str], to: Path) -> None:
         shutil.copytree(TOP / "crates" / name, to / "crates" / name, ignore=leave)
 
 
-def prove_side_by_side(crates: dict[str, str], sources: str) -> None:
-    """Has the tool's gate prove a copy of these crates alone. It proves from nothing, with each processor, what no gate on this
-    machine has proved before; what it proves is kept for the next gate."""
-    with tempfile.TemporaryDirectory(prefix="site_cli-") as room:
+@contextmanager
+def proved_copy(crates: dict[str, str], build: Build) -> Iterator[Path]:
+    """A copy of these crates alone that the tool's gate has proved, with what it left there. It proves from nothing, with each processor,
+    what no gate on this machine has proved before; what it proves is kept for the next gate."""
+    with tempfile.TemporaryDirectory(prefix=f"{build.crate}-") as room:
         copy_crates(crates, Path(room))
-        PROVED.call(["rt", "ci"], Path(room))
-        PROVED.keep(Path(room) / "crates" / PROGRAM / "out" / PROGRAM, sources)
+        build.call(["rt", "ci"], Path(room))
+        yield Path(room)
+
+
+def progress(build: Build, crates: dict[str, str], is_done: re.Pattern[str] = IS_DONE_IN_THE_GATE) -> Progress:
+    """Reports how many crates are proved."""
+    return Progress(build, lambda said: f"{len(is_done.findall(said))} of {len(crates)} crates proved")
 
 
 def is_worked_on(crates: Sequence[str]) -> bool:
@@ -93,13 +111,13 @@ def build() -> None:
         crates, sources = needed_crates(), PROVED.sum_of_sources()
         PROVED.log.write_bytes(b"")
         by_itself = is_worked_on([name for name in crates if name != PROGRAM])
-        is_done = IS_DONE_IN_A_RUN if by_itself else IS_DONE_IN_THE_GATE
-        with Progress(PROVED, lambda said: f"{len(is_done.findall(said))} of {len(crates)} crates proved"):
+        with progress(PROVED, crates, IS_DONE_IN_A_RUN if by_itself else IS_DONE_IN_THE_GATE):
             if by_itself:
                 PROVED.call(["rt", "run"], CRATE)
                 PROVED.note(sources)
-            else:
-                prove_side_by_side(crates, sources)
+                return
+            with proved_copy(crates, PROVED) as room:
+                PROVED.keep(room / "crates" / PROGRAM / "out" / PROGRAM, sources)
 
 
 def main(words: list[str]) -> int:

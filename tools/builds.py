@@ -1,4 +1,5 @@
-"""The program's builds, of which several may be kept: each in a folder of its own, beside a file that says what it was made of."""
+"""Builds of the program and of the library, of which several may be kept: each in a folder of its own, beside a file that says what it
+was made of."""
 from __future__ import annotations
 
 import fcntl
@@ -33,27 +34,27 @@ REPORT_SECONDS = 2
 
 
 class Unbuilt(Exception):
-    """The program isn't built, for this reason; perhaps a log has more."""
+    """What was to be built isn't, for this reason; perhaps a log has more."""
 
     def __init__(self, why: str, log: Path | None = None) -> None:
         super().__init__(why)
         self.log = log
 
 
-def say(line: str) -> None:
-    print(f"{PROGRAM}: {line}", file=sys.stderr, flush=True)
+def say(line: str, crate: str = PROGRAM) -> None:
+    print(f"{crate}: {line}", file=sys.stderr, flush=True)
 
 
-def say_why_not(why: Exception) -> None:
-    say(f"the program isn't built: {why}")
+def say_why_not(why: Exception, crate: str = PROGRAM, what: str = "the program") -> None:
+    say(f"{what} isn't built: {why}", crate)
     if isinstance(why, Unbuilt) and why.log:
-        say(f"{why.log.relative_to(TOP)} ends so:")
+        say(f"{why.log.relative_to(TOP)} ends so:", crate)
         print(*why.log.read_text(errors="replace").splitlines()[-20:], sep="\n", file=sys.stderr)
 
 
 @dataclass(frozen=True)
 class Build:
-    """A way in which the program is built, and the folder that keeps what was built so last."""
+    """A way in which a crate is built, and the folder that keeps what was built so last."""
 
     name: str
     folder: Path
@@ -62,10 +63,13 @@ class Build:
     command: str
     tool: Callable[[], str]
     sum_of_sources: Callable[[], str]
+    crate: str = PROGRAM
+    # The name of the file that is built.
+    makes: str = PROGRAM
 
     @property
-    def program(self) -> Path:
-        return self.folder / PROGRAM
+    def file(self) -> Path:
+        return self.folder / self.makes
 
     @property
     def record(self) -> Path:
@@ -83,10 +87,10 @@ class Build:
         return f"{self.about}, by {self.tool()}"
 
     def sums(self, sources: str) -> str:
-        return f"{sources} {hashlib.sha256(self.program.read_bytes()).hexdigest()}"
+        return f"{sources} {hashlib.sha256(self.file.read_bytes()).hexdigest()}"
 
     def is_current(self) -> bool:
-        """Whether the program that is kept was made of the sources as they are, and by the tool that is here, if one is."""
+        """Whether what is kept was made of the sources as they are, and by the tool that is here, if one is."""
         try:
             _, told, sums = self.record.read_text().splitlines()
             return (not self.can_be_made() or told == self.told()) and sums == self.sums(self.sum_of_sources())
@@ -94,20 +98,20 @@ class Build:
             return False
 
     def note(self, sources: str) -> None:
-        """Writes down what the program that is kept was made of, unless that was changed meanwhile."""
+        """Writes down what the file that is kept was made of, unless that was changed meanwhile."""
         if sources == self.sum_of_sources():
             fresh = self.folder / f"{BUILT_FROM}.new"
             fresh.write_text(f"Vialshoal, commit {commit()}\n{self.told()}\n{self.sums(sources)}\n")
             os.replace(fresh, self.record)
 
     def keep(self, made: Path, sources: str) -> None:
-        """Has a program that was made of these sources take the place of the one that is kept. One that runs can't be written, but
-        it can be replaced."""
+        """Has a file that was made of these sources take the place of the one that is kept. A program that runs can't be written,
+        but it can be replaced."""
         self.folder.mkdir(parents=True, exist_ok=True)
         self.record.unlink(missing_ok=True)
-        fresh = self.folder / f"{PROGRAM}.new"
+        fresh = self.folder / f"{self.makes}.new"
         shutil.copy(made, fresh)
-        os.replace(fresh, self.program)
+        os.replace(fresh, self.file)
         self.note(sources)
 
     def take(self) -> None:
@@ -126,7 +130,7 @@ class Build:
             try:
                 fcntl.flock(lock, fcntl.LOCK_EX | fcntl.LOCK_NB)
             except BlockingIOError:
-                say("it is being built already, which is waited for")
+                say("it is being built already, which is waited for", self.crate)
                 fcntl.flock(lock, fcntl.LOCK_EX)
             yield
 
@@ -207,11 +211,11 @@ class Progress:
         if self.ended.wait(QUIET_SECONDS):
             return
         self.has_begun, before = True, ""
-        say(f"what the tool says is in {self.build.log.relative_to(TOP)}")
+        say(f"what the tool says is in {self.build.log.relative_to(TOP)}", self.build.crate)
         while True:
             step = self.step(self.build.log.read_text(errors="replace"))
             minutes, seconds = divmod(int(time.monotonic() - self.began), 60)
-            line = f"{PROGRAM}: {step}{', ' if step else ''}{minutes}:{seconds:02} minutes so far"
+            line = f"{self.build.crate}: {step}{', ' if step else ''}{minutes}:{seconds:02} minutes so far"
             if self.is_terminal:
                 print(f"\r{line}", end="", file=sys.stderr, flush=True)
             elif step != before:

@@ -1,5 +1,6 @@
 """Makes a folder that is the package for Node and for pages: python3 -B -m tools.npm FOLDER [--wasm]. With --wasm Rust compiles the
-library from rust/ as WebAssembly; where it can't, what is lacking is told, nothing is changed, and the status is 3."""
+library from rust/ as WebAssembly; where it can't, what is lacking is told, nothing is changed, and the status is 3. WASM_TARGET_DIR may
+name another folder than rust/target for what cargo compiles."""
 from __future__ import annotations
 
 import argparse
@@ -110,12 +111,13 @@ def compiled() -> Path:
     root = sysroot()
     words, environment = words_for_std(root)
     kept = {name: value for name, value in os.environ.items() if not name.endswith("RUSTFLAGS")}
+    to = Path(os.environ.get("WASM_TARGET_DIR", RUST / "target"))
     subprocess.run(
         ["cargo", "build", "--offline", "--locked", "--quiet", "--profile", "wasm", "--target", TARGET,
-         "--target-dir", str(RUST / "target"), "--package", "vialshoal_wasm", *words],
+         "--target-dir", str(to), "--package", "vialshoal_wasm", *words],
         cwd=RUST, env={**kept, **flags(root), **linker(root), **environment}, check=True,
     )  # fmt: skip
-    return RUST / "target" / TARGET / "wasm" / "vialshoal_wasm.wasm"
+    return to / TARGET / "wasm" / "vialshoal_wasm.wasm"
 
 
 def main(words: Sequence[str]) -> int:

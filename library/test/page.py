@@ -1,7 +1,8 @@
-"""Chromium over the package for pages, which bin/library --wasm makes: the tests of library/node/test.js in a page and in a worker, the
-example, and the page that docs/LIBRARY.md shows. The last line is 'N passed, M failed'."""
+"""Chromium over the package for pages, which bin/library --wasm makes or VIALSHOAL_PACKAGE names: the tests of library/node/test.js in a
+page and in a worker, the example, and the page that docs/LIBRARY.md shows. The last line is 'N passed, M failed'."""
 import functools
 import http.server
+import os
 import re
 import shutil
 import sys
@@ -23,6 +24,7 @@ except ImportError:
     HAS_SELENIUM = False
 
 LIBRARY = Path(__file__).resolve().parent.parent
+PACKAGE = Path(os.environ.get("VIALSHOAL_PACKAGE", LIBRARY / "out" / "node")).resolve()
 DOCS = LIBRARY.parent / "docs" / "LIBRARY.md"
 CHROMIUM, DRIVER = shutil.which("chromium"), shutil.which("chromedriver")
 WORDS = ["--headless=new", "--no-sandbox", "--disable-gpu", "--disable-dev-shm-usage", "--no-first-run", "--disable-extensions",
@@ -81,7 +83,11 @@ class Page(unittest.TestCase):
         cls.driver.quit()
 
     def setUp(self) -> None:
-        address = self.enterContext(served(LIBRARY))
+        folder = Path(self.enterContext(tempfile.TemporaryDirectory()))
+        (folder / "out").mkdir()
+        for name, there in {"node": LIBRARY / "node", "test": LIBRARY / "test", "out/node": PACKAGE}.items():
+            (folder / name).symlink_to(there)
+        address = self.enterContext(served(folder))
         self.driver.get(f"{address}/node/example/")
 
     def wait_for(self, condition: str, *words: object) -> None:
@@ -123,12 +129,11 @@ class Page(unittest.TestCase):
             self.driver.execute_script(script, one, text)
             self.both_show(text)
 
-
     def test_page_of_the_docs(self) -> None:
         found = re.search(r"    <script type=\"module\">.*?</script>\n", DOCS.read_text(encoding="utf-8"), re.DOTALL)
         assert found
         with tempfile.TemporaryDirectory() as name, served(Path(name)) as address:
-            shutil.copytree(LIBRARY / "out" / "node", Path(name, "node"))
+            shutil.copytree(PACKAGE, Path(name, "node"))
             Path(name, "page.html").write_text(f"<!doctype html>\n<body>\n{found[0]}", encoding="utf-8")
             self.driver.get(f"{address}/page.html")
             self.wait_for("document.body.textContent === words[0]", "Oberon")

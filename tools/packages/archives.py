@@ -5,6 +5,7 @@ import json
 import shutil
 import subprocess
 import sys
+from collections.abc import Mapping
 from pathlib import Path
 
 from tools.npm import LACKING
@@ -23,10 +24,16 @@ def wheel(release: Release, sources: Path, binaries: Binaries, room: Path, to: P
     project = folder / "pyproject.toml"
     lines = {"name": release.name, "version": release.python_version}
     project.write_text("".join(_line(line, lines) for line in project.read_text().splitlines(keepends=True)))
-    words: Words = ["-B", "-m", "pip", "wheel", "--quiet", "--no-deps", "--no-build-isolation", "--no-index", "--wheel-dir", made, "."]
-    call([PYTHON, *words], folder, release.environment())
-    (one,) = made.iterdir()
+    one = built_wheel(folder, made, release.environment())
     return Path(shutil.move(one, to / one.name))
+
+
+def built_wheel(folder: Path, to: Path, environment: Mapping[str, str] | None = None) -> Path:
+    """Has Python make the wheel of a folder that has the library in it."""
+    words: Words = ["-B", "-m", "pip", "wheel", "--quiet", "--no-deps", "--no-build-isolation", "--no-index", "--wheel-dir", to, "."]
+    call([PYTHON, *words], folder, environment)
+    (one,) = to.glob("*.whl")
+    return one
 
 
 def _line(line: str, values: dict[str, str]) -> str:

@@ -41,7 +41,7 @@ def all_rows(trial: Trial) -> None:
 def calls(trial: Trial) -> None:
     """Runs the test of the library's calls, in which each allocation is refused in turn."""
     folder, wish = trial.folder("border"), trial.wish
-    built = making.builds(wish, wish.processors[0], trial.release, folder)
+    built = making.builds(wish, wish.processors[0], folder)
     border, library = folder / "border", TOP / "library"
     words: Words = [built.processor.compiler, "-std=c11", "-O2", "-Wl,--wrap=malloc,--wrap=realloc", "-I", library, "-o", border]
     call([*words, library / "test" / "border.c", built.archive(), MORE])

@@ -19,6 +19,7 @@ MAKES = """Makes packages of this commit from its proved builds, and a list of t
 note; for Python and Node the library. The same commit gives the same bytes."""
 TRIES = """try the packages: made twice, installed in fresh roots and folders, and used; the last line is 'N passed, M failed'. This
 needs root, Debian, and its mirror"""
+SHORT = """with --test: only what takes a few processor minutes, needs no root and no network, and is installed here"""
 STANDS_IN = """take site_cli and libvialshoal_c.a from FOLDER, as cargo leaves them in rust/target/release, and not proved ones; the
 packages' names and versions say so"""
 VERIFIES = """Proves these sources where that wasn't done here, makes the package of this name again, and says whether FILE has the same
@@ -32,7 +33,7 @@ def package(words: Sequence[str]) -> int:
     parser.add_argument("--processor", choices=PROCESSORS, action="append", help=f"without it {FIRST.machine}")
     parser.add_argument("--unproved", metavar="FOLDER", type=Path, help=STANDS_IN)
     parser.add_argument("--test", action="store_true", help=TRIES)
-    parser.add_argument("--short", action="store_true", help="with --test: only what takes a minute, needs no root and no network")
+    parser.add_argument("--short", action="store_true", help=SHORT)
     given = parser.parse_args(words)
     if unknown := [kind for kind in given.kinds if kind not in KINDS]:
         parser.error(f"there are no packages of kind {unknown[0]}")

@@ -47,7 +47,7 @@ def make(wish: Wish, to: Path) -> list[Path]:
         made = [Path(shutil.copy(packed, to))] if SOURCE in wish.kinds else []
         for processor in wish.processors if set(wish.kinds) - {SOURCE} else ():
             with _room() as build:
-                built = builds(wish, processor, release, build)
+                built = builds(wish, processor, build)
                 for kind in MAKES:
                     if kind in wish.kinds:
                         with _room() as folder:
@@ -72,9 +72,9 @@ def _room() -> Iterator[Path]:
         yield Path(room)
 
 
-def builds(wish: Wish, processor: Processor, release: Release, room: Path) -> Binaries:
+def builds(wish: Wish, processor: Processor, room: Path) -> Binaries:
     if wish.unproved is None:
-        return binaries.proved(processor, release, room)
+        return binaries.proved(processor, room)
     return binaries.unproved(wish.unproved, processor)
 
 

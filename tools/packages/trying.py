@@ -2,6 +2,7 @@
 from __future__ import annotations
 
 import os
+import resource
 import shutil
 import tempfile
 import traceback
@@ -11,13 +12,12 @@ from dataclasses import dataclass, field, replace
 from pathlib import Path
 from unittest import mock
 
-from tools.packages import debian_tries, emulated_tries, verifying
+from tools.packages import debian_tries, emulated_tries, lacking, library_tries, source_tries, verifying
 from tools.packages.archives import PYTHON
 from tools.packages.calling import call
-from tools.packages.examples import MEETS, example
+from tools.packages.lacking import Lacking
 from tools.packages.making import SUMS, Wish, make
-from tools.packages.release import CHANGED, NAME, Release, current
-from tools.packages.scripts import plain_rows
+from tools.packages.release import CHANGED, Release, current
 
 
 SORTS = """
@@ -53,6 +53,8 @@ class Trial:
         """Tries something, and counts it."""
         try:
             does(self)
+        except Lacking as why:
+            print(f"{about}: left out, since {why}", flush=True)
         except Exception:
             self.failed += 1
             print(f"{about}: failed\n{traceback.format_exc()}", end="", flush=True)
@@ -62,14 +64,27 @@ class Trial:
 
 
 def main(wish: Wish, is_short: bool) -> int:
-    """Tries all packages that a wish names; the short form needs no root and no network."""
-    with tempfile.TemporaryDirectory(prefix="package-test-") as room:
+    """Tries all packages that a wish names; the short form those that can be made here, without root and network."""
+    if is_short:
+        wish = replace(wish, kinds=lacking.of_these(wish))
+    if not wish.kinds:
+        print("0 passed, 0 failed")
+        return 0
+    # What Rust compiles of its standard library is compiled once.
+    with tempfile.TemporaryDirectory(prefix="package-test-") as room, mock.patch.dict(os.environ, WASM_TARGET_DIR=f"{room}/wasm"):
         trial = Trial(wish, current(wish.unproved is None), Path(room))
         trial.made = make(wish, trial.folder("made"))
         for about, does in steps(wish, is_short):
             trial.step(about, does)
+    print(f"packages, which no proof covers: {processor_seconds():.0f} processor seconds")
     print(f"{trial.passed} passed, {trial.failed} failed")
     return 1 if trial.failed else 0
+
+
+def processor_seconds() -> float:
+    """What this process and those that it began took."""
+    used = (resource.getrusage(whose) for whose in (resource.RUSAGE_SELF, resource.RUSAGE_CHILDREN))
+    return sum(it.ru_utime + it.ru_stime for it in used)
 
 
 def steps(wish: Wish, is_short: bool) -> Iterator[tuple[str, Callable[[Trial], None]]]:
@@ -99,11 +114,15 @@ def steps_emulated(wish: Wish) -> Iterator[tuple[str, Callable[[Trial], None]]]:
 def steps_here(wish: Wish, is_short: bool) -> Iterator[tuple[str, Callable[[Trial], None]]]:
     """What is tried of packages for the processor that is here."""
     if "wheel" in wish.kinds:
-        yield "the wheel, in a bare environment of Python", in_python
+        yield "the wheel, in a bare environment of Python", library_tries.in_python
     if "npm" in wish.kinds:
-        yield "npm's archive, in a bare folder", in_node
+        yield "npm's archive, in a bare folder", library_tries.in_node
+        yield "npm's archive, by the library's tests, in Chromium too", library_tries.by_tests
+    if "source" in wish.kinds:
+        yield f"random events, {source_tries.FEW if is_short else source_tries.MANY:,}", source_tries.alike(is_short)
     if "source" in wish.kinds and not is_short:
-        yield "the sources' first line, with cargo and no network", by_cargo
+        yield "the sources' lines, with cargo and no network", source_tries.by_cargo
+        yield "the sources' crate in a package of one's own", source_tries.embedded
     if "deb" in wish.kinds and not is_short:
         yield "the Debian package, in a fresh Debian", debian_tries.installed
 
@@ -159,33 +178,3 @@ def told_apart(trial: Trial) -> None:
     except verifying.Unknown:
         return
     raise AssertionError(f"{other.name} isn't refused")
-
-
-def in_python(trial: Trial) -> None:
-    """Installs the wheel and runs the page's lines."""
-    folder = trial.folder("python")
-    call([PYTHON, "-m", "venv", folder / "venv"])
-    python = folder / "venv" / "bin" / "python"
-    call([python, "-m", "pip", "install", "--quiet", "--no-index", trial.of(".whl")], folder)
-    said = call([python, example("LIBRARY.md", "In Python", folder, "meet.py")], folder)
-    assert said == f"b'{MEETS}'\n", said
-
-
-def in_node(trial: Trial) -> None:
-    """Installs npm's archive and runs the page's lines."""
-    folder = trial.folder("node")
-    (folder / "package.json").write_text("{}\n")
-    call(["npm", "install", "--offline", "--no-audit", "--no-fund", trial.of(".tgz")], folder)
-    file = example("LIBRARY.md", "In Node", folder, "meet.cjs")
-    file.write_text(file.read_text().replace(f"'{NAME}'", f"'{trial.release.name}'"))
-    said = call(["node", file], folder)
-    assert said == f"{MEETS}\n", said
-
-
-def by_cargo(trial: Trial) -> None:
-    """Builds the program from the sources as who has Rust alone does, and asks it a row's script."""
-    folder = trial.folder("sources")
-    call(["tar", "-xzf", trial.of(".tar.gz"), "-C", folder, "--strip-components=1"])
-    words = ["cargo", "run", "--quiet", "--release", "--offline", "--manifest-path", "rust/Cargo.toml", "--"]
-    for row in list(plain_rows())[:5]:
-        assert call([*words], folder, given=row.script.decode()) == row.expected.decode(), row.name
