@@ -48,7 +48,7 @@ from share.admission.outside import Outside, weight
 from share.format.chunk import Run, of_message
 from share.format.entry import CHUNKS, NO_HASH, ONE_BY_ONE, Copy, Entry, Form, Kind, digest
 from share.format.history import Messages, Part
-from share.format.operation import Message, typed
+from share.format.operation import Message
 
 # A message may have a stamp so far above the greatest that was let through.
 LEAP = 2**20
