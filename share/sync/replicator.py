@@ -334,7 +334,7 @@ class Courier:
         """Says that this editor is on, and what it lacks; hears who else is, and gives what they lack."""
         self._ask_for_more()
         mine = Said(self._token, next(self._counts), self._asks, self._lacks)
-        log.meet(self._token[:RANDOM_BYTES] + ASKING, self._form.presence(heartbeat.written(mine)))
+        log.meet(self._token[:RANDOM_BYTES] + ASKING, self._form.presence(heartbeat.heartbeat_of(mine)))
         said = log.meet(self._token, self._form.presence(OF_BEFORE.pack(self._token, self._asks)))
         asked = self._others.heard(found for raw in said if (found := self._form.present(raw)))
         for one in asked.lacks[:MOST_WANTED - len(self._wanted)]:
@@ -386,7 +386,7 @@ class Courier:
                 news = [token for token in shows if token not in said or said[token][1] != shows[token]]
                 # What is as it was is said again in turn, so that it doesn't end, and others are heard.
                 for token in news or sorted(shows, key=lambda token: said[token][0])[:1]:
-                    mine = presence.counted(shows[token], next(self._counts))
+                    mine = presence.with_count(shows[token], next(self._counts))
                     self._hear(log.meet(token, self._form.presence(mine)))
                     said[token] = time.monotonic(), shows[token]
                 self._stopped.wait(SHOW_SECONDS)

@@ -69,7 +69,7 @@ class Here:
     def __init__(self, person: Person, url: str | None = None, link: str | None = None):
         self._person = person
         with person.here():
-            self.engine = Engine("note", lambda: Session(notes.opened("note", url, links.read(link) if link else None)), lambda: None)
+            self.engine = Engine("note", lambda: Session(notes.opened("note", url, links.read_link(link) if link else None)), lambda: None)
             self._sent: list[bytes] = []
             self._peer = self.engine.joined(self._sent.append, lambda: 0)
             self.engine.take(self._peer, [json.dumps({"do": "open", "protocol": 1, "units": ["utf-8"], "looks": True}).encode()])
