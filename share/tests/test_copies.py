@@ -11,7 +11,6 @@ from unittest import mock
 
 from share.admission.judge import rank
 from share.format.entry import Copy, Entry, Kind
-from share.format.operation import Operation
 from share.store import read_only
 from share.store.note_file import Disk, Unkept
 from share.sync.rebase import Done, make_anew

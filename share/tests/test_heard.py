@@ -186,8 +186,8 @@ class OnAServer(Case):
 
         for at in 1, 2:
             data = presence.presence_of(Present(bob.session.token(), token, bob.session.number, "#000000", (1, at), None, ""))
-            self.ann.session.show({b"ann": presence.presence_of(Present(self.ann.session.token(), bytes(16), 7, "#000000", None,
-                                                                    None, "Ann"))})
+            shown = Present(self.ann.session.token(), bytes(16), 7, "#000000", None, None, "Ann")
+            self.ann.session.show({b"ann": presence.presence_of(shown)})
             bob.session.show({token: data})
             wait_for(lambda at=at: [presence.read_presence(one).cursor for one in self.ann.session._courier.shown()
                                     ] == [(1, at)], "the cursor to be shown", SOON)

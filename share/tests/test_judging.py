@@ -647,7 +647,7 @@ class WhatStandsForWhat(unittest.TestCase):
         some = [FORM.entry(self.claims[0], [inserting(1, 1, 1, None, 0, data)], self.first) for data in (b"ab", b"ba")]
         self.holds, self.lost = sorted(some, key=rank)
         (message,) = self.lost.messages
-        self.letters = typed(message)
+        self.letters = message.data
 
     def told_as_left_out(self, *entries: Entry) -> list[tuple[int, int]]:
         """What is told in the end of entries that come in this order, where it is asked after each."""

@@ -51,7 +51,7 @@ def change(before: bytes, after: bytes) -> Change:
     begin = _common_length(lambda place, size: before[place:place + size] == after[place:place + size], most)
     begin = boundary(after, boundary(before, begin))
     back = _common_length(lambda place, size: before[ends[0] - place - size:ends[0] - place]
-                   == after[ends[1] - place - size:ends[1] - place], most - begin)
+                          == after[ends[1] - place - size:ends[1] - place], most - begin)
     while back and after[ends[1] - back] & 0xC0 == 0x80:
         back -= 1
     return Change(begin, ends[0] - back, bytes(after[begin:ends[1] - back]))
