@@ -87,7 +87,7 @@ NOT_UNDER_A_NUMBER = (Kind.CLAIM, *SAY_WHAT_BECAME)
 # The most bytes that are said of a renewed note.
 LONGEST_SAID = 200
 # The hashes of the entries that were made, or came, last: of this many bytes of them.
-MOST_HASHED = 2**19
+MOST_HASHED = 2**17
 _hashes = Latest[bytes](MOST_HASHED)
 
 
