@@ -28,7 +28,8 @@ from share.format.chunk import packed
 from share.format.entry import Author, digest
 from share.log.sqlite import SqliteLog
 from share.store import notes
-from share.store.note_file import About, Client, make
+from share.store.note_file import About, make_note
+from share.store.own import Client
 from share.sync.session import Session
 from share.tests.attacks import Attack, Hostile, typed
 from share.tests.editors import Editor
@@ -159,7 +160,7 @@ class Room:
         claim = self.form.claim(client.site, client.author)
         made = [(claim.raw, claim.body), *(typed_in_turn(KEY, keys) if keys else ())]
         rows = (Row(0, self.form.reopened(raw, body, digest(raw)), raw == claim.raw) for raw, body in made)
-        make(self.ann / "notes" / "note.note", self.about, rows, [client], offered=True)
+        make_note(self.ann / "notes" / "note.note", self.about, rows, [client], offered=True)
         Hostile(self.form, self.log).send(raw for raw, _ in made)
         self.link = links.Link("sealed", self.about.secret, self.log).spelled()
 
@@ -303,7 +304,7 @@ def calls_of_a_key(room: Room) -> int | None:
 def count_calls(data: str) -> int:
     """How often a key has Python call something in an engine that is in this process: the least of some keys."""
     os.environ["VIALSHOAL_DATA"] = data
-    way = InPlace("note", lambda wake: Session(notes.opened("note", None, None), None, lambda done, total: None, wake))
+    way = InPlace("note", lambda wake: Session(notes.open_note("note", None, None), None, lambda done, total: None, wake))
     way.send(serialize({"do": "open", "id": 1, "protocol": 1, "units": ["utf-16"]}))
     lines = [json.loads(line) for line in way.receive(0.02).splitlines()]
     opened = next(line for line in lines if line.get("answer") == "open")

@@ -3,19 +3,19 @@ from array import array
 from bisect import bisect_right
 from collections.abc import Iterable, Sequence
 
-from share.admission.ledger import Ledger, Line
-from share.format.chunk import Run
+from share.admission.ledger import Ledger, Branch
+from share.format.operation import Operation
 from share.text.names import Names
 
 
 class Chain:
     """The entries of a site that hold, its claim first, and what was let through of them."""
 
-    __slots__ = ("line", "front", "length", "stamp", "at", "run", "_runs", "ended", "needs", "time", "pending", "_ends",
+    __slots__ = ("branch", "front", "length", "stamp", "at", "run", "_runs", "ended", "needs", "time", "pending", "_ends",
                  "_begins", "_stamps", "_rises")
 
     def __init__(self, ledger: Ledger, site: int):
-        self.line = Line(ledger, site)
+        self.branch = Branch(ledger, site)
         # How often it began to wait for something.
         self.time = 0
         self.begin_anew()
@@ -26,9 +26,9 @@ class Chain:
         self.front = self.length = self.stamp = 0
         # Which entry has the message that is next, its runs, and which of these it begins.
         self.at = self.run = 0
-        self._runs: Sequence[Run] | None = None
+        self._runs: Sequence[Operation] | None = None
         # How many bytes are kept of entries that aren't let through.
-        self.pending = sum(map(self.line.ledger.weight, self.line.numbers))
+        self.pending = sum(map(self.branch.ledger.weight, self.branch.numbers))
         # Whether the next message is wrong.
         self.ended = False
         # The sites of which it mentions characters that aren't there, from where on, and how long their files have to be.
@@ -42,27 +42,27 @@ class Chain:
     @property
     def number(self) -> int:
         """The number of the entry that has the message that is next."""
-        return self.line.numbers[self.at]
+        return self.branch.numbers[self.at]
 
-    def runs(self) -> Sequence[Run]:
+    def runs(self) -> Sequence[Operation]:
         """The messages of the entry that has the next one."""
         if self._runs is None:
-            self._runs = self.line.ledger.runs(self.number)
+            self._runs = self.branch.ledger.runs(self.number)
         return self._runs
 
-    def next(self) -> Run | None:
+    def next(self) -> Operation | None:
         """The messages that are next to be let through."""
         if self.ended:
             return None
-        while self.at < len(self.line):
+        while self.at < len(self.branch):
             runs = self.runs()
             if self.run < len(runs):
                 return runs[self.run]
-            self.pending -= self.line.ledger.weight(self.number)
+            self.pending -= self.branch.ledger.weight(self.number)
             self.at, self._runs, self.run = self.at + 1, None, 0
         return None
 
-    def pass_on(self, run: Run, up_to: float) -> None:
+    def pass_on(self, run: Operation, up_to: float) -> None:
         """Lets the next messages through; with the last one of an entry also the next entries that type on after it, up to a
         stamp. These are right where it is."""
         while len(self._ends) <= self.at:
@@ -77,15 +77,15 @@ class Chain:
 
     def _type_on(self, up_to: float) -> None:
         """Lets the next entries through, as far as they type on one after the other and up to a stamp."""
-        line, at = self.line, self.at + 1
-        end = line.typed_until(at)
-        if up_to < self.stamp + line.lasts[end - 1] - self.front:
-            end = line.at_seq(self.front + 1 + max(0, int(up_to) - self.stamp))
+        branch, at = self.branch, self.at + 1
+        end = branch.typed_until(at)
+        if up_to < self.stamp + branch.lasts[end - 1] - self.front:
+            end = branch.at_seq(self.front + 1 + max(0, int(up_to) - self.stamp))
         if at >= end:
             return
-        self.pending -= sum(map(line.ledger.weight, line.numbers[self.at:end]))
-        before, size = self.length - self.front, line.lasts[end - 1] - self.front
-        self._ends.extend(before + last for last in line.lasts[at:end])
+        self.pending -= sum(map(branch.ledger.weight, branch.numbers[self.at:end]))
+        before, size = self.length - self.front, branch.lasts[end - 1] - self.front
+        self._ends.extend(before + last for last in branch.lasts[at:end])
         self._passed(self.stamp + 1, size, True)
         self.front, self.stamp = self.front + size, self.stamp + size
         self.at, self._runs, self.run = end, None, 0
@@ -107,23 +107,23 @@ class Chain:
 
     def inserter_of(self, at: int) -> bytes:
         """The hash of the entry in which it was inserted."""
-        return self.line.ledger.hash(self.line.numbers[bisect_right(self._ends, at)])
+        return self.branch.ledger.hash(self.branch.numbers[bisect_right(self._ends, at)])
 
     def add(self, number: int) -> None:
         """Lengthens the chain."""
-        line = self.line
-        line.add(number)
-        self.pending += line.ledger.weight(number)
+        branch = self.branch
+        branch.add(number)
+        self.pending += branch.ledger.weight(number)
 
     def cut(self, at: int) -> bool:
         """Takes the entries from a place on out of the chain; whether messages of theirs were let through, and all has to be
         let through anew."""
-        if self.front > (self.line.lasts[at - 1] if at else 0):
-            self.line = self.line.until(at)
+        if self.front > (self.branch.lasts[at - 1] if at else 0):
+            self.branch = self.branch.until(at)
             return True
         # Nobody has looked at what they have.
-        self.pending = sum(map(self.line.ledger.weight, self.line.numbers[self.at:at]))
-        self.line.shorten(at)
+        self.pending = sum(map(self.branch.ledger.weight, self.branch.numbers[self.at:at]))
+        self.branch.shorten(at)
         if self.at >= at:
             self.at, self._runs, self.run = at, None, 0
         self.ended, self.needs = False, {}
@@ -133,17 +133,17 @@ class Chain:
         """The characters that have to be there before the next message: those that it mentions. All that the others of its
         entry mention of other sites has to be there with the first one, where the entry says what they build on."""
         runs = self.runs()
-        if self.run or len(runs) == 1 or not self.line.ledger.on(self.number):
+        if self.run or len(runs) == 1 or not self.branch.ledger.on(self.number):
             return runs[self.run].mentions
         return [*runs[0].mentions, *of_others(runs[1:])]
 
 
-def of_others(runs: Iterable[Run]) -> list[Names]:
+def of_others(runs: Iterable[Operation]) -> list[Names]:
     """The characters of other sites that messages mention."""
     return [names for run in runs for names in run.mentions if names.site != run.site]
 
 
-def last_of_others(runs: Iterable[Run]) -> dict[int, int]:
+def last_of_others(runs: Iterable[Operation]) -> dict[int, int]:
     """The offset of the last character that messages mention of each other site."""
     last: dict[int, int] = {}
     for names in of_others(runs):

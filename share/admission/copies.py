@@ -2,12 +2,12 @@
 from collections.abc import Callable, Iterator
 from typing import NamedTuple, Protocol
 
+from share.admission.ledger import Who
 from share.format.entry import NO_HASH, Copy, Entry
-from share.format.operation import Message, typed
+from share.format.operation import Operation
 
-Who = tuple[int, bytes]
-# Of what stands for a message by the word of another than its author this much is looked at, message by message.
-MOST_OF_OTHERS = 4_096
+# No more messages than this are looked at that stand for others by the word of somebody else than their author.
+MOST_COPIES_BY_OTHERS = 4_096
 
 
 class Counting(Protocol):
@@ -17,14 +17,14 @@ class Counting(Protocol):
         """How many messages of an author and site are let through that an entry has, or one to which it is chained; all where it
         isn't said which."""
 
-    def message(self, site: int, seq: int) -> Message:
+    def message(self, site: int, seq: int) -> Operation:
         """A message that is let through."""
 
     def is_chained(self, of: bytes, last: bytes) -> bool:
         """Whether an entry is the last of some, or one to which that is chained."""
 
 
-class _Said(NamedTuple):
+class _Stretch(NamedTuple):
     """A stretch of messages from a seq on, how many they are, and the first of their copies, with the seq 0 where nothing remained
     of them; and the last of their entries, or none where it is said of each that has such seqs, and the last of the copies'."""
 
@@ -46,10 +46,10 @@ class Copies:
     """What entries say of copies: their authors, whose word is taken, and others, where all is in the copy."""
 
     def __init__(self) -> None:
-        self._by_authors: dict[Who, list[_Said]] = {}
-        self._by_others: dict[Who, list[_Said]] = {}
+        self._by_authors: dict[Who, list[_Stretch]] = {}
+        self._by_others: dict[Who, list[_Stretch]] = {}
         # The same by who made the copies, with whose messages these stand for.
-        self._by_copier: dict[Who, list[tuple[Who, _Said]]] = {}
+        self._by_copier: dict[Who, list[tuple[Who, _Stretch]]] = {}
         # The sites whose messages stand for others, and the seq of the last one that does; and the last entries that have such.
         self.sites: dict[int, int] = {}
         self.lasts: set[bytes] = set()
@@ -62,7 +62,7 @@ class Copies:
         self.lasts.add(copied.last)
         whose = copied.site, copied.author
         known = self._by_authors if (entry.site, entry.author) == whose else self._by_others
-        said = [_Said(seq, size, Copy(copied.by, copied.by_site, by), entry.before, copied.last) for seq, by, size in copied.stretches]
+        said = [_Stretch(seq, size, Copy(copied.by, copied.by_site, by), entry.before, copied.last) for seq, by, size in copied.stretches]
         known.setdefault(whose, []).extend(said)
         self._by_copier.setdefault((copied.by_site, copied.by), []).extend((whose, one) for one in said if one.by.seq)
 
@@ -103,10 +103,12 @@ class Copies:
         found: dict[tuple[int, int, bytes], dict[int, bytes]] = {}
         for one in self._by_others.get(who, ()):
             first, last = max(entry.first, one.seq), min(entry.last, one.end(counting) - 1)
-            for seq in range(first, min(last, first + MOST_OF_OTHERS) + 1) if one.by.seq else ():
+            if first > last or one.last != NO_HASH and not counting.is_chained(entry.hash, one.last):
+                continue
+            for seq in range(first, min(last, first + MOST_COPIES_BY_OTHERS) + 1) if one.by.seq else ():
                 by = one.by.seq + seq - one.seq
-                found.setdefault((seq, one.by.site, one.by.author), {})[by] = typed(counting.message(one.by.site, by))
+                found.setdefault((seq, one.by.site, one.by.author), {})[by] = counting.message(one.by.site, by).data
         for (seq, _, _), parts in found.items():
-            data = typed(entry.messages[seq - entry.first])
+            data = entry.messages[seq - entry.first].data
             if data and data in (b"".join(parts[by] for by in sorted(parts)), *parts.values()):
                 yield seq, seq

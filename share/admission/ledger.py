@@ -9,17 +9,18 @@ from bisect import bisect_left
 from collections.abc import Iterator, Sequence
 from typing import NamedTuple
 
-from share.format.chunk import Run
-from share.format.entry import CHUNKS, NO_HASH, SAY_WHAT_THEY_BUILD_ON, Entry, Form, Kind, messages_of, runs_of
-from share.format.operation import Message
+from share.format.entry import CHUNKS, NO_HASH, SAY_WHAT_THEY_BUILD_ON, Entry, Form, Kind, operations_of, operations_one_by_one
+from share.format.operation import Operation
 
 HASH_BYTES = 32
-# How many places the index begins with; at least every third one stays free. A place has the upper half of a hash of Python's, and
+# A site and an author.
+Who = tuple[int, bytes]
+# How many seats the index begins with; at least every third one stays free. A seat has the upper half of a hash of Python's, and
 # an entry's number.
-PLACES, NUMBER_BITS = 1 << 8, 32
-MARK, NUMBER = 0xFFFF_FFFF << NUMBER_BITS, (1 << NUMBER_BITS) - 1
-# Letters of so many entries or more that type on are one run, so that each chunk has room for it.
-MOST_TYPED = 1_000
+LEAST_SEATS, NUMBER_BITS = 1 << 8, 32
+MARK_MASK, NUMBER_MASK = 0xFFFF_FFFF << NUMBER_BITS, (1 << NUMBER_BITS) - 1
+# No more letters than these, which are typed one after the other, are one run, so that each chunk has room for it.
+MOST_IN_RUN = 1_000
 
 
 class Row(NamedTuple):
@@ -39,10 +40,10 @@ class Ledger:
         self._form = form
         self._hashes = bytearray()
         # The numbers by their hashes, one more than each, so that 0 is a free place.
-        self._index, self._mask = array("Q", bytes(8 * PLACES)), PLACES - 1
+        self._index, self._mask = array("Q", bytes(8 * LEAST_SEATS)), LEAST_SEATS - 1
         # The sites and authors, and which of them each entry is of.
-        self._clients: list[tuple[int, bytes]] = []
-        self._client_of: dict[tuple[int, bytes], int] = {}
+        self._clients: list[Who] = []
+        self._client_of: dict[Who, int] = {}
         self._whose = array("I")
         self._kinds, self._made, self._types_on = bytearray(), bytearray(), bytearray()
         self._befores, self._firsts, self._sizes = array("I"), array("I"), array("H")
@@ -85,14 +86,14 @@ class Ledger:
 
     def number(self, of: bytes) -> int | None:
         """The number of the entry that has a hash; None where there is none."""
-        found = self._index[self._seat(of, hash(of) & MARK)]
-        return (found & NUMBER) - 1 if found else None
+        found = self._index[self._seat(of, hash(of) & MARK_MASK)]
+        return (found & NUMBER_MASK) - 1 if found else None
 
     def hash(self, number: int) -> bytes:
         """An entry's hash."""
         return bytes(self._hashes[HASH_BYTES * number:HASH_BYTES * (number + 1)])
 
-    def client(self, number: int) -> tuple[int, bytes]:
+    def client(self, number: int) -> Who:
         """An entry's site and author."""
         return self._clients[self._whose[number]]
 
@@ -136,18 +137,18 @@ class Ledger:
         """The chunk of an entry's messages, where it has them in one."""
         return self.spelled(number) if self._kinds[number] in CHUNKS else b""
 
-    def runs(self, number: int) -> Sequence[Run]:
+    def runs(self, number: int) -> Sequence[Operation]:
         """An entry's messages, those in one that are letters typed one after the other."""
-        return runs_of(Kind(self._kinds[number]), self.spelled(number))
+        return operations_of(Kind(self._kinds[number]), self.spelled(number))
 
     def typed(self, number: int) -> bytes:
         """The letters of an entry that types on."""
         end = self._ends[number]
         return bytes(self._kept[end - self._sizes[number]:end])
 
-    def messages(self, number: int) -> Sequence[Message]:
+    def messages(self, number: int) -> Sequence[Operation]:
         """An entry's messages."""
-        return messages_of(Kind(self._kinds[number]), self.spelled(number))
+        return operations_one_by_one(Kind(self._kinds[number]), self.spelled(number))
 
     def entry(self, number: int) -> Entry:
         """An entry as it was."""
@@ -178,14 +179,14 @@ class Ledger:
         """The place of a hash in the index, or the free one that it would have. Nobody else can tell where hashes meet:
         Python's own hash of bytes has a secret of the process."""
         seat = mark >> NUMBER_BITS & self._mask
-        while (found := self._index[seat]) and (found & MARK != mark or self.hash((found & NUMBER) - 1) != of):
+        while (found := self._index[seat]) and (found & MARK_MASK != mark or self.hash((found & NUMBER_MASK) - 1) != of):
             seat = seat + 1 & self._mask
         return seat
 
     def _enter(self, of: bytes, number: int) -> None:
         if 3 * (number + 1) > 2 * len(self._index):
             self._grow()
-        mark = hash(of) & MARK
+        mark = hash(of) & MARK_MASK
         self._index[self._seat(of, mark)] = mark | number + 1
 
     def _grow(self) -> None:
@@ -199,9 +200,9 @@ class Ledger:
             index[seat] = found
 
 
-class Line:
+class Branch:
     """Entries of a site that follow one another, the first of which is its claim. More are added, and none is taken away:
-    where others take their place that is another line."""
+    where others take their place that is another branch."""
 
     __slots__ = ("ledger", "site", "numbers", "lasts", "types_on")
 
@@ -225,11 +226,11 @@ class Line:
         """Takes away what nobody has looked at: the entries from a place on."""
         del self.numbers[at:], self.lasts[at:], self.types_on[at:]
 
-    def until(self, at: int) -> "Line":
+    def until(self, at: int) -> "Branch":
         """The first entries as a line of its own."""
-        line = Line(self.ledger, self.site)
-        line.numbers, line.lasts, line.types_on = self.numbers[:at], self.lasts[:at], self.types_on[:at]
-        return line
+        branch = Branch(self.ledger, self.site)
+        branch.numbers, branch.lasts, branch.types_on = self.numbers[:at], self.lasts[:at], self.types_on[:at]
+        return branch
 
     def at(self, number: int) -> int | None:
         """Where the entry of a number is; None where it isn't here."""
@@ -244,17 +245,17 @@ class Line:
         """The seq of an entry's first message."""
         return self.lasts[at - 1] + 1
 
-    def message(self, seq: int) -> Message:
+    def message(self, seq: int) -> Operation:
         """A message."""
         at = self.at_seq(seq)
         return self.ledger.messages(self.numbers[at])[seq - self.first(at)]
 
-    def between(self, begin: int, end: int) -> Iterator[Message]:
+    def between(self, begin: int, end: int) -> Iterator[Operation]:
         """The messages from one place to another; the first one has place 0."""
         for at, begins, ends in self._within(begin, end):
             yield from self.ledger.messages(self.numbers[at])[begins:ends]
 
-    def parts(self, begin: int, end: int) -> Iterator[tuple[bytes, Sequence[Run], int]]:
+    def parts(self, begin: int, end: int) -> Iterator[tuple[bytes, Sequence[Operation], int]]:
         """The same in parts: a chunk, or the runs where there is none of just these messages; and how many they are."""
         while begin < end:
             at = self.at_seq(begin + 1)
@@ -269,7 +270,7 @@ class Line:
                 chunk = self.ledger.chunk(number)
                 yield chunk, () if chunk else self.ledger.runs(number), size
             else:
-                yield b"", [*_within(self.ledger.runs(number), begin - first, begin - first + size)], size
+                yield b"", [*_runs_between(self.ledger.runs(number), begin - first, begin - first + size)], size
             begin += size
 
     def typed_until(self, at: int) -> int:
@@ -282,7 +283,7 @@ class Line:
         other, of which the first is whole; and their number. None where they are those of fewer than two."""
         if not self.types_on[at] or begin >= self.first(at):
             return None
-        last = min(self.typed_until(at), self.at_seq(min(end, begin + MOST_TYPED) + 1))
+        last = min(self.typed_until(at), self.at_seq(min(end, begin + MOST_IN_RUN) + 1))
         if last < at + 2:
             return None
         # What types on is spelled by its letters alone.
@@ -299,7 +300,7 @@ class Line:
             begin, at = ends, at + 1
 
 
-def _within(runs: Sequence[Run], begin: int, end: int) -> Iterator[Run]:
+def _runs_between(runs: Sequence[Operation], begin: int, end: int) -> Iterator[Operation]:
     """The messages of runs from one place to another."""
     at = 0
     for run in runs:

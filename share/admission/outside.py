@@ -4,16 +4,16 @@ import heapq
 from collections.abc import Iterator
 from dataclasses import dataclass
 
-from share.admission.ledger import Row
+from share.admission.branches import Branches
+from share.admission.ledger import Row, Who
 from share.format.entry import Entry
 
-Who = tuple[int, bytes]
 # What an entry that is kept whole costs beside its bytes.
-BESIDE = 1_000
+OVERHEAD = 1_000
 
 
 @dataclass(slots=True)
-class _Kept:
+class _One:
     """An entry, how far its insertions go and how many characters they have, and whether it lacks one before it. What was let
     through once, or was made here, is never dropped."""
 
@@ -24,11 +24,11 @@ class _Kept:
     stays: bool
 
 
-class Outside:
+class Unchained:
     """Entries that are in no chain, by their hashes."""
 
     def __init__(self) -> None:
-        self._kept: dict[bytes, _Kept] = {}
+        self._kept: dict[bytes, _One] = {}
         # Those that follow each entry, whether that one is here or not.
         self._after: dict[bytes, list[bytes]] = {}
         self._of: dict[Who, set[bytes]] = {}
@@ -40,6 +40,7 @@ class Outside:
         self.loose_messages = self.loose_entries = 0
         # How far the insertions of each site go that were left out.
         self.ends: dict[int, int] = {}
+        self._branches: Branches | None = None
 
     def __contains__(self, of: bytes) -> bool:
         return of in self._kept
@@ -58,6 +59,12 @@ class Outside:
         """Whether an entry lacks one before it."""
         return self._kept[of].is_loose
 
+    def branches(self) -> Branches:
+        """Which entries each is chained to."""
+        if self._branches is None:
+            self._branches = Branches({of: one.row.entry for of, one in self._kept.items()}, self._after)
+        return self._branches
+
     def of(self, who: Who) -> list[Row]:
         """The entries of a site and author."""
         return [self._kept[one].row for one in self._of.get(who, ())]
@@ -65,10 +72,11 @@ class Outside:
     def add(self, row: Row, is_loose: bool, stays: bool = False) -> None:
         """Adds an entry; what follows it lacks no more than it does."""
         entry = row.entry
-        typed = [(run.at + len(run.data), len(run.data)) for run in entry.runs if run.data] if entry.size else []
+        typed = [(run.at + len(run.data), len(run.data)) for run in entry.operations if run.data] if entry.size else []
         end = max((last for last, _ in typed), default=0)
-        one = _Kept(row, end, sum(size for _, size in typed), is_loose, stays or row.made)
+        one = _One(row, end, sum(size for _, size in typed), is_loose, stays or row.made)
         self._kept[entry.hash] = one
+        self._branches = None
         self._after.setdefault(entry.before, []).append(entry.hash)
         who = entry.site, entry.author
         self._of.setdefault(who, set()).add(entry.hash)
@@ -87,6 +95,7 @@ class Outside:
     def remove(self, of: bytes) -> Row:
         """Takes an entry out, which has its place in a chain now, or is dropped."""
         one = self._kept.pop(of)
+        self._branches = None
         entry = one.row.entry
         who = entry.site, entry.author
         after = self._after[entry.before]
@@ -107,7 +116,7 @@ class Outside:
         return one.row
 
     def settle(self, of: bytes, but: bytes | None = None) -> bool:
-        """Has what follows an entry that is here lack nothing, but one that goes on from it in a chain; whether something
+        """Notes that what follows an entry that is here lacks nothing, but for one that goes on from it in a chain; whether something
         did."""
         roots, some = [of], False
         while roots:
@@ -164,4 +173,4 @@ class Outside:
 
 def weight(entry: Entry) -> int:
     """How many bytes an entry takes that is kept whole."""
-    return len(entry.raw) + len(entry.spelled) + BESIDE
+    return len(entry.raw) + len(entry.spelled) + OVERHEAD

@@ -73,7 +73,7 @@ def opener(given: argparse.Namespace, name: str, link: Link | None) -> OpensWith
 
     def opened(bar: Bar, wake: Callable[[], None]) -> Session:
         told: list[str] = []
-        session = Session(notes.opened(name, url, link, password, told.append), password, bar, wake)
+        session = Session(notes.open_note(name, url, link, password, told.append), password, bar, wake)
         for left_out in told:
             session.tell(left_out)
         return session

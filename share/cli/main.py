@@ -9,7 +9,7 @@ from share.cli import installing, scripts, verbs
 from share.cli.output import report
 from share.cli.script_words import SCRIPT_VERBS
 from share.cli.words import parsed
-from share.store.note_file import Unkept
+from share.store.guarded import Unkept
 from share.text.errors import Refused, Trouble
 
 

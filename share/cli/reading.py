@@ -11,7 +11,7 @@ from share.program import replay, retyping
 from share.program.replay import Replays, HistoryStep, Wrote
 from share.program.site import Site
 from share.store import atomic, contents, nicknames, notes, read_only
-from share.store.contents import Counted
+from share.store.contents import Contents
 from share.text.errors import Trouble, counted
 from share.text.line import Line
 from share.text.rope import readable, swapped
@@ -89,9 +89,9 @@ def log(given: argparse.Namespace) -> int:
 def list_notes(given: argparse.Namespace) -> int:
     """Lists the notes that are here."""
     found = []
-    for path in sorted((notes.data_folder() / "notes").glob(f"*{notes.SUFFIX}")):
-        name = path.name[:-len(notes.SUFFIX)]
-        if notes.NAME.fullmatch(name):
+    for path in sorted((notes.data_folder() / "notes").glob(f"*{notes.NOTE_SUFFIX}")):
+        name = path.name[:-len(notes.NOTE_SUFFIX)]
+        if notes.is_name(name):
             found.append(_listed(name, path))
     if given.json:
         return print_json({"notes": found}, [])
@@ -101,10 +101,10 @@ def list_notes(given: argparse.Namespace) -> int:
     return 0
 
 
-def _found_messages(given: argparse.Namespace) -> Counted:
+def _found_messages(given: argparse.Namespace) -> Contents:
     """The messages of a note, and what is missing of it."""
-    found = contents.found(given.name, access.given_url(given), access.given_link(given), access.given_password(given))
-    return contents.counted(given.name, found)
+    found = contents.found_of(given.name, access.given_url(given), access.given_link(given), access.given_password(given))
+    return contents.contents_of(given.name, found)
 
 
 def _site_of(messages: Messages) -> Site:

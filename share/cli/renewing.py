@@ -47,7 +47,7 @@ def report_renewed(name: str, done: notes.Renewed, is_fresh: bool, names: dict[i
 def agreed(given: argparse.Namespace, names: dict[int, str], messages: Messages) -> renewal.Fresh:
     """The text as it is, for a note that begins with it, where the user says so who is told what that is."""
     made = renewal.fresh(messages, frozenset(given.without or ()))
-    print(safe_for_terminal(renewal.in_words(made, names)))
+    print(safe_for_terminal(renewal.fresh_in_words(made, names)))
     if not given.yes:
         if not access.has_terminal():
             raise Trouble("Nothing was done, since nobody can be asked here whether that is wanted. --yes says so.")

@@ -35,7 +35,7 @@ def run_note_verb(given: argparse.Namespace) -> int:
         return 0
     (name,) = given.names
     if given.verb == "link":
-        print(notes.link_of(name))
+        print(notes.link_to(name))
     elif given.verb == "engine":
         for_editors(given, name)
     elif given.verb == "web":
@@ -92,7 +92,7 @@ def in_browser(given: argparse.Namespace, name: str) -> None:
 
 def print_note(given: argparse.Namespace, name: str) -> int:
     """Prints the note, and what is missing in it on standard error."""
-    found = contents.printed(name, access.given_url(given), access.given_link(given), access.given_password(given))
+    found = contents.text_of_note(name, access.given_url(given), access.given_link(given), access.given_password(given))
     text = swapped(found.text)
     if sys.stdout.isatty():
         # A terminal does what control characters say, whoever typed them.

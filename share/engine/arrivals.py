@@ -45,7 +45,7 @@ class Arrivals:
         self.status = session.status()
         if self.status.renewed and not self._is_renewed:
             self._is_renewed = True
-            self._tell(renewal.telling(self.status.renewed))
+            self._tell(renewal.renewed_in_words(self.status.renewed))
         self._tell_what_is_left_out(self.status.left_out)
 
     def failed(self, fault: Exception) -> None:

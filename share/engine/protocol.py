@@ -3,7 +3,7 @@ import json
 import re
 
 from share.log.base import Unreachable
-from share.store.note_file import Damaged, Unkept
+from share.store.guarded import Damaged, Unkept
 from share.text.errors import Trouble
 from share.text.line import MOST_LINE, Line
 from share.text.looks import MOST_COLOUR

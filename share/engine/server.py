@@ -19,8 +19,8 @@ from collections.abc import Callable, Iterator
 from share.engine.editor import Peer
 from share.engine.engine import Engine
 from share.format.link import Link
+from share.log.folder import make_folder
 from share.store import notes, read_only
-from share.store.note_file import make_folder
 from share.sync.session import Bar, Session
 from share.text.errors import Trouble
 from share.text.line import PIECE, Assembler
@@ -78,7 +78,7 @@ def agree_with_engine(name: str, url: str | None, link: Link | None) -> None:
                     raise _silent(name)
                 time.sleep(TRY_SECONDS)
         about = read_only.about(path)
-        notes.agree(about, name, url, link)
+        notes.check_agreement(about, name, url, link)
         if url and url != about.url:
             raise Trouble(f"The note {name} is open with another log. Quit its editors first.")
 

@@ -4,31 +4,30 @@ what it has is judged before it counts.
 A log has two back ends behind one interface: a file of SQLite, and a stream of a Redis server. Both carry bytes
 that they don't open.
 """
-import pathlib
 from abc import ABC, abstractmethod
 from collections.abc import Sequence
 from typing import NamedTuple
 
-from share.format.link import is_network
-
 # The place before all entries.
 START = ""
 # How many entries a reading gives at most.
-PAGE = 2_000
-# An editor counts as on for so many seconds after it has last said so.
+READ_AT_ONCE = 2_000
+# How long an editor counts as on after it has last said so.
 ON_SECONDS = 15
+# Of no more than this many is said that they are on.
+MOST_ON = 1_000
 
 
 class Unreachable(Exception):
     """The log can't be had now, and may be later."""
 
 
-class Lost(Exception):
+class LogLost(Exception):
     """The log isn't the one that was opened any more: it was removed, emptied, replaced or damaged, and has to
     be opened and read anew. What was damaged was set aside."""
 
 
-class Carried(NamedTuple):
+class InLog(NamedTuple):
     """What stands at a place of the log: the bytes of an entry, or None where it can't be one (it is too long,
     or something else)."""
 
@@ -38,19 +37,19 @@ class Carried(NamedTuple):
 
 class Log(ABC):
     """A log of one note that one thread has opened. What can't be reached raises Unreachable, what has to be
-    opened again Lost, and what is no log, or another note's, Trouble."""
+    opened again LogLost, and what is no log, or another note's, Trouble."""
 
     @abstractmethod
     def append(self, raws: Sequence[bytes]) -> None:
         """Appends entries so that they last. One that is held already, byte for byte, is left as it is."""
 
     @abstractmethod
-    def read(self, after: str) -> list[Carried]:
+    def read(self, after: str) -> list[InLog]:
         """What stands after a place, PAGE at most. Nothing that is longer than an entry may be is read."""
 
     @abstractmethod
     def watch(self, after: str, seconds: float) -> None:
-        """Returns when something stands after a place, and after so many seconds at the latest."""
+        """Returns when something stands after a place, or when the time is over."""
 
     @abstractmethod
     def size(self) -> int:
@@ -66,7 +65,7 @@ class Log(ABC):
         return None
 
     def quick(self) -> None:
-        """Has what is said last over kills, and not over the loss of power, where that is quicker."""
+        """What is written is to last over kills, and not over the loss of power, where that is quicker."""
 
     @abstractmethod
     def leave(self, token: bytes) -> None:
@@ -75,13 +74,3 @@ class Log(ABC):
     @abstractmethod
     def close(self) -> None:
         """Lets go of the log."""
-
-
-def open_log(url: str, note: bytes, password: str | None = None) -> Log:
-    """The log of the note of this identity: that of a Redis server, or a file, which is made where it isn't
-    there."""
-    if not is_network(url):
-        from share.log.sqlite import SqliteLog
-        return SqliteLog(pathlib.Path(url), note)
-    from share.log.redis import RedisLog
-    return RedisLog(url, note, password)

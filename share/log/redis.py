@@ -9,24 +9,23 @@ from collections.abc import Iterator, Sequence
 
 from share.format.entry import MOST_BYTES, Kind
 from share.format.presence import MOST_PRESENCE
-from share.log.base import ON_SECONDS, PAGE, START, Carried, Log, Lost
+from share.log.base import MOST_ON, ON_SECONDS, READ_AT_ONCE, START, InLog, Log, LogLost
 from share.log.resp import Answer, TooLong, Wire
 
-# An append has so many bytes, and a reading, and each entry in it so many beside its own.
+# The most bytes of an append and of a reading, and what an entry costs beside its own bytes.
 MOST_APPENDED = 2**17
-ROOM, BESIDE = 2**20, 64
+MOST_ROOM, ENTRY_OVERHEAD = 2**20, 64
 # A reading begins with little, so that something is seen soon where the line is slow. Each next one may have twice as much
 # where it took less than the one time, and half where it took more than the other.
-LEAST_ROOM, QUICK_SECONDS, SLOW_SECONDS = 2**14, 0.3, 1.0
-MOST_READ = ROOM + 20 * (MOST_BYTES + BESIDE) + PAGE * BESIDE
+LEAST_ROOM, QUICK_READING_SECONDS, SLOW_READING_SECONDS = 2**14, 0.3, 1.0
+MOST_READ = MOST_ROOM + 20 * (MOST_BYTES + ENTRY_OVERHEAD) + READ_AT_ONCE * ENTRY_OVERHEAD
 # What a watch lets through: a longer entry is known by its size alone.
 MOST_WATCHED = MOST_BYTES + 1_024
-MOST_ON = 1_000
-# Claims are looked for in so many entries at once, and in so many parts of the stream at most.
-PART, MOST_PARTS = 5_000, 1_000
+# How many entries are looked through for claims at once, and how often at most.
+CLAIMS_AT_ONCE, MOST_CLAIM_READINGS = 5_000, 1_000
 # An entry has one field alone, called e. The server hashes the bytes, so nobody can have another entry stand for one
 # that isn't there. One that was trimmed, or stands otherwise, is added anew.
-APPEND = """
+APPEND_SCRIPT = """
     for _, raw in ipairs(ARGV) do
         local hash = redis.sha1hex(raw)
         local place = redis.call('HGET', KEYS[2], hash)
@@ -40,7 +39,7 @@ APPEND = """
 """
 # Gives how many entries there are, whether the last one was read, and ids and bytes in turn; nothing where the
 # entry after which is read doesn't stand any more. It takes a few at a time, since some may be large.
-READ = """
+READ_SCRIPT = """
     local after, field, page, most = ARGV[1], ARGV[2], tonumber(ARGV[3]), tonumber(ARGV[4])
     local room = tonumber(ARGV[5])
     if after ~= '0-0' and #redis.call('XRANGE', KEYS[1], after, after) == 0 then return 0 end
@@ -61,7 +60,7 @@ READ = """
     return {redis.call('XLEN', KEYS[1]), at_end, found}
 """
 # Gives the id of the last entry of a part of the stream, and of each claim in it the two bytes of its site.
-CLAIMED = """
+CLAIMED_SCRIPT = """
     local after, most = ARGV[1], tonumber(ARGV[5])
     local some = redis.call('XREAD', 'COUNT', tonumber(ARGV[3]), 'STREAMS', KEYS[1], after)
     local found = {}
@@ -74,7 +73,7 @@ CLAIMED = """
     return {after, found}
 """
 # The time is the server's, since those of machines differ.
-MEET = """
+MEET_SCRIPT = """
     local now, on, most = tonumber(redis.call('TIME')[1]), tonumber(ARGV[3]), tonumber(ARGV[4])
     redis.call('ZADD', KEYS[1], now, ARGV[1])
     redis.call('HSET', KEYS[2], ARGV[1], ARGV[2])
@@ -94,28 +93,28 @@ MEET = """
     redis.call('EXPIRE', KEYS[2], 4 * on)
     return said
 """
-LEAVE = """
+LEAVE_SCRIPT = """
     redis.call('ZREM', KEYS[1], ARGV[1])
     redis.call('HDEL', KEYS[2], ARGV[1])
     return 0
 """
 ID = re.compile(rb"([0-9]{1,20})-([0-9]{1,20})")
-PLACE = re.compile(r"([0-9]{1,20}-[0-9]{1,20})/([0-9]{1,18})")
+STREAM_PLACE = re.compile(r"([0-9]{1,20}-[0-9]{1,20})/([0-9]{1,18})")
 
 
 class Stream:
-    """A stream whose entries have one field alone, with so many bytes at most. A place in it has the entry's id
+    """A stream whose entries have one field alone, of no more than `most` bytes. A place in it has the entry's id
     and how many there are up to it, so that a stream that lost entries is seen."""
 
     def __init__(self, wire: Wire, key: str, field: str, most: int):
         self._wire, self._key, self._field, self._most = wire, key, field, most
         self._room = LEAST_ROOM
 
-    def read(self, after: str) -> list[Carried]:
+    def read(self, after: str) -> list[InLog]:
         """The entries after a place, PAGE at most."""
-        last, count = _place(after)
+        last, count = _stream_place(after)
         begin = time.monotonic()
-        answer = self._wire.run(READ, (self._key,), (last, self._field, PAGE, self._most, self._room), MOST_READ)
+        answer = self._wire.run(READ_SCRIPT, (self._key,), (last, self._field, READ_AT_ONCE, self._most, self._room), MOST_READ)
         self._took(time.monotonic() - begin)
         if answer == 0:
             raise self._lost()
@@ -128,10 +127,10 @@ class Stream:
     def claimed(self) -> set[int]:
         """The sites that entries claim, as far as the server says so: it looks through them, and sends the sites alone."""
         sites, after = set[int](), b"0-0"
-        for _ in range(MOST_PARTS):
-            words = (after, self._field, PART, int(Kind.CLAIM), self._most)
-            match self._wire.run(CLAIMED, (self._key,), words):
-                case [bytes(last), list(found)] if len(found) <= PART and _numbers(last):
+        for _ in range(MOST_CLAIM_READINGS):
+            words = (after, self._field, CLAIMS_AT_ONCE, int(Kind.CLAIM), self._most)
+            match self._wire.run(CLAIMED_SCRIPT, (self._key,), words):
+                case [bytes(last), list(found)] if len(found) <= CLAIMS_AT_ONCE and _numbers(last):
                     sites |= {int.from_bytes(site, "big") for site in found if isinstance(site, bytes) and len(site) == 2}
                 case _:
                     raise self._wire.strange()
@@ -141,15 +140,15 @@ class Stream:
         return sites
 
     def _took(self, seconds: float) -> None:
-        """Has the next reading have as much as comes in a short while."""
-        if seconds < QUICK_SECONDS:
-            self._room = min(2 * self._room, ROOM)
-        elif seconds > SLOW_SECONDS:
+        """Adapts the size of the next reading to what comes in a short while."""
+        if seconds < QUICK_READING_SECONDS:
+            self._room = min(2 * self._room, MOST_ROOM)
+        elif seconds > SLOW_READING_SECONDS:
             self._room = max(self._room // 2, LEAST_ROOM)
 
     def watch(self, after: str, seconds: float) -> None:
-        """Returns when there is an entry after a place, and after so many seconds at the latest."""
-        last, _ = _place(after)
+        """Returns when there is an entry after a place, or when the time is over."""
+        last, _ = _stream_place(after)
         milliseconds = max(1, int(seconds * 1000))
         try:
             self._wire.ask("XREAD", "COUNT", 1, "BLOCK", milliseconds, "STREAMS", self._key, last, waits=seconds,
@@ -165,13 +164,13 @@ class Stream:
             raise self._wire.strange()
         return size
 
-    def _lost(self) -> Lost:
-        return Lost(f"{self._wire.url} has lost entries.")
+    def _lost(self) -> LogLost:
+        return LogLost(f"{self._wire.url} has lost entries.")
 
-    def _page(self, answer: Answer, last: str, count: int) -> tuple[list[Carried], int | None]:
+    def _page(self, answer: Answer, last: str, count: int) -> tuple[list[InLog], int | None]:
         """What a reading gives, and how many entries there are, where it came to their end."""
         match answer:
-            case [int(size), int(at_end), list(found)] if len(found) <= 2 * PAGE and not len(found) % 2:
+            case [int(size), int(at_end), list(found)] if len(found) <= 2 * READ_AT_ONCE and not len(found) % 2:
                 pass
             case _:
                 raise self._wire.strange()
@@ -182,7 +181,7 @@ class Stream:
                 raise self._wire.strange()
             before = place
             entry = raw if isinstance(raw, bytes) and len(raw) <= self._most else None
-            page.append(Carried(f"{place[0]}-{place[1]}/{number}", entry))
+            page.append(InLog(f"{place[0]}-{place[1]}/{number}", entry))
         return page, size if at_end else None
 
 
@@ -202,10 +201,10 @@ class RedisLog(Log):
             raise
 
     def append(self, raws: Sequence[bytes]) -> None:
-        for part in _parts(raws):
-            self._wire.run(APPEND, (self._entries, self._places), part)
+        for part in _batches(raws):
+            self._wire.run(APPEND_SCRIPT, (self._entries, self._places), part)
 
-    def read(self, after: str) -> list[Carried]:
+    def read(self, after: str) -> list[InLog]:
         return self._stream.read(after)
 
     def watch(self, after: str, seconds: float) -> None:
@@ -218,14 +217,14 @@ class RedisLog(Log):
         return self._stream.claimed()
 
     def meet(self, token: bytes, presence: bytes) -> list[bytes]:
-        answer = self._wire.run(MEET, (self._times, self._said),
+        answer = self._wire.run(MEET_SCRIPT, (self._times, self._said),
                                 (token, presence, ON_SECONDS, MOST_PRESENCE, MOST_ON))
         if not isinstance(answer, list):
             raise self._wire.strange()
         return [said for said in answer[:MOST_ON] if isinstance(said, bytes) and len(said) <= MOST_PRESENCE]
 
     def leave(self, token: bytes) -> None:
-        self._wire.run(LEAVE, (self._times, self._said), (token,))
+        self._wire.run(LEAVE_SCRIPT, (self._times, self._said), (token,))
 
     def close(self) -> None:
         self._wire.close()
@@ -237,24 +236,24 @@ def _numbers(one: Answer) -> tuple[int, int] | None:
     return (int(found[1]), int(found[2])) if found else None
 
 
-def _place(after: str) -> tuple[str, int]:
+def _stream_place(after: str) -> tuple[str, int]:
     """The id of a place, and how many entries there were up to it."""
     if after == START:
         return "0-0", 0
-    if not (found := PLACE.fullmatch(after)):
-        raise Lost("The place after which was to be read is another log's.")
+    if not (found := STREAM_PLACE.fullmatch(after)):
+        raise LogLost("The place after which was to be read is another log's.")
     return found[1], int(found[2])
 
 
-def _parts(raws: Sequence[bytes]) -> Iterator[list[bytes]]:
+def _batches(raws: Sequence[bytes]) -> Iterator[list[bytes]]:
     """Entries in parts that a server takes in at once."""
     part: list[bytes] = []
     size = 0
     for raw in raws:
-        if part and size + len(raw) + BESIDE > MOST_APPENDED:
+        if part and size + len(raw) + ENTRY_OVERHEAD > MOST_APPENDED:
             yield part
             part, size = [], 0
         part.append(raw)
-        size += len(raw) + BESIDE
+        size += len(raw) + ENTRY_OVERHEAD
     if part:
         yield part

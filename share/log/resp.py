@@ -19,17 +19,17 @@ from share.text.errors import Trouble
 Word = Union[bytes, str, int]
 Answer = Union[bytes, int, None, list["Answer"]]
 
-CONNECT_SECONDS, ANSWER_SECONDS = 5, 10
-# What is long is given more time, at so many bytes a second.
+CONNECT_SECONDS, REPLY_SECONDS = 5, 10
+# What is long is given more time: a second for this many bytes.
 SLOWEST = 2**12
-# An answer has so many bytes at most, where nothing else is said, and is nested no deeper.
+# The most bytes of an answer, where nothing else is said, and how deep it may be nested.
 MOST_ANSWER = 2**20
 DEEPEST = 6
 RECEIVED_AT_ONCE = 2**16
 LONGEST_TOLD = 200
-NUMBER = re.compile(rb"-?[0-9]{1,19}")
+INTEGER = re.compile(rb"-?[0-9]{1,19}")
 # What a server says that can't answer now and may later.
-LATER = {
+ANSWERS_LATER = {
     "LOADING": "is still loading its data",
     "OOM": "has no memory left",
     "MISCONF": "can't write its disk",
@@ -40,7 +40,7 @@ LATER = {
     "TRYAGAIN": "is moving the note's keys",
     "BUSY": "is busy with a script",
 }
-CODE = re.compile(rf"\b({'|'.join(LATER)})\b")
+LATER_CODE = re.compile(rf"\b({'|'.join(ANSWERS_LATER)})\b")
 
 
 class TooLong(Trouble):
@@ -62,7 +62,7 @@ class Wire:
         self._end = 0.0
 
     def ask(self, *words: Word, waits: float = 0, most: int = MOST_ANSWER) -> Answer:
-        """The answer to a command, with which the server waits so many seconds."""
+        """The answer to a command, before which the server may wait."""
         with self._told():
             return self._asked(words, waits, most)
 
@@ -102,11 +102,11 @@ class Wire:
 
     def _exchange(self, words: Sequence[Word], waits: float, most: int) -> Answer:
         assert self._line
-        self._most, self._at, sent = most, 0, _spelled(words)
-        self._line.settimeout(ANSWER_SECONDS + len(sent) / SLOWEST)
+        self._most, self._at, sent = most, 0, _command(words)
+        self._line.settimeout(REPLY_SECONDS + len(sent) / SLOWEST)
         self._line.sendall(sent)
         # What was sent may still be on its way.
-        self._end = time.monotonic() + ANSWER_SECONDS + len(sent) / SLOWEST + waits
+        self._end = time.monotonic() + REPLY_SECONDS + len(sent) / SLOWEST + waits
         try:
             return self._answer(0)
         except _Refused:
@@ -158,7 +158,7 @@ class Wire:
             return rest
         if kind == b"-":
             raise _Refused(printable(rest))
-        if kind not in b":$*" or not NUMBER.fullmatch(rest) or depth > DEEPEST:
+        if kind not in b":$*" or not INTEGER.fullmatch(rest) or depth > DEEPEST:
             raise self.strange()
         number = int(rest)
         if kind == b":":
@@ -231,8 +231,8 @@ class Wire:
             raise
 
     def _refused(self, said: str) -> Exception:
-        if found := CODE.search(said):
-            return Unreachable(f"{self.url} {LATER[found[1]]} ({said})")
+        if found := LATER_CODE.search(said):
+            return Unreachable(f"{self.url} {ANSWERS_LATER[found[1]]} ({said})")
         if said.startswith("NOAUTH"):
             return Trouble(f"{self.url} asks for a password. Put it in a file that --password-file names, or in "
                            "VIALSHOAL_PASSWORD.")
@@ -255,7 +255,7 @@ def printable(words: bytes | str) -> str:
     return "".join(one if one.isprintable() else "?" for one in text[:LONGEST_TOLD])
 
 
-def _spelled(words: Sequence[Word]) -> bytes:
+def _command(words: Sequence[Word]) -> bytes:
     parts = [b"*%d\r\n" % len(words)]
     for word in words:
         data = word if isinstance(word, bytes) else str(word).encode(errors="surrogateescape")

@@ -4,6 +4,7 @@ from collections.abc import Iterable, Iterator, Mapping, Sequence
 from typing import NamedTuple
 
 from share.admission.judge import Judge
+from share.admission.ledger import Who
 from share.format.entry import NO_HASH, Copy
 from share.format.operation import Operation
 
@@ -11,7 +12,6 @@ from share.format.operation import Operation
 MOST_TIMES, MOST_ALIKE = 8, 64
 # Anybody with the link can say anything of copies: so often it is looked at what is said.
 MOST_LOOKED_AT = 100_000
-Who = tuple[int, bytes]
 
 
 class One(NamedTuple):
@@ -84,7 +84,7 @@ class Alike:
     def _parts(self, message: Operation) -> list[Operation]:
         """What was left out of what stands for a message in several parts, in their order, as the author says."""
         of, groups = self._left[message].copy, dict[Who, list[Operation]]()
-        for copy in self._judge.copies_of(*of, message.data):
+        for copy in self._judge.copies_of(*of, lambda old: old == message):
             if copy in self._by_copy:
                 groups.setdefault((copy.site, copy.author), []).append(self._by_copy[copy])
         return next((parts for parts in groups.values() if len(parts) > 1 and b"".join(each.data for each in parts) == message.data), [])

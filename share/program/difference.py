@@ -10,7 +10,7 @@ from collections.abc import Callable, Iterator, Sequence
 from itertools import chain
 from typing import NamedTuple
 
-from share.admission.ledger import Line
+from share.admission.ledger import Branch
 from share.format.history import Messages
 from share.program.site import Site
 from share.text.change import Change, make
@@ -91,19 +91,19 @@ def _common_ends(before: Messages, now: Messages) -> Callable[[int], float]:
     return lambda site: ends.get(site, 0.0)
 
 
-def _lines(messages: Messages) -> dict[int, tuple[Line, int]]:
+def _lines(messages: Messages) -> dict[int, tuple[Branch, int]]:
     """The line of each site whose messages are in entries, and the number of these."""
-    return {part.holder.site: (part.holder, part.end) for part in messages.parts() if isinstance(part.holder, Line)}
+    return {part.holder.site: (part.holder, part.end) for part in messages.parts() if isinstance(part.holder, Branch)}
 
 
 def _in_no_entry(messages: Messages) -> Iterator[Names]:
     """What those messages insert that are in no entry yet."""
     for part in messages.parts():
-        if not isinstance(part.holder, Line):
+        if not isinstance(part.holder, Branch):
             yield from (one.new for one in part.holder.between(part.begin, part.end) if one.new)
 
 
-def _common_end(old: tuple[Line, int], new: tuple[Line, int]) -> float:
+def _common_end(old: tuple[Branch, int], new: tuple[Branch, int]) -> float:
     """Up to which offset two histories of a site have the same characters."""
     (one, end), (other, other_end) = old, new
     # Each entry has the hash of the one before it, so that what is the same is so up to one place.

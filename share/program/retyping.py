@@ -11,7 +11,9 @@ from collections.abc import Iterable, Mapping, Sequence, Set
 from contextlib import closing
 from typing import NamedTuple
 
-from share.admission.judge import Judge, rank
+from share.admission.chains import rank
+from share.admission.judge import Judge
+from share.admission.ledger import Who
 from share.admission.left_out import LeftOut, not_copied
 from share.format.entry import Author, Copied, Copy, Entry, Form
 from share.format.operation import Operation
@@ -39,9 +41,8 @@ MOST_TOLD, MOST_NAMED = 100, 3
 LOOKING = 1
 # So many characters before what was left out are looked at first.
 LOOKED_AT = 64
-# A message by its author, site and seq; and an author of a site.
+# A message by its author, site and seq.
 Made = tuple[bytes, int, int]
-Who = tuple[int, bytes]
 
 
 class Lost(NamedTuple):

@@ -11,7 +11,7 @@ from share.text.errors import Trouble
 
 # What the file is named while it is written, before some digits: short, since a name of the user's may be as
 # long as names can be.
-BESIDE = ".note-"
+NAME_BEGIN = ".note-"
 READABLE, PRIVATE = 0o666, 0o600
 ALL_BITS, RIGHTS = 0o7777, 0o777
 
@@ -35,7 +35,7 @@ def save(path_as_typed: str, data: bytes) -> pathlib.Path:
         target = pathlib.Path(os.path.realpath(path))
         old = _state(path)
         if old:
-            _check(path, target, old)
+            _refuse_odd_files(path, target, old)
         _replace(target, old, data)
     return path
 
@@ -68,7 +68,7 @@ def _state(path: pathlib.Path) -> os.stat_result | None:
         return None
 
 
-def _check(path: pathlib.Path, target: pathlib.Path, old: os.stat_result) -> None:
+def _refuse_odd_files(path: pathlib.Path, target: pathlib.Path, old: os.stat_result) -> None:
     """Refuses what a file mustn't take the place of."""
     if stat.S_ISDIR(old.st_mode):
         raise NotSaved(f"Not saved: {path} is a folder.")
@@ -79,13 +79,13 @@ def _check(path: pathlib.Path, target: pathlib.Path, old: os.stat_result) -> Non
 
 
 def _replace(target: pathlib.Path, old: os.stat_result | None, data: bytes) -> None:
-    """Writes a file beside, has it on the disk, and then gives it the name."""
-    beside = target.with_name(BESIDE + secrets.token_hex(8))
+    """Writes a file beside, brings it to the disk, and then gives it the name."""
+    beside = target.with_name(NAME_BEGIN + secrets.token_hex(8))
     # Nobody may read what is written who may not read the old file.
     file = os.open(beside, os.O_WRONLY | os.O_CREAT | os.O_EXCL | os.O_CLOEXEC, PRIVATE if old else READABLE)
     try:
         try:
-            _write(file, data)
+            _write_all(file, data)
             if old:
                 _keep_rights(file, old)
             os.fsync(file)
@@ -99,7 +99,7 @@ def _replace(target: pathlib.Path, old: os.stat_result | None, data: bytes) -> N
     _sync_folder(target.parent)
 
 
-def _write(file: int, data: bytes) -> None:
+def _write_all(file: int, data: bytes) -> None:
     left = memoryview(data)
     while left:
         left = left[os.write(file, left):]
@@ -117,7 +117,7 @@ def _keep_rights(file: int, old: os.stat_result) -> None:
 
 
 def _sync_folder(folder: pathlib.Path) -> None:
-    """Has a folder's names on the disk, where its file system and its rights let us."""
+    """Brings a folder's names to the disk, where its file system and its rights let us."""
     try:
         handle = os.open(folder, os.O_RDONLY | os.O_DIRECTORY | os.O_CLOEXEC)
     except PermissionError:

@@ -9,13 +9,13 @@ from share.program import replay, retyping
 from share.program.site import Site
 from share.store import nicknames, notes, read_only, renewal
 from share.store.note_file import About
-from share.store.read_only import Judged, Own, Shown, uncollected
+from share.store.read_only import Judged, NoteText, Own, uncollected
 from share.store.with_log import with_log
 from share.text.errors import Trouble
 from share.text.line import Line
 
 
-class Counted(NamedTuple):
+class Contents(NamedTuple):
     """The messages of a note, each after its causes; what is missing of it, in words; and what was left out for good,
     stretch by stretch."""
 
@@ -24,14 +24,14 @@ class Counted(NamedTuple):
     left_out: list[Line]
 
 
-def printed(name: str, url: str | None, link: Link | None, password: str | None) -> Shown:
+def text_of_note(name: str, url: str | None, link: Link | None, password: str | None) -> NoteText:
     """The text of a note, and what is missing in it."""
-    messages, missing, _ = counted(name, found(name, url, link, password))
+    messages, missing, _ = contents_of(name, found_of(name, url, link, password))
     with closing(Site(replay.REPLAYING, messages)) as site:
-        return Shown(site.text(), missing)
+        return NoteText(site.text(), missing)
 
 
-def counted(name: str, there: Judged) -> Counted:
+def contents_of(name: str, there: Judged) -> Contents:
     """What counts of what there is of a note."""
     judge, path = there.judge, notes.path_of(name)
     messages = judge.count().messages
@@ -40,12 +40,12 @@ def counted(name: str, there: Judged) -> Counted:
     if much := retyping.left_out(judge, own.anew):
         missing.append(retyping.telling(retyping.with_names(retyping.as_lines(much, own.clients), names), name))
     if said := renewal.renewed_by(judge, own.clients):
-        missing.append(renewal.telling(said))
-    return Counted(messages, missing, retyping.with_text(retyping.lost(judge, own.anew), own.clients, names))
+        missing.append(renewal.renewed_in_words(said))
+    return Contents(messages, missing, retyping.with_text(retyping.lost(judge, own.anew), own.clients, names))
 
 
 @uncollected()
-def found(name: str, url: str | None, link: Link | None, password: str | None) -> Judged:
+def found_of(name: str, url: str | None, link: Link | None, password: str | None) -> Judged:
     """What there is of a note, and what was wrong with it."""
     path = notes.path_of(name)
     if path.exists():
@@ -59,7 +59,7 @@ def found(name: str, url: str | None, link: Link | None, password: str | None) -
         return Judged(about, Judge(row.entry for row in rows), list(kept.left_out), set())
     else:
         raise Trouble(f"There is no note {name} here. To print one that isn't here, give its link.")
-    notes.agree(here.about, name, url, link)
+    notes.check_agreement(here.about, name, url, link)
     if url or here.about.url:
         here = with_log(here, url or here.about.url, password)
     return here

@@ -12,18 +12,18 @@ from share.format.entry import GREATEST_SITE
 from share.format.presence import clean_name
 from share.store import notes
 
-SUFFIX = ".people"
-# So many are kept at most: who has the note's link could name thousands.
-MOST = 1_000
-MOST_BYTES = 1 << 20
+NICKNAMES_SUFFIX = ".people"
+# The most that are kept: who has the note's link could name thousands.
+MOST_NICKNAMES = 1_000
+LONGEST_FILE = 1 << 20
 
 
 def known(name: str) -> dict[int, str]:
     """The names of a note's sites."""
-    path = notes.path_of(name).with_suffix(SUFFIX)
+    path = notes.path_of(name).with_suffix(NICKNAMES_SUFFIX)
     found: object = None
     with suppress(OSError, ValueError, RecursionError):
-        if path.stat().st_size <= MOST_BYTES:
+        if path.stat().st_size <= LONGEST_FILE:
             found = json.loads(path.read_text(encoding="utf-8"))
     if not isinstance(found, dict):
         return {}
@@ -34,9 +34,9 @@ def known(name: str) -> dict[int, str]:
 
 def remember(name: str, names: dict[int, str]) -> None:
     """Keeps the names of a note's sites; of too many those that came last."""
-    path = notes.path_of(name).with_suffix(SUFFIX)
+    path = notes.path_of(name).with_suffix(NICKNAMES_SUFFIX)
     beside = path.with_name(f".{path.name}.{secrets.token_hex(4)}")
-    kept = dict([*names.items()][-MOST:])
+    kept = dict([*names.items()][-MOST_NICKNAMES:])
     with suppress(OSError):
         try:
             with open(os.open(beside, os.O_WRONLY | os.O_CREAT | os.O_EXCL | os.O_CLOEXEC, 0o600), "w",

@@ -21,14 +21,15 @@ from share.log.base import Unreachable
 from share.program import retyping
 from share.program.site import is_full
 from share.store import old, read_only
-from share.store.note_file import About, Client, Damaged, Disk, make
-from share.store.old import Old
+from share.store.guarded import Damaged
+from share.store.note_file import About, Disk, make_note
+from share.store.old import NOTE_NAME, Old
+from share.store.own import Client
 from share.store.renewal import say_so
 from share.store.with_log import with_log
 from share.text.errors import Trouble
 
-NAME = re.compile(r"[A-Za-z0-9][A-Za-z0-9._-]{0,63}")
-SUFFIX = ".note"
+NOTE_SUFFIX = ".note"
 
 
 def data_folder() -> pathlib.Path:
@@ -39,12 +40,17 @@ def data_folder() -> pathlib.Path:
     return pathlib.Path(home) / "vialshoal"
 
 
+def is_name(name: str) -> bool:
+    """Whether a note can have this name."""
+    return bool(NOTE_NAME.fullmatch(name))
+
+
 def path_of(name: str) -> pathlib.Path:
     """The file of the note of this name."""
-    if not NAME.fullmatch(name):
+    if not is_name(name):
         raise Trouble(f"{name!r} can't be a note's name. Use up to 64 letters, digits, dots, hyphens and "
                       "underscores, the first a letter or a digit.")
-    return data_folder() / "notes" / f"{name}{SUFFIX}"
+    return data_folder() / "notes" / f"{name}{NOTE_SUFFIX}"
 
 
 def is_here(name: str) -> bool:
@@ -61,14 +67,14 @@ class Renewed(NamedTuple):
     left_out: list[LeftOut]
 
 
-def opened(name: str, url: str | None, link: Link | None, password: str | None = None,
-           tell: Callable[[str], None] = lambda words: None) -> Disk:
+def open_note(name: str, url: str | None, link: Link | None, password: str | None = None,
+              tell: Callable[[str], None] = lambda words: None) -> Disk:
     """The file of a note, which is made where it isn't there: as a link says, from a note of before, or new. Tells
     what was left out."""
     path = path_of(name)
     try:
         if not path.exists():
-            for words in _make(name, path, url, link, password):
+            for words in _make_first(name, path, url, link, password):
                 tell(words)
         disk = Disk(path)
     except Damaged as why:
@@ -77,7 +83,7 @@ def opened(name: str, url: str | None, link: Link | None, password: str | None =
     except OSError as why:
         raise Trouble(f"{why.filename}: {why.strerror}. Set VIALSHOAL_DATA to a folder that can be written.") from why
     try:
-        agree(disk.about, name, url, link)
+        check_agreement(disk.about, name, url, link)
         if url and url != disk.about.url:
             disk.point_to(url)
     except BaseException:
@@ -86,7 +92,7 @@ def opened(name: str, url: str | None, link: Link | None, password: str | None =
     return disk
 
 
-def link_of(name: str) -> str:
+def link_to(name: str) -> str:
     """The link of a note that is here."""
     about = read_only.about(existing(name))
     if not about.url:
@@ -118,7 +124,7 @@ def renew(name: str, url: str | None, password: str | None, called: str = "",
     if is_full(len(messages)):
         raise Trouble(f"The note {name} has {len(messages):,} messages, as many as a note may have. So would a copy with its history, "
                       f"in which nothing could be typed. bin/note renew {name} --fresh makes a new note of its text.")
-    beside = path.with_name(f".renewed.{os.getpid()}{SUFFIX}")
+    beside = path.with_name(f".renewed.{os.getpid()}{NOTE_SUFFIX}")
     _make_new(beside, about_new(url), by_site(messages))
     try:
         before = _give_way(name, path) if path.exists() else None
@@ -153,7 +159,7 @@ def recover(folders: Sequence[pathlib.Path]) -> list[str]:
     somebody else's file names isn't gone on with unasked: that would be a file wherever they say."""
     found: dict[bytes, tuple[str, About, dict[bytes, Entry]]] = {}
     told, logs = [], dict[bytes, str]()
-    for path in _files(folders):
+    for path in _note_files(folders):
         try:
             one = read_only.found_in(path)
         except Trouble as why:
@@ -207,10 +213,10 @@ def by_site(messages: Iterable[Operation]) -> dict[int, list[Operation]]:
 
 def in_rows(form: Form, messages: Mapping[int, Sequence[Operation]]) -> list[Row]:
     """Entries of messages that were made elsewhere. Their numbers are claimed by authors whom nobody can be."""
-    return [row for site, of_site in messages.items() for row in _rows(form, of_site, Client(site, form.new_author()))]
+    return [row for site, of_site in messages.items() for row in _claim_and_entries(form, of_site, Client(site, form.new_author()))]
 
 
-def _rows(form: Form, messages: Sequence[Operation], client: Client) -> Iterator[Row]:
+def _claim_and_entries(form: Form, messages: Sequence[Operation], client: Client) -> Iterator[Row]:
     """A claim, and entries of messages."""
     last = form.claim(client.site, client.author)
     yield Row(0, last, False)
@@ -219,10 +225,10 @@ def _rows(form: Form, messages: Sequence[Operation], client: Client) -> Iterator
         yield Row(0, last, False)
 
 
-def _make(name: str, path: pathlib.Path, url: str | None, link: Link | None, password: str | None) -> Sequence[str]:
+def _make_first(name: str, path: pathlib.Path, url: str | None, link: Link | None, password: str | None) -> Sequence[str]:
     """Makes a note's file; what was left out, in words."""
     if link:
-        make(path, About(link.form == "sealed", link.secret, url or link.url))
+        make_note(path, About(link.form == "sealed", link.secret, url or link.url))
         return ()
     if not url and (kept := of_before(name, None, password)):
         _make_new(path, about_new(None), kept.messages)
@@ -243,11 +249,11 @@ def _make_new(path: pathlib.Path, about: About, messages: Mapping[int, Sequence[
     clients = [Client(secrets.choice(free), form.new_author(), stood=True)] if free else []
     # Who has the link could claim a copied number, too. With its key what was written under it can be made anew then.
     copied = [Client(site, form.new_author(), retired=True, copied=True) for site in messages]
-    rows = [row for one in copied for row in _rows(form, messages[one.site], one)]
-    make(path, about, rows + [Row(0, form.claim(one.site, one.author), True) for one in clients], clients + copied)
+    rows = [row for one in copied for row in _claim_and_entries(form, messages[one.site], one)]
+    make_note(path, about, rows + [Row(0, form.claim(one.site, one.author), True) for one in clients], clients + copied)
 
 
-def agree(about: About, name: str, url: str | None, link: Link | None) -> None:
+def check_agreement(about: About, name: str, url: str | None, link: Link | None) -> None:
     """Looks whether what was given is of this note."""
     if link and (link.form == "sealed", link.secret) != (about.sealed, about.secret):
         raise Trouble(f"The note {name} here is another one than the link's. Join it under another name.")
@@ -256,7 +262,7 @@ def agree(about: About, name: str, url: str | None, link: Link | None) -> None:
                       f"--log {url} copies it into a sealed one.")
 
 
-def _files(folders: Sequence[pathlib.Path]) -> list[pathlib.Path]:
+def _note_files(folders: Sequence[pathlib.Path]) -> list[pathlib.Path]:
     """The notes' files in folders, and in their folders of notes."""
     found: list[pathlib.Path] = []
     for folder in folders:
@@ -278,26 +284,26 @@ def _is_own(path: pathlib.Path) -> bool:
 def _brought_back(name: str, about: About, entries: list[Entry], log: str | None) -> str:
     """Puts entries into the note's file here; what was done, in words, and which log wasn't taken over."""
     name = re.sub(r"\.note$", "", name)
-    if not NAME.fullmatch(name):
+    if not is_name(name):
         name = "recovered"
     for number in count(1):
         path = path_of(name if number == 1 else f"{name[:56]}.{number}")
         if not path.exists():
-            make(path, about)
+            make_note(path, about)
         try:
             with contextlib.closing(Disk(path)) as disk:
                 if disk.about.secret != about.secret:
                     continue
                 disk.check()
                 log = None if disk.about.url else log
-                gone = {of for _, of in disk.withdrawn()}
+                gone = {of for _, of in disk.entries.withdrawn()}
                 disk.keep([entry for entry in entries if entry.hash not in gone], made=False)
-                judge = Judge(row.entry for row in disk.rows() if row.entry.hash not in gone)
+                judge = Judge(row.entry for row in disk.entries.rows() if row.entry.hash not in gone)
                 break
         except Damaged:
             continue
     messages = judge.count().messages
-    sites, name = len({message.site for message in messages}), path.name[:-len(SUFFIX)]
+    sites, name = len({message.site for message in messages}), path.name[:-len(NOTE_SUFFIX)]
     return (f"{name}: {len(messages):,} messages of {sites:,} sites, in {path}"
             + (f"; {judge.incomplete():,} more lack something." if judge.incomplete() else ".")
             + (f" Its log was the file {log}, which isn't gone on with unless you name it: bin/note {name} --log {log}"

@@ -18,27 +18,25 @@ from typing import NamedTuple
 
 from share.format.entry import GREATEST_SITE
 from share.format.operation import LONGEST_MESSAGE, NoMessage, Operation
-from share.log.base import START, Lost, Unreachable
-from share.log.bounded import Bound
+from share.log.base import START, LogLost, Unreachable
 from share.log.redis import Stream
 from share.log.resp import Wire
+from share.log.sqlite_file import SqliteFile
 from share.text.errors import Trouble, counted, entries
 
-APPLICATION = 0x56534E31
-MAGIC = b"SQLite format 3\0"
-APPLICATION_AT, HEADER_BYTES = 68, 100
+OLD_APPLICATION = 0x56534E31
 # A name goes into a path and a key, and an identity into a path, though a log says it.
-NAME = re.compile(r"[A-Za-z0-9][A-Za-z0-9._-]{0,63}")
+NOTE_NAME = re.compile(r"[A-Za-z0-9][A-Za-z0-9._-]{0,63}")
 IDENTITY = re.compile(r"[0-9a-f]{16}")
 JOURNAL = re.compile(r"([0-9]{1,5})\.(journal|left)")
 JOURNAL_BEGIN = b"vialshoal journal 1\n"
 # A record of a journal is the message's length, its checksum and its bytes; a server has the checksum before them.
-RECORD, CHECKSUM_BYTES = struct.Struct(">II"), 4
-ROWS = ("SELECT place, CASE WHEN typeof(message) = 'blob' AND length(message) <= ? THEN message END, "
-        "CAST(checksum AS INTEGER) FROM entry ORDER BY place ")
+JOURNAL_RECORD, CHECKSUM_BYTES = struct.Struct(">II"), 4
+OLD_ROWS = ("SELECT place, CASE WHEN typeof(message) = 'blob' AND length(message) <= ? THEN message END, "
+            "CAST(checksum AS INTEGER) FROM entry ORDER BY place ")
 NOTE = "SELECT identity FROM note WHERE typeof(identity) = 'text' AND length(identity) = 16 LIMIT 1"
 # How often a log that is written to meanwhile is copied again, and after how many seconds.
-TRIES, AGAIN_SECONDS = 20, 0.1
+COPY_TRIES, COPY_AGAIN_SECONDS = 20, 0.1
 
 
 class Old(NamedTuple):
@@ -50,7 +48,7 @@ class Old(NamedTuple):
 
 def is_old_note(data: pathlib.Path, name: str) -> bool:
     """Whether a data folder has the log of a note of this name, in the form of before."""
-    return bool(NAME.fullmatch(name)) and _log_of(data, name).is_file()
+    return bool(NOTE_NAME.fullmatch(name)) and _log_of(data, name).is_file()
 
 
 def messages_of_old_note(data: pathlib.Path, name: str) -> Old | None:
@@ -75,7 +73,7 @@ def messages_of_old_server(url: str, name: str, password: str | None,
                            data: pathlib.Path | None = None) -> Old | None:
     """The messages of a note on a server, where it has one of this name; with a data folder also those that were
     never sent. A server can say another note's identity, so a journal counts only where the log has its begin."""
-    if not NAME.fullmatch(name):
+    if not NOTE_NAME.fullmatch(name):
         return None
     wire, key = Wire(url, password), f"vialshoal:{{{name}}}"
     with contextlib.closing(wire):
@@ -169,22 +167,22 @@ def copied(path: pathlib.Path) -> Iterator[pathlib.Path]:
     that can't be written."""
     with tempfile.TemporaryDirectory(prefix="vialshoal-") as folder:
         copy = pathlib.Path(folder) / "log.db"
-        for _ in range(TRIES):
-            before = _stats(path)
+        for _ in range(COPY_TRIES):
+            before = _sizes_and_times(path)
             for end in ("-wal", ""):
                 with contextlib.suppress(FileNotFoundError):
                     os.unlink(f"{copy}{end}")
                 if os.path.exists(f"{path}{end}"):
                     shutil.copyfile(f"{path}{end}", f"{copy}{end}")
-            if _stats(path) == before:
+            if _sizes_and_times(path) == before:
                 break
-            time.sleep(AGAIN_SECONDS)
+            time.sleep(COPY_AGAIN_SECONDS)
         else:
             raise Trouble(f"{path} is being written to. Quit the editors that have it open, and try again.")
         yield copy
 
 
-def _stats(path: pathlib.Path) -> list[tuple[int, int] | None]:
+def _sizes_and_times(path: pathlib.Path) -> list[tuple[int, int] | None]:
     found: list[tuple[int, int] | None] = []
     for end in ("", "-wal"):
         try:
@@ -197,10 +195,9 @@ def _stats(path: pathlib.Path) -> list[tuple[int, int] | None]:
 
 def _read_log(path: pathlib.Path, copy: pathlib.Path, gathered: _Gathered) -> str | None:
     """Reads the copy of a log, and gives its identity."""
-    with contextlib.closing(sqlite3.connect(copy)) as file:
-        Bound(file)
+    with contextlib.closing(SqliteFile(copy, bounded=True)) as file:
         try:
-            if file.execute("PRAGMA application_id").fetchone()[0] != APPLICATION:
+            if file.application() != OLD_APPLICATION:
                 raise Trouble(f"{path} isn't a note's log. Move it away, or choose another name for the note.")
             for order in ("ASC", "DESC"):
                 # Where it is damaged in the middle, both ends of it are read.
@@ -216,10 +213,10 @@ def _read_log(path: pathlib.Path, copy: pathlib.Path, gathered: _Gathered) -> st
     return None
 
 
-def _read_rows(file: sqlite3.Connection, order: str, gathered: _Gathered) -> str:
+def _read_rows(file: SqliteFile, order: str, gathered: _Gathered) -> str:
     """Adds a log's messages; what kept it from going on, if something did."""
     try:
-        for place, data, checksum in file.execute(ROWS + order, (LONGEST_MESSAGE,)):
+        for place, data, checksum in file.execute(OLD_ROWS + order, (LONGEST_MESSAGE,)):
             gathered.add(place, data, checksum)
     except sqlite3.DatabaseError as why:
         return str(why)
@@ -229,7 +226,7 @@ def _read_rows(file: sqlite3.Connection, order: str, gathered: _Gathered) -> str
 def _read_stream(wire: Wire, key: str) -> _Gathered | None:
     """Reads a stream, where the server has it."""
     stream = Stream(wire, key, "message", CHECKSUM_BYTES + LONGEST_MESSAGE)
-    for _ in range(TRIES):
+    for _ in range(COPY_TRIES):
         gathered, after = _Gathered(), START
         try:
             while page := stream.read(after):
@@ -237,7 +234,7 @@ def _read_stream(wire: Wire, key: str) -> _Gathered | None:
                     checksum, data = (raw[:CHECKSUM_BYTES], raw[CHECKSUM_BYTES:]) if raw else (b"", None)
                     gathered.add(place, data, int.from_bytes(checksum, "big"))
                 after = page[-1].place
-        except Lost:
+        except LogLost:
             continue
         return gathered if after != START else None
     raise Unreachable(f"{wire.url} loses entries as they are read.")
@@ -251,11 +248,11 @@ def _records(path: pathlib.Path, site: int) -> tuple[list[Operation], bool]:
         return [], any(data) and not JOURNAL_BEGIN.startswith(data)
     messages: list[Operation] = []
     end = len(JOURNAL_BEGIN)
-    while end + RECORD.size <= len(data):
-        length, checksum = RECORD.unpack_from(data, end)
-        message = _message(data[end + RECORD.size:end + RECORD.size + length], checksum)
+    while end + JOURNAL_RECORD.size <= len(data):
+        length, checksum = JOURNAL_RECORD.unpack_from(data, end)
+        message = _message(data[end + JOURNAL_RECORD.size:end + JOURNAL_RECORD.size + length], checksum)
         if not message or (message.site, message.seq) != (site, len(messages) + 1):
             break
         messages.append(message)
-        end += RECORD.size + length
+        end += JOURNAL_RECORD.size + length
     return messages, any(data[end:])

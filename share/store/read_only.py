@@ -5,7 +5,6 @@ import gc
 import pathlib
 import sqlite3
 import struct
-import urllib.parse
 import zlib
 from collections.abc import Callable, Iterable, Iterator
 from typing import Any, NamedTuple, TypeVar
@@ -14,27 +13,29 @@ from share.admission.judge import Judge
 from share.admission.ledger import Row
 from share.format.entry import Bad, Entry, Form, digest
 from share.format.keystrokes import Keystrokes
-from share.log.bounded import Bound
+from share.log.sqlite_file import Busy, Malformed, SqliteFile, faults
 from share.program.site import Site
-from share.store.note_file import APPLICATION, COPIED, About, Damaged, about_of, as_text
+from share.store.guarded import Damaged
+from share.store.note_file import NOTE_APPLICATION, About, about_of
 from share.store.old import copied
+from share.store.own import COPIED
 from share.text.errors import NEWER, Trouble, entries
 
-Result = TypeVar("Result")
-RAW, KEPT = "coalesce(CAST(raw AS BLOB), x'')", ", hash, body, sum"
-ROWS = """SELECT place, {} FROM entry WHERE place {} ? AND hash NOT IN (SELECT hash FROM withdrawn) ORDER BY place {}"""
+Read = TypeVar("Read")
+RAW, KEPT_COLUMNS = "coalesce(CAST(raw AS BLOB), x'')", ", hash, body, sum"
+ENTRY_ROWS = """SELECT place, {} FROM entry WHERE place {} ? AND hash NOT IN (SELECT hash FROM withdrawn) ORDER BY place {}"""
 OWN_CLIENTS = "SELECT site, author FROM client WHERE retired != ?"
-GREATEST_PLACE = 2**63 - 1
-# So many faults of a kind are told one by one.
-MOST_TOLD = 3
-# After so many entries what counts of them is let through.
-PAGE = 2_000
+LAST_PLACE = 2**63 - 1
+# The most faults of a kind that are told one by one.
+MOST_FAULTS = 3
+# How many entries are read before what counts of them is let through.
+JUDGED_AT_ONCE = 2_000
 
 # The bytes of an entry as a file has them, its hash, its body unsealed, and a sum of that. What the disk damaged may have other types.
 Kept = tuple[Any, ...]
 
 
-class Found(NamedTuple):
+class FoundEntries(NamedTuple):
     """What a note's file has, and what was wrong with it, in words."""
 
     about: About
@@ -70,12 +71,12 @@ class Faults:
     def add(self, why: Bad) -> None:
         """One more can't be read."""
         self._many += 1
-        if self._many <= MOST_TOLD:
+        if self._many <= MOST_FAULTS:
             self._first.append(f"An entry of {self._of} {why}.")
 
     def words(self) -> list[str]:
         """What is told."""
-        more = self._many - MOST_TOLD
+        more = self._many - MOST_FAULTS
         return [*self._first, f"{entries(more)} more of {self._of} can't be read."] if more > 0 else self._first
 
 
@@ -87,7 +88,7 @@ class Own(NamedTuple):
     anew: set[tuple[bytes, int, int]] = set()
 
 
-class Shown(NamedTuple):
+class NoteText(NamedTuple):
     """A note's text, and what is missing in it, in words."""
 
     text: bytes
@@ -112,7 +113,7 @@ def own(path: pathlib.Path) -> Own:
     return Own()
 
 
-def found_in(path: pathlib.Path) -> Found:
+def found_in(path: pathlib.Path) -> FoundEntries:
     """What a file has, as far as it can be read. Each entry is judged as one that came from a stranger."""
     return _with_file(path, _found)
 
@@ -123,12 +124,12 @@ def judged(path: pathlib.Path) -> Judged:
     return _with_file(path, _judged)
 
 
-def shown(found: Found) -> Shown:
+def text_of(found: FoundEntries) -> NoteText:
     """What a note shows that has these entries."""
     judge = Judge(found.entries)
     messages = judge.count().messages
     with contextlib.closing(Site(1, messages)) as site:
-        return Shown(site.text(), missing(judge, found.faults))
+        return NoteText(site.text(), missing(judge, found.faults))
 
 
 def missing(judge: Judge, faults: Iterable[str]) -> list[str]:
@@ -142,13 +143,13 @@ def missing(judge: Judge, faults: Iterable[str]) -> list[str]:
         told.append(f"{lack} in the text.")
     wrong = judge.wrong()
     told += [f"Message {one.seq} of site {one.site} is wrong, and isn't in the text with what builds on it."
-             for one in wrong[:MOST_TOLD]]
-    if len(wrong) > MOST_TOLD:
-        told.append(f"Messages of {len(wrong) - MOST_TOLD:,} more sites are wrong.")
+             for one in wrong[:MOST_FAULTS]]
+    if len(wrong) > MOST_FAULTS:
+        told.append(f"Messages of {len(wrong) - MOST_FAULTS:,} more sites are wrong.")
     return told
 
 
-def opened(about_it: About, raws: list[bytes], of: str) -> tuple[list[Entry], list[str]]:
+def entries_of(about_it: About, raws: list[bytes], of: str) -> tuple[list[Entry], list[str]]:
     """The entries that bytes are, and what is wrong with the others. `of` says where they are."""
     right, faults = list[Entry](), Faults(of)
     for one in about_it.form().open_many(raws):
@@ -159,37 +160,37 @@ def opened(about_it: About, raws: list[bytes], of: str) -> tuple[list[Entry], li
     return right, faults.words()
 
 
-def _found(file: sqlite3.Connection) -> Found:
+def _found(file: SqliteFile) -> FoundEntries:
     about_it, broken = about_of(file), list[str]()
-    right, faults = opened(about_it, [raw for raw, in _rows(file, RAW, broken)], "the file")
-    return Found(about_it, right, broken + faults)
+    right, faults = entries_of(about_it, [raw for raw, in _rows_of(file, RAW, broken)], "the file")
+    return FoundEntries(about_it, right, broken + faults)
 
 
-def _judged(file: sqlite3.Connection) -> Judged:
+def _judged(file: SqliteFile) -> Judged:
     about_it, broken, wrong = about_of(file), list[str](), Faults("the file")
     form, keystrokes = about_it.form(), Keystrokes()
     found = Judged(about_it, Judge(form=form), [], set())
-    for number, row in enumerate(_rows(file, RAW + KEPT, broken), 1):
+    for number, row in enumerate(_rows_of(file, RAW + KEPT_COLUMNS, broken), 1):
         try:
             found.add(_as_kept(form, keystrokes, row))
         except Bad as why:
             wrong.add(why)
-        if number % PAGE == 0:
+        if number % JUDGED_AT_ONCE == 0:
             found.judge.let_through()
     return found._replace(faults=broken + wrong.words())
 
 
-def _rows(file: sqlite3.Connection, columns: str, broken: list[str]) -> Iterator[Kept]:
+def _rows_of(file: SqliteFile, columns: str, broken: list[str]) -> Iterator[Kept]:
     """All entries that can be read, from the front; where the file is damaged, which is told, also from the other end."""
     last = 0
     try:
-        for row in file.execute(ROWS.format(columns, ">", "ASC"), (0,)):
+        for row in file.execute(ENTRY_ROWS.format(columns, ">", "ASC"), (0,)):
             yield row[1:]
             last = row[0]
     except sqlite3.DatabaseError as why:
         broken.append(f"The file is damaged ({why}); some of it may be lost.")
         with contextlib.suppress(sqlite3.DatabaseError):
-            for row in file.execute(ROWS.format(columns, "<", "DESC"), (GREATEST_PLACE,)):
+            for row in file.execute(ENTRY_ROWS.format(columns, "<", "DESC"), (LAST_PLACE,)):
                 if row[0] <= last:
                     break
                 yield row[1:]
@@ -208,33 +209,27 @@ def _as_kept(form: Form, keystrokes: Keystrokes, row: Kept) -> Row:
     return Row(0, form.open(raw), False)
 
 
-def _with_file(path: pathlib.Path, read: Callable[[sqlite3.Connection], Result]) -> Result:
+def _with_file(path: pathlib.Path, read: Callable[[SqliteFile], Read]) -> Read:
     """What is read of a file. Where no editor has it open it is a copy that is read, since SQLite would leave files
     beside it."""
     if path.with_name(path.name + "-wal").exists() and path.with_name(path.name + "-shm").exists():
-        with contextlib.suppress(sqlite3.OperationalError):
+        with contextlib.suppress(Busy):
             return _read(path, path, read)
     try:
         with copied(path) as copy:
             return _read(path, copy, read)
-    except (sqlite3.OperationalError, OSError) as why:
+    except (Busy, OSError) as why:
         raise Trouble(f"{path} can't be read ({why}).") from why
 
 
-def _read(path: pathlib.Path, copy: pathlib.Path, read: Callable[[sqlite3.Connection], Result]) -> Result:
+def _read(path: pathlib.Path, copy: pathlib.Path, read: Callable[[SqliteFile], Read]) -> Read:
     """What is read of a file by a copy of it, or by itself."""
     try:
-        with contextlib.closing(sqlite3.connect(f"file:{urllib.parse.quote(str(copy))}?mode=ro", uri=True,
-                                                timeout=10)) as file:
-            Bound(file)
-            # What isn't UTF-8 was damaged, and is found to be so.
-            file.text_factory = as_text
-            if file.execute("PRAGMA application_id").fetchone()[0] != APPLICATION:
+        with faults(), contextlib.closing(SqliteFile(copy, writes=False, bounded=True)) as file:
+            if file.application() != NOTE_APPLICATION:
                 raise Trouble(f"{path} isn't a note's file.")
             return read(file)
-    except sqlite3.OperationalError:
-        raise
-    except sqlite3.DatabaseError as why:
+    except Malformed as why:
         raise Trouble(f"{path} is damaged, or isn't a note's file ({why}).") from why
     except Damaged as why:
         raise Trouble(f"{path} is damaged ({why}).") from why
@@ -242,7 +237,7 @@ def _read(path: pathlib.Path, copy: pathlib.Path, read: Callable[[sqlite3.Connec
 
 @contextlib.contextmanager
 def uncollected() -> Iterator[None]:
-    """Has Python look for no garbage meanwhile, which takes as long as all the rest where a long history is read, nor
+    """Keeps Python from looking for garbage meanwhile, which takes as long as all the rest where a long history is read, nor
     later in what was read, which stays."""
     gc.disable()
     try:

@@ -13,19 +13,21 @@ from share.admission.judge import Judge
 from share.format.history import Messages
 from share.format.operation import INSERT, Operation
 from share.format.presence import clean_name
-from share.log.base import Lost, Unreachable, open_log
+from share.log.base import LogLost, Unreachable
+from share.log.opening import open_log
 from share.program.site import Site, split
-from share.store.note_file import Damaged, Disk, Unkept
+from share.store.guarded import Damaged, Unkept
+from share.store.note_file import Disk
 from share.text.errors import Trouble, counted
 from share.text.line import Line
 from share.text.looks import Run
 from share.text.names import Names
 
 # The number of a site by which is only looked.
-LOOKING = 1
+LOOKING_SITE = 1
 
 
-class Stretch(NamedTuple):
+class Styled(NamedTuple):
     """A stretch of a text that one site typed, in one kind of looks, as messages spell these."""
 
     site: int
@@ -43,18 +45,18 @@ class Fresh(NamedTuple):
 
 def fresh(messages: Messages, without: Set[int]) -> Fresh:
     """The text that messages show, typed anew, without what some sites typed of it."""
-    with closing(Site(LOOKING, messages)) as site:
+    with closing(Site(LOOKING_SITE, messages)) as site:
         text, runs = site.text(), site.runs()
         names = site.names(0, len(text))
     sizes: dict[int, int] = {}
     for one in names:
         sizes[one.site] = sizes.get(one.site, 0) + one.length
     kept = (one for one in _stretches(text, names, runs) if one.site not in without)
-    return Fresh(Messages(_typed(_joined(kept))), {site: size for site, size in sizes.items() if site not in without},
+    return Fresh(Messages(_typed_anew(_merged_stretches(kept))), {site: size for site, size in sizes.items() if site not in without},
                  {site: sizes.get(site, 0) for site in sorted(without)})
 
 
-def in_words(one: Fresh, names: Mapping[int, str]) -> str:
+def fresh_in_words(one: Fresh, names: Mapping[int, str]) -> str:
     """What a note is that begins with a text, before it is made."""
     size = sum(one.sizes.values())
     words = (f"The new note begins with the text as it is, {counted(size, 'character')} of {counted(len(one.sizes), 'site')}. "
@@ -65,9 +67,9 @@ def in_words(one: Fresh, names: Mapping[int, str]) -> str:
 
 
 def say_so(path: pathlib.Path, name: str, password: str | None) -> None:
-    """Has those who have the old note, whose file this is, hear from somebody of this name that it was renewed."""
-    with suppress(Unkept, Damaged, Trouble, Unreachable, Lost), closing(Disk(path)) as disk:
-        clients = sorted((one for one in disk.clients() if not one.retired), key=lambda one: not one.stood)
+    """Tells those who have the old note, whose file this is, that somebody of this name renewed it."""
+    with suppress(Unkept, Damaged, Trouble, Unreachable, LogLost), closing(Disk(path)) as disk:
+        clients = sorted((one for one in disk.own.clients() if not one.retired), key=lambda one: not one.stood)
         if not clients:
             return
         said = disk.form.renewed(name, clients[0].site, clients[0].author)
@@ -86,7 +88,7 @@ def renewed_by(judge: Judge, own: Set[tuple[int, bytes]]) -> Line | None:
     return None
 
 
-def telling(line: Line) -> str:
+def renewed_in_words(line: Line) -> str:
     """What a user is told of a note that was renewed."""
     if line["own"]:
         return "You have renewed this note: others go on in the new one."
@@ -97,7 +99,7 @@ def _called(site: int, name: str | None) -> str:
     return f"{name} (site {site})" if name else f"site {site}"
 
 
-def _stretches(text: bytes, names: Sequence[Names], runs: Iterable[Run]) -> Iterator[Stretch]:
+def _stretches(text: bytes, names: Sequence[Names], runs: Iterable[Run]) -> Iterator[Styled]:
     """A text in stretches that are each of one site and in one kind of looks."""
     coming, looks, at, end = iter(runs), b"", 0, 0
     for one in names:
@@ -105,19 +107,19 @@ def _stretches(text: bytes, names: Sequence[Names], runs: Iterable[Run]) -> Iter
         while at < last:
             if at == end:
                 run = next(coming)
-                looks, end = _spelled(run), end + run.length
+                looks, end = _spelled_looks(run), end + run.length
             size = min(last, end) - at
-            yield Stretch(one.site, looks, text[at:at + size])
+            yield Styled(one.site, looks, text[at:at + size])
             at += size
 
 
-def _spelled(run: Run) -> bytes:
+def _spelled_looks(run: Run) -> bytes:
     """Looks as a message has them."""
     font = run.font.encode("ascii")
     return bytes([len(font)]) + font + bytes([run.colour, run.offset & 0xFF])
 
 
-def _joined(stretches: Iterable[Stretch]) -> Iterator[Stretch]:
+def _merged_stretches(stretches: Iterable[Styled]) -> Iterator[Styled]:
     """Stretches, those in one that follow one another and differ in their text alone."""
     last, data = None, bytearray()
     for one in stretches:
@@ -130,7 +132,7 @@ def _joined(stretches: Iterable[Stretch]) -> Iterator[Stretch]:
         yield last._replace(data=bytes(data))
 
 
-def _typed(stretches: Iterable[Stretch]) -> Iterator[Operation]:
+def _typed_anew(stretches: Iterable[Styled]) -> Iterator[Operation]:
     """Messages that type stretches one after the other."""
     seqs, lengths, stamp = dict[int, int](), dict[int, int](), 0
     before: tuple[Names, ...] = ()

@@ -11,20 +11,21 @@ import struct
 from collections.abc import Mapping
 
 from share.admission.judge import Judge
-from share.admission.ledger import Line
+from share.admission.ledger import Branch
 from share.format.entry import digest
 from share.format.history import Messages, Part
+from share.log.folder import make_folder
 from share.program.site import PACKED_NAME, Site
 from share.store.atomic import PRIVATE
-from share.store.note_file import Disk, make_folder
+from share.store.note_file import Disk
 
-# It is written where so many messages came that it doesn't have, and a part of those that it has; and as the note is
-# closed where so many did.
-MANY, AT_END, SHARE = 20_000, 1_000, 4
+# It is written once this many messages came that it doesn't have, and a part of those that it has; as the note is closed
+# once the second number did.
+MANY_NEW, AT_END, SHARE = 20_000, 1_000, 4
 # What a program that was killed as it wrote leaves in the folder.
 LEFT = ".file-of-a-text-that-is-not-whole-yet-*"
 # Of a site, how many messages the file has, and the hash of the entry that has the last of them.
-FRONT = struct.Struct(">HI32s")
+PACKED_FRONT = struct.Struct(">HI32s")
 
 
 def folder_of(disk: Disk, site: int) -> pathlib.Path | None:
@@ -50,18 +51,18 @@ def leave(disk: Disk, site: int) -> None:
 
 def fronts_of(disk: Disk, judge: Judge, site: int, folder: pathlib.Path | None) -> dict[int, int]:
     """How far a site's packed file goes, where it can be gone on from; else nothing."""
-    noted = disk.packed(site)
+    noted = disk.own.packed(site)
     try:
         if not (folder and noted and digest((folder / PACKED_NAME).read_bytes()) == noted[0]):
             return {}
-        found = [*FRONT.iter_unpack(noted[1])]
+        found = [*PACKED_FRONT.iter_unpack(noted[1])]
     except (OSError, struct.error):
         return {}
     return {of: seq for of, seq, _ in found} if all(judge.entry_of(of, seq) == by for of, seq, by in found) else {}
 
 
 def keep(disk: Disk, judge: Judge, site: Site) -> None:
-    """Has a site's packed file be of all that it has taken in, as far as there is room."""
+    """Writes a site's packed file anew, with all that the site has taken in, as far as there is room."""
     folder = _folder(disk, site.number)
     with contextlib.suppress(OSError):
         for left in folder.glob(LEFT):
@@ -70,15 +71,15 @@ def keep(disk: Disk, judge: Judge, site: Site) -> None:
         found = [(of, seq, judge.entry_of(of, seq)) for of, seq in fronts.items()]
         if found and all(by for _, _, by in found):
             (folder / PACKED_NAME).chmod(PRIVATE)
-            disk.note_packed(site.number, digest((folder / PACKED_NAME).read_bytes()),
-                             b"".join(FRONT.pack(of, seq, by or b"") for of, seq, by in found))
+            disk.own.note_packed(site.number, digest((folder / PACKED_NAME).read_bytes()),
+                                 b"".join(PACKED_FRONT.pack(of, seq, by or b"") for of, seq, by in found))
 
 
 def parted(messages: Messages, fronts: Mapping[int, int]) -> tuple[Messages, Messages]:
     """Those of messages that count that a packed file has, and the others."""
     within, beyond = Messages(), Messages()
     for part in messages.parts():
-        assert isinstance(part.holder, Line)
+        assert isinstance(part.holder, Branch)
         middle = min(max(part.begin, fronts.get(part.holder.site, 0)), part.end)
         within.add(Part(part.holder, part.begin, middle))
         beyond.add(Part(part.holder, middle, part.end))

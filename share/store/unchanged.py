@@ -8,30 +8,27 @@ away from all that have it open in the same process.
 import contextlib
 import os
 import pathlib
-import sqlite3
 import struct
 import threading
-import urllib.parse
 import weakref
 import zlib
 from collections.abc import Iterator
 from typing import NamedTuple
 
-Inode = tuple[int, int]
-# What belongs to a file, where it is read and written by several at once: what was written last, and where that is found.
-LOG, INDEX = "-wal", "-shm"
-BESIDE = LOG, INDEX
-# The index has so many bytes as soon as it is in use, and is reached as memory: where it is cut off, who reads there is ended.
+from share.log.folder import Inode, inode_of
+from share.log.sqlite_file import INDEX, WRITTEN_AHEAD, beside
+
+# How long the index is as soon as it is in use. It is reached as memory: where it is cut off, who reads there is ended.
 INDEX_BYTES = 32_768
-# The log begins with so much: what it is, the size of a page, two salts and two sums. Each page comes after its number, what a
-# commit ends with, the salts and the sums so far.
-HEAD, FRAME = struct.Struct(">8I"), struct.Struct(">6I")
+# The log begins with what it is, the size of a page, two salts and two sums. Each page comes after its number, what a commit ends
+# with, the salts and the sums so far.
+LOG_HEAD, FRAME = struct.Struct(">8I"), struct.Struct(">6I")
 SUMMED_HEAD, SUMMED_FRAME, WORD = 24, 8, 0xFFFFFFFF
 # How it begins says in which order bytes are summed.
 ORDERS = {0x377F0682: "<", 0x377F0683: ">"}
 
 
-class State(NamedTuple):
+class FileState(NamedTuple):
     """How a file was left: its bytes, when it was written last, and when the log beside it was."""
 
     size: int
@@ -40,35 +37,21 @@ class State(NamedTuple):
 
 
 # No file is so.
-UNKNOWN = State(-1, 0, 0)
-
-
-def inode_of(path: pathlib.Path | str | int) -> Inode | None:
-    """What tells a file from one that took its name."""
-    try:
-        found = os.stat(path)
-    except OSError:
-        return None
-    return found.st_dev, found.st_ino
-
-
-def beside(path: pathlib.Path, end: str) -> pathlib.Path:
-    """What belongs to a file."""
-    return path.with_name(path.name + end)
+UNKNOWN = FileState(-1, 0, 0)
 
 
 class Ahead:
     """How far the log beside a file was seen to be committed, and the sum of that. There are no locks on the log."""
 
     def __init__(self, path: pathlib.Path):
-        self._file = os.open(beside(path, LOG), os.O_RDONLY | os.O_CLOEXEC)
+        self._file = os.open(beside(path, WRITTEN_AHEAD), os.O_RDONLY | os.O_CLOEXEC)
         weakref.finalize(self, os.close, self._file)
         self._head, self._end, self._sum = b"", 0, 0
         self.note()
 
     def note(self) -> None:
         """Takes over what was committed since; all of it where the log begins anew."""
-        head = self._read(0, HEAD.size)
+        head = self._read(0, LOG_HEAD.size)
         if head != self._head:
             self._head, self._end, self._sum = head, len(head), zlib.crc32(head)
         end, total = self._end, self._sum
@@ -84,11 +67,11 @@ class Ahead:
     def is_right(self) -> bool:
         """Whether SQLite's own sums say that what was seen, or what begins anew, is what was written. Another process may have
         been about to write as it was seen. This takes long."""
-        before, self._head = self._head, self._read(0, HEAD.size)
-        if len(self._head) < HEAD.size or not (order := ORDERS.get(HEAD.unpack(self._head)[0])):
+        before, self._head = self._head, self._read(0, LOG_HEAD.size)
+        if len(self._head) < LOG_HEAD.size or not (order := ORDERS.get(LOG_HEAD.unpack(self._head)[0])):
             return before == self._head
-        sums, end = _summed(self._head[:SUMMED_HEAD], (0, 0), order), HEAD.size
-        if sums != HEAD.unpack(self._head)[6:]:
+        sums, end = _summed(self._head[:SUMMED_HEAD], (0, 0), order), LOG_HEAD.size
+        if sums != LOG_HEAD.unpack(self._head)[6:]:
             return False
         for frame, _ in self._frames(end):
             sums = _summed(frame[:SUMMED_FRAME] + frame[FRAME.size:], sums, order)
@@ -102,9 +85,9 @@ class Ahead:
 
     def _frames(self, begin: int) -> Iterator[tuple[bytes, int]]:
         """The pages that follow from a place on, each with what is before it, and whether it ends a commit."""
-        if len(self._head) < HEAD.size:
+        if len(self._head) < LOG_HEAD.size:
             return
-        _, _, page, _, *salts = HEAD.unpack(self._head)[:6]
+        _, _, page, _, *salts = LOG_HEAD.unpack(self._head)[:6]
         while len(frame := self._read(begin, FRAME.size + page)) == FRAME.size + page:
             _, commits, *found = FRAME.unpack_from(frame)
             if found[:2] != salts:
@@ -122,11 +105,11 @@ def _summed(data: bytes, sums: tuple[int, ...], order: str) -> tuple[int, ...]:
     return one, other
 
 
-class Left:
+class FileWatch:
     """How a file was left by those who have it open in this process."""
 
     def __init__(self, path: pathlib.Path):
-        self._path, self._log = str(path), str(beside(path, LOG))
+        self._path, self._log = str(path), str(beside(path, WRITTEN_AHEAD))
         self._inodes = {one: (found.st_dev, found.st_ino) for one in (self._path, self._log, str(beside(path, INDEX)))
                         if (found := os.stat(one))}
         # The least that each may have.
@@ -153,7 +136,7 @@ class Left:
 
     @contextlib.contextmanager
     def written(self) -> Iterator[None]:
-        """Has what is written meanwhile be known. Only one thread writes at a time."""
+        """Takes note of what is written meanwhile. Only one thread writes at a time."""
         with self._writing:
             is_known = self._state == self._now()
             try:
@@ -163,7 +146,7 @@ class Left:
                     self._ahead.note()
                     self._state = self._now()
 
-    def unknown(self) -> State | None:
+    def unknown(self) -> FileState | None:
         """How the file is, where another process has written to it, or to more than the end of the log."""
         if self._state == self._now() != UNKNOWN:
             return None
@@ -182,23 +165,23 @@ class Left:
                 return None
         return f"{os.path.basename(self._log)} was written to"
 
-    def knows(self, state: State) -> None:
+    def knows(self, state: FileState) -> None:
         """Says that a file that is so is right."""
         self._state = state
 
     def doubts(self) -> None:
-        """Has the file be unknown."""
+        """Forgets how the file was left."""
         self._state = UNKNOWN
 
-    def _now(self) -> State:
+    def _now(self) -> FileState:
         try:
             found, log = os.stat(self._path), os.stat(self._log)
         except OSError:
             return UNKNOWN
-        return State(found.st_size, found.st_mtime_ns, log.st_mtime_ns)
+        return FileState(found.st_size, found.st_mtime_ns, log.st_mtime_ns)
 
 
-_known: "weakref.WeakValueDictionary[Inode, Left]" = weakref.WeakValueDictionary()
+_known: "weakref.WeakValueDictionary[Inode, FileWatch]" = weakref.WeakValueDictionary()
 _knowing = threading.Lock()
 
 
@@ -218,20 +201,12 @@ def doubt(path: pathlib.Path) -> None:
         found.doubts()
 
 
-def left(path: pathlib.Path) -> Left | None:
+def left(path: pathlib.Path) -> FileWatch | None:
     """How the file of this name was left, which has just been opened and read; None where nothing is beside it, so that one
     process alone can have it open."""
     inode = inode_of(path) or (0, 0)
     with _knowing, contextlib.suppress(OSError):
         if not (found := _known.get(inode)):
-            found = _known[inode] = Left(path)
+            found = _known[inode] = FileWatch(path)
         return found
     return None
-
-
-def application_of(path: pathlib.Path) -> int:
-    """Which program's file the first bytes say that it is, without what was written last."""
-    # SQLite itself opens it, which doesn't close what others in this process have open.
-    with contextlib.closing(sqlite3.connect(f"file:{urllib.parse.quote(str(path))}?mode=ro&immutable=1", uri=True)) as file:
-        found: int = file.execute("PRAGMA application_id").fetchone()[0]
-    return found

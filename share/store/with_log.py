@@ -6,13 +6,14 @@ from contextlib import ExitStack, closing, contextmanager
 from share.admission.ledger import Row
 from share.format.entry import Bad, digest
 from share.format.link import is_network
-from share.log.base import START, Carried, Log, Lost, Unreachable, open_log
+from share.log.base import START, InLog, Log, LogLost, Unreachable
+from share.log.opening import open_log
 from share.store.old import copied
 from share.store.read_only import Faults, Judged
 from share.text.errors import Trouble, entries
 
 # How often a log is read that loses entries meanwhile.
-TRIES = 3
+READ_TRIES = 3
 
 
 def with_log(found: Judged, url: str, password: str | None) -> Judged:
@@ -38,9 +39,9 @@ def with_log(found: Judged, url: str, password: str | None) -> Judged:
     return found._replace(faults=[*found.faults, *unread, *wrong.words(), *told])
 
 
-def _pages(url: str, note: bytes, password: str | None) -> Iterator[list[Carried]]:
+def _pages(url: str, note: bytes, password: str | None) -> Iterator[list[InLog]]:
     """All that a log has, page by page; from the front again where it loses entries meanwhile."""
-    for _ in range(TRIES):
+    for _ in range(READ_TRIES):
         try:
             with _opened(url, note, password) as log:
                 after = START
@@ -48,7 +49,7 @@ def _pages(url: str, note: bytes, password: str | None) -> Iterator[list[Carried
                     yield page
                     after = page[-1].place
             return
-        except Lost:
+        except LogLost:
             continue
     raise Unreachable(f"{url} is damaged, or loses entries as it is read")
 

@@ -4,7 +4,7 @@ import random
 import time
 from collections.abc import Sequence
 
-from share.store.note_file import Client
+from share.store.own import Client
 from share.text.errors import counted
 
 # Who wrote under a key that is here, too, has so many seconds to make anew what was lost, and up to twice as many; so has who made

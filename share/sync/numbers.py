@@ -9,7 +9,9 @@ from typing import Protocol, TypeVar
 from share.admission.ledger import Row
 from share.format.entry import GREATEST_SITE, Form
 from share.format.operation import MOST_OF_A_SITE
-from share.store.note_file import Client, Disk, Unkept
+from share.store.guarded import Unkept
+from share.store.note_file import Disk
+from share.store.own import Client
 from share.sync.replicator import Courier
 from share.sync.standing import Who
 from share.sync.state import Holdings, Lost, who
@@ -112,7 +114,7 @@ class Numbers:
             stood = one._replace(stood=True)
             with suppress(Unkept):
                 # Where there is no room now the next opening finds it in the log again.
-                self._file.mended(lambda: self._file.disk.stands(stood))
+                self._file.mended(lambda: self._file.disk.own.stands(stood))
             holdings.clients[who(one)] = stood
         # Another editor of this person may have noted in the file that this one's claim is in the log.
         if (own := holdings.clients.get(who(self.own))) and own.stood:
@@ -162,7 +164,7 @@ class Numbers:
         made = holdings.made_by(clients)
         in_log = [of for of in made if of in followed or has(of)]
         unsent = set(made).difference(in_log)
-        gone = self._file.mended(lambda: self._file.disk.withdraw(unsent, in_log))
+        gone = self._file.mended(lambda: self._file.disk.entries.withdraw(unsent, in_log))
         holdings.withdraw(gone)
         return bool(gone)
 

@@ -17,7 +17,7 @@ from share.format.operation import CHANGE_LOOKS, DELETE, RESTORE, Message, inser
 from share.program.effects import Stretch
 from share.program.site import Edited, Site
 from share.program.undo import looks_of
-from share.store.note_file import Anew
+from share.store.own import Anew
 from share.sync.standing import said
 from share.sync.state import Holdings, Lost, who
 from share.text.errors import Trouble

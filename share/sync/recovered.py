@@ -8,7 +8,7 @@ from collections.abc import Callable, Iterable, Iterator
 from typing import NamedTuple
 
 from share.admission.judge import Judge
-from share.format.entry import Copy, Entry, Kind
+from share.format.entry import NO_HASH, Copy, Entry, Kind
 from share.format.operation import typed
 
 Who = tuple[int, bytes]
@@ -18,16 +18,27 @@ MOST_SAID = MOST_OF_OTHERS = 1_000
 
 
 class _Said(NamedTuple):
-    """Messages of an author from a seq on, how many they are, and the first of those that were typed for them."""
+    """Messages of an author from a seq on, how many they are, the first of those that were typed for them, and the last entry of
+    their history; none where that isn't said."""
 
     seq: int
     size: int
     by: Copy
     own: bool
+    last: bytes
 
     def copy(self, seq: int) -> Copy | None:
         """What was typed for the message of a seq."""
         return self.by._replace(seq=self.by.seq + seq - self.seq) if self.seq <= seq < self.seq + self.size else None
+
+
+class _Typed(NamedTuple):
+    """A message that was typed for one of an author, by the seq and the last entry of its history, where that is said."""
+
+    whose: Who
+    seq: int
+    copy: Copy
+    last: bytes
 
 
 class Recovered:
@@ -38,7 +49,7 @@ class Recovered:
         self._said: dict[Who, list[_Said]] = {}
         self._own: set[Who] = set()
         # What others typed of it, message by message; and what may be made to hide copies of others, by whoever says so.
-        self._others: list[tuple[Who, int, Copy]] = []
+        self._others: list[_Typed] = []
         self.hidings: set[Copy] = set()
 
     def add(self, entry: Entry, own: bool) -> None:
@@ -50,12 +61,13 @@ class Recovered:
         if (entry.site, entry.author) == (copied.by_site, copied.by) != whose:
             said = self._said.setdefault(whose, [])
             if own or len(said) < MOST_SAID:
-                said.extend(_Said(seq, size, Copy(copied.by, copied.by_site, by), own) for seq, by, size in copied.stretches if by)
+                said.extend(_Said(seq, size, Copy(copied.by, copied.by_site, by), own, entry.before)
+                            for seq, by, size in copied.stretches if by)
             if own:
                 self._own.add(whose)
             for seq, by, size in copied.stretches if not own else ():
                 size = min(size if by else 0, MOST_OF_OTHERS - len(self._others))
-                self._others += [(whose, seq + at, Copy(copied.by, copied.by_site, by + at)) for at in range(size)]
+                self._others += [_Typed(whose, seq + at, Copy(copied.by, copied.by_site, by + at), entry.before) for at in range(size)]
             if len(self.hidings) < MOST_OF_OTHERS and len(copied.stretches) == 1 == copied.stretches[0][2]:
                 self.hidings.add(Copy(copied.by, copied.by_site, copied.stretches[0][1]))
 
@@ -65,32 +77,39 @@ class Recovered:
         own = [number for whose in sorted(self._own) for one in self._said[whose] for number in (
             min(counts_up_to(whose[1], whose[0]), one.seq + one.size - 1),
             min(counts_up_to(one.by.author, one.by.site), one.by.seq + one.size - 1))]
-        return own + [min(counts_up_to(author, site), seq) for (of_site, of_author), of_seq, copy in self._others
+        return own + [min(counts_up_to(author, site), seq) for (of_site, of_author), of_seq, copy, _ in self._others
                       for author, site, seq in ((of_author, of_site, of_seq), copy)]
 
     def made_here(self, judge: Judge) -> Iterator[tuple[Copy, bool]]:
         """What was typed again here and counts, and whether each message of it is to be hidden."""
-        return self._to_be_seen(judge, ((whose, seq, copy) for whose in sorted(self._own) for one in self._said[whose] if one.own
-                                        for seq in range(one.seq, one.seq + one.size) if (copy := one.copy(seq))))
+        return self._to_be_seen(judge, (_Typed(whose, seq, copy, one.last) for whose in sorted(self._own) for one in self._said[whose]
+                                        if one.own for seq in range(one.seq, one.seq + one.size) if (copy := one.copy(seq))))
 
     def made_by_others(self, judge: Judge) -> Iterator[tuple[Copy, bool]]:
         """What others typed again and counts, as far as it is looked at, and whether each message of it is to be hidden."""
         return self._to_be_seen(judge, self._others)
 
-    def _to_be_seen(self, judge: Judge, typed_again: Iterable[tuple[Who, int, Copy]]) -> Iterator[tuple[Copy, bool]]:
+    def _to_be_seen(self, judge: Judge, typed_again: Iterable[_Typed]) -> Iterator[tuple[Copy, bool]]:
         """A copy may stand for several messages, that were copies themselves: it gives way where it does so for one of them."""
         found: dict[Copy, bool] = {}
-        for whose, seq, copy in typed_again:
-            if not found.get(copy) and judge.message_counts(*copy):
-                found[copy] = self._gives_way(judge, whose, seq, copy)
+        for one in typed_again:
+            if not found.get(one.copy) and judge.message_counts(*one.copy):
+                found[one.copy] = self._gives_way(judge, one)
         yield from found.items()
 
-    def _gives_way(self, judge: Judge, whose: Who, seq: int, copy: Copy) -> bool:
+    def _gives_way(self, judge: Judge, one: _Typed) -> bool:
         """Whether something else stays that stands for a message."""
-        site, author = whose
-        data = typed(judge.message(copy.site, copy.seq))
-        if judge.is_made_anew(author, site, seq, data):
+        (site, author), seq, copy, last = one
+        data, of = typed(judge.message(copy.site, copy.seq)), judge.message_in(last, seq) if last != NO_HASH else None
+        if judge.is_made_anew(author, site, seq, lambda message: message == of if of else typed(message) == data):
             return True
-        others = [Copy(author, site, seq)]
-        others += [other for one in self._said[whose] if (other := one.copy(seq)) and (other.site, other.seq) < (copy.site, copy.seq)]
-        return any(judge.message_counts(*other) and typed(judge.message(other.site, other.seq)) == data for other in others)
+        if judge.is_let_through(of) if of else _has(judge, Copy(author, site, seq), data):
+            return True
+        others = (other.copy(seq) for other in self._said[one.whose] if not of or other.last == NO_HASH
+                  or judge.message_in(other.last, seq) == of)
+        return any(other and (other.site, other.seq) < (copy.site, copy.seq) and _has(judge, other, data) for other in others)
+
+
+def _has(judge: Judge, of: Copy, data: bytes) -> bool:
+    """Whether a message counts and inserts this."""
+    return judge.message_counts(*of) and typed(judge.message(of.site, of.seq)) == data

@@ -13,9 +13,10 @@ from share.format import heartbeat, presence
 from share.format.entry import NOT_UNDER_A_NUMBER, SAY_WHAT_BECAME, Bad, Entry, Form, Kind, before_of, digest
 from share.format.heartbeat import MOST_LACKS, OF_BEFORE, Lack, Said, Way, new_token
 from share.format.presence import RANDOM_BYTES
-from share.log.base import ON_SECONDS, START, Log, Lost, Unreachable
-from share.log.base import Carried as InLog
-from share.store.note_file import Damaged, Disk, Place, Unkept
+from share.log.base import ON_SECONDS, START, InLog, Log, LogLost, Unreachable
+from share.store.entries import Located
+from share.store.guarded import Damaged, Unkept
+from share.store.note_file import Disk
 from share.sync.carried import Carried
 from share.sync.heard import Others, Shows
 from share.text.errors import Trouble, entries
@@ -167,7 +168,7 @@ class Courier:
     def _is(self, of: bytes, known: Callable[[Carried, int], bool]) -> bool:
         try:
             disk, carried = self._own_disk(), self._carried
-            place = disk.places_of([of]).get(of)
+            place = disk.entries.places_of([of]).get(of)
         except (Unkept, Damaged):
             # The file is mended first.
             return False
@@ -212,7 +213,7 @@ class Courier:
             why = ""
             try:
                 part()
-            except Lost as lost:
+            except LogLost as lost:
                 self._tell(str(lost))
                 self._anew = True
             except (Unreachable, Unkept, Damaged, Trouble) as known:
@@ -271,13 +272,13 @@ class Courier:
     def _claim(self, disk: Disk, log: Log, carried: Carried) -> None:
         """Gives the log the claims of this person before it was read, where the log can say which numbers are claimed: who
         is new can type then as soon as all was read that the log had. Other claims come after it was read."""
-        new = {self._form.claim(one.site, one.author).hash: one.site for one in disk.clients()
+        new = {self._form.claim(one.site, one.author).hash: one.site for one in disk.own.clients()
                if not (one.stood or one.retired)}
-        places = disk.places_of(new)
+        places = disk.entries.places_of(new)
         if carried.whole or not places or (taken := log.claimed()) is None:
             return
         if free := [place for of, place in places.items() if new[of] not in taken]:
-            log.append(disk.offer(free))
+            log.append(disk.entries.offer(free))
             carried.gave(free)
 
     def _carried_of(self, disk: Disk) -> Carried:
@@ -299,22 +300,22 @@ class Courier:
             self._look_on(disk, carried)
 
     def _look_on(self, disk: Disk, carried: Carried) -> None:
-        while self._has_log and (found := disk.places(carried.looked, LOOKED_AT)):
+        while self._has_log and (found := disk.entries.places(carried.looked, LOOKED_AT)):
             carried.found(found[-1].place, [one.place for one in found if one.made and one.kind in MESSAGES])
-            own = {one.author.name for one in disk.clients()}
+            own = {one.author.name for one in disk.own.clients()}
             self._shared |= {one.author for one in found
                              if not one.made and one.kind not in NOT_UNDER_A_NUMBER and one.author in own}
-        if gone := disk.taken_back(carried.withdrawn):
+        if gone := disk.entries.taken_back(carried.withdrawn):
             carried.took_back(gone[-1][0], [place for _, place in gone])
 
     def _give(self, disk: Disk, log: Log, carried: Carried) -> bool:
         """Gives the log some of what it lacks; whether there may be more."""
         if (place := carried.next_lacking()) is None:
             return False
-        found = disk.places(place - 1, BATCH)
+        found = disk.entries.places(place - 1, BATCH)
         had = {one.place for one in found if carried.has(one.place)}
         lacks = {one.hash: one.place for one in found if one.place not in had and self._may_give(one)}
-        raws = disk.offer([*lacks.values()])
+        raws = disk.entries.offer([*lacks.values()])
         given = {lacks[of] for of in map(digest, raws) if of in lacks}
         if raws:
             log.append(raws)
@@ -325,7 +326,7 @@ class Courier:
         carried.holds_back({*range(place, last + 1)} - had - given)
         return True
 
-    def _may_give(self, one: Place) -> bool:
+    def _may_give(self, one: Located) -> bool:
         """Whether an entry is to be given. Where somebody else writes under a number of this person, nothing more is
         sent under it, but what may have been sent, and that it was made anew."""
         return not one.made or one.offered or one.kind in SAY_WHAT_BECAME or one.author not in self._shared
@@ -359,15 +360,15 @@ class Courier:
         """Gives the log again what others lack, of what it seemed to have."""
         wanted = [one.hash for one in self._wanted if one.way is Way.IT]
         after = [one.hash for one in self._wanted if one.way is Way.AFTER]
-        places = {*disk.places_of(wanted).values()}
+        places = {*disk.entries.places_of(wanted).values()}
         if (after or self._is_asked) and time.monotonic() >= self._answers_again:
             self._answers_again = time.monotonic() + ANSWER_SECONDS
-            places |= {*disk.places_after(after, BATCH)}
+            places |= {*disk.entries.places_after(after, BATCH)}
             # A version of before can't say what it lacks.
             self._anew, self._is_asked, after = self._anew or self._is_asked, False, []
         self._wanted = dict.fromkeys(Lack(Way.AFTER, of) for of in after)
         if had := [place for place in sorted(places) if carried.has(place)]:
-            log.append(disk.offer(had))
+            log.append(disk.entries.offer(had))
 
     def _show(self) -> None:
         """Tells others what the editors here show, and hears what theirs do."""
@@ -436,7 +437,7 @@ class Courier:
     def _end_reading(self, disk: Disk, carried: Carried) -> None:
         """All that the log had as its reading began was read. The sender gives it all that it lacks."""
         self._goal = None
-        if missing := disk.many_at(carried.end()):
+        if missing := disk.entries.many_at(carried.end()):
             self._tell_of_loss(missing)
         if self._readings:
             now = time.monotonic()
@@ -476,7 +477,7 @@ class Courier:
     def _take(self, disk: Disk, carried: Carried, page: list[InLog]) -> None:
         """Puts what came into the file, where it is right, and notes that the log has it."""
         raws = {digest(one.raw): one.raw for one in page if one.raw is not None}
-        held = disk.in_log(raws)
+        held = disk.entries.in_log(raws)
         new = {of: raw for of, raw in raws.items() if of not in held and of not in self._left_out}
         opened: list[Entry] = []
         damaged: list[bytes] = []
@@ -493,10 +494,10 @@ class Courier:
         with self._finding:
             if opened:
                 disk.keep(opened, made=False)
-            came = disk.places_of(entry.hash for entry in opened)
+            came = disk.entries.places_of(entry.hash for entry in opened)
             carried.read([*held.values(), *came.values()])
         # What stands there may be asked for by what is before it, where that came.
-        self._damaged |= dict.fromkeys([*disk.places_of(damaged)][:MOST_DAMAGED - len(self._damaged)], ASKS_FOR_DAMAGED)
+        self._damaged |= dict.fromkeys([*disk.entries.places_of(damaged)][:MOST_DAMAGED - len(self._damaged)], ASKS_FOR_DAMAGED)
         if opened:
             self._wake()
 

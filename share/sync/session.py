@@ -15,7 +15,8 @@ from share.format.entry import Copy, Entry, Kind
 from share.format.history import Messages, Part
 from share.format.link import is_network
 from share.format.operation import Message
-from share.log.base import open_log
+from share.log.folder import inode_of
+from share.log.opening import open_log
 from share.program import retyping
 from share.program.alike import One
 from share.program.difference import Shown, differences, shown_by
@@ -23,10 +24,11 @@ from share.program.intake import Coming, Pace
 from share.program.retyping import Lost
 from share.program.site import SLICE, Edited, Progress, Site, Told, is_nearly_full
 from share.store import snapshot
-from share.store.note_file import Anew, Changed, Client, Damaged, Disk, Overtaken, Unkept, make
+from share.store.guarded import Changed, Damaged, Unkept
+from share.store.note_file import Disk, make_note
+from share.store.own import Anew, Client, Overtaken
 from share.store.read_only import found_in, uncollected
 from share.store.renewal import renewed_by
-from share.store.unchanged import inode_of
 from share.sync.backoff import Turns, seconds_for_others, told_of_edits, told_of_numbers
 from share.sync.hiding import said, wanted
 from share.sync.numbers import FULL, READING, Numbers
@@ -274,7 +276,7 @@ class Session:
         self._comes(found.messages)
         told = self._take_in()
         if not self._coming:
-            self._pack(max(snapshot.MANY, self._packed // snapshot.SHARE))
+            self._pack(max(snapshot.MANY_NEW, self._packed // snapshot.SHARE))
         hidden = [] if self.has_more() else self._hide_copies()
         return told + hidden if isinstance(told, list) and isinstance(hidden, list) else self.site.text()
 
@@ -460,7 +462,7 @@ class Session:
             new = self._holdings.read(self._disk, self._most)
             if time.monotonic() - self._looked > LOOK_SECONDS:
                 self._looked = time.monotonic()
-                if self._disk.size() < len(self._holdings.rows) + self._holdings.waiting_for_room():
+                if self._disk.entries.size() < len(self._holdings.rows) + self._holdings.waiting_for_room():
                     raise Damaged(f"{self._disk.path} lacks entries that it had")
             return new
 
@@ -473,10 +475,10 @@ class Session:
         if not self._told_newer and any(row.entry.kind is Kind.NEWER for row in new):
             self._told_newer = True
             self._notices.append(NEWER)
-        if self._disk.damaged:
-            self._notices.append(f"The disk has damaged {entries(self._disk.damaged)} of the note's file. They are "
+        if self._disk.entries.damaged:
+            self._notices.append(f"The disk has damaged {entries(self._disk.entries.damaged)} of the note's file. They are "
                                  "taken from whoever has them.")
-            self._disk.damaged, self._lacks = 0, True
+            self._disk.entries.damaged, self._lacks = 0, True
         return new
 
     def _mended(self, call: Callable[[], Result]) -> Result:
@@ -504,8 +506,8 @@ class Session:
                 disk.close()
                 raise
         except Damaged:
-            aside = make(path, self._about, self._rows_and(path), holdings.clients.values(),
-                         [Anew(*one, 0, 0) for one in holdings.anew], holdings.withdrawn(), offered=True, damaged=inode)
+            aside = make_note(path, self._about, self._rows_and(path), holdings.clients.values(),
+                              [Anew(*one, 0, 0) for one in holdings.anew], holdings.withdrawn(), offered=True, damaged=inode)
             disk = Disk(path)
             self._notices.append(f"The note's file was gone or damaged ({why}) and was written anew."
                                  + (f" What was there is {aside}." if aside else ""))
@@ -557,7 +559,7 @@ class Session:
 
     def _is_own_part(self, part: Part) -> bool:
         """Whether messages are of this editor's number."""
-        return isinstance(part.holder, ledger.Line) and part.holder.site == self.number
+        return isinstance(part.holder, ledger.Branch) and part.holder.site == self.number
 
     def _take_in(self) -> Told:
         """Takes in what came, as far as there is time; all of it where some is of this number, since what is typed follows that."""

@@ -11,7 +11,7 @@ from typing import NamedTuple
 
 from share.admission.ledger import Row
 from share.format.entry import NO_HASH, Copied, Copy, Entry, Form, Kind
-from share.store.note_file import Client
+from share.store.own import Client
 
 # A site and an author, who together are one client.
 Who = tuple[int, bytes]

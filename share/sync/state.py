@@ -9,7 +9,8 @@ from share.admission.ledger import Row
 from share.admission.left_out import LeftOut
 from share.format.entry import NOT_UNDER_A_NUMBER, Copy, Entry, Form, Kind
 from share.format.operation import Message
-from share.store.note_file import Anew, Client, Disk
+from share.store.note_file import Disk
+from share.store.own import Anew, Client
 from share.sync.backlog import Backlog
 from share.sync.recovered import Recovered
 from share.sync.standing import MOST_OF_OTHERS, Standing, Who
@@ -89,17 +90,17 @@ class Holdings:
         """Reads what the file has more, all or until it has this many bytes; the rows that weren't known."""
         if not self.rows:
             self.reread_anew(disk)
-        rows, gone = disk.rows(self._place, most), disk.withdrawn(self._number)
+        rows, gone = disk.entries.rows(self._place, most), disk.entries.withdrawn(self._number)
         has_more = sum(len(row.entry.raw) for row in rows) >= most
         if rows:
             self._place = rows[-1].place
         again, self._again = self._again[:AGAIN], self._again[AGAIN:]
-        rows += disk.rows_at(dict.fromkeys(again))
+        rows += disk.entries.rows_at(dict.fromkeys(again))
         # What was withdrawn comes once more where a log had it after all.
         new = [row for row in rows if row.entry.hash not in self.judge]
         if new and any(row.made for row in new):
             # Another editor of this person may have claimed a number.
-            self.clients |= {who(one): one for one in disk.clients()}
+            self.clients |= {who(one): one for one in disk.own.clients()}
         for row in new:
             self._add(row)
         if gone:
@@ -224,8 +225,8 @@ class Holdings:
 
     def reread_anew(self, disk: Disk) -> None:
         """Looks which numbers were given up, and which edits made anew, by other editors of this person."""
-        self.clients = {who(one): one for one in disk.clients()}
-        self.anew, self.hidings = disk.anew(), disk.hidings()
+        self.clients = {who(one): one for one in disk.own.clients()}
+        self.anew, self.hidings = disk.own.anew(), disk.own.hidings()
 
     def withdrawn(self) -> frozenset[bytes]:
         """The hashes of the entries that were withdrawn."""

@@ -57,7 +57,7 @@ def main() -> None:
         print(f"typed in one go: {SIZE:,} bytes in {time.perf_counter() - begin:.1f} s")
         second = Editor(folder / "ada")
         with Person(folder / "ada").here():
-            link = notes.link_of("note")
+            link = notes.link_to("note")
         third = Editor(folder / "bo", link=link)
         third.wait_for(lambda: third.text == first.text, "the note")
         measure("one engine", first, second)

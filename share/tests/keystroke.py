@@ -57,7 +57,7 @@ def measure(terminal: int, what: str, key: bytes, count: int = KEYS) -> None:
 
 def opened() -> Note:
     """The note."""
-    return Note(Session(notes.opened("large", None, None)))
+    return Note(Session(notes.open_note("large", None, None)))
 
 
 def type_beside(begun: multiprocessing.synchronize.Event) -> None:

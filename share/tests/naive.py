@@ -216,7 +216,7 @@ class Answer:
             if one.kind is not Kind.COPIES or (one.copied.author, one.copied.site) != (entry.author, entry.site):
                 continue
             is_authors = (one.author, one.site) == (entry.author, entry.site)
-            if is_authors and one.before != NO_HASH and entry.hash not in chained_to(one.before, known):
+            if one.before != NO_HASH and entry.hash not in chained_to(one.before, known):
                 continue
             for seq, by, count in one.copied.stretches:
                 found = self._counting(one.copied.by, one.copied.by_site, by + message.seq - seq)

@@ -12,17 +12,19 @@ import tempfile
 import unittest
 from collections.abc import Callable, Iterable, Iterator
 
-from share.admission.judge import Judge, rank
+from share.admission.chains import rank
+from share.admission.judge import Judge
 from share.format import link as links
 from share.format.chunk import packed_in_parts
 from share.format.entry import Entry, Form, Kind, Plain
 from share.format.operation import Operation
-from share.log.base import START, Log, open_log
+from share.log.base import START, Log
+from share.log.opening import open_log
 from share.program.process import Program
 from share.program.site import Edited, Site, Told
 from share.store import notes
 from share.store.note_file import Disk
-from share.store.read_only import found_in, shown
+from share.store.read_only import found_in, text_of
 from share.sync.session import Session, Status
 from share.tests.naive import taking
 from share.tests.note import Note
@@ -53,12 +55,12 @@ class Person:
     def open(self, name: str = "note", url: str | None = None, link: str | None = None) -> Note:
         """A note, as an editor has it open."""
         with self.here():
-            return Note(Session(notes.opened(name, url, links.read_link(link) if link else None)))
+            return Note(Session(notes.open_note(name, url, links.read_link(link) if link else None)))
 
     def link(self, name: str = "note") -> str:
         """A note's link."""
         with self.here():
-            return notes.link_of(name)
+            return notes.link_to(name)
 
     def path(self, name: str = "note") -> pathlib.Path:
         """A note's file."""
@@ -67,7 +69,7 @@ class Person:
 
     def text(self, name: str = "note") -> bytes:
         """What the file alone shows."""
-        return shown(found_in(self.path(name))).text
+        return text_of(found_in(self.path(name))).text
 
     def disk(self, name: str = "note") -> Disk:
         """The file of a note, which the caller closes."""
@@ -296,7 +298,7 @@ def take(person: Person, site: int) -> None:
     """Has somebody with the link claim a number that another one has, so that the claim holds."""
     with contextlib.closing(person.disk()) as disk:
         form = disk.form
-        own = next(row.entry for row in disk.rows() if row.entry.kind is Kind.CLAIM and row.entry.site == site)
+        own = next(row.entry for row in disk.entries.rows() if row.entry.kind is Kind.CLAIM and row.entry.site == site)
     other = own
     while not rank(other) < rank(own):
         other = form.claim(site, form.new_author())

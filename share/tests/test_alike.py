@@ -4,7 +4,8 @@ import shutil
 import unittest
 from collections.abc import Sequence
 
-from share.admission.judge import Judge, rank
+from share.admission.chains import rank
+from share.admission.judge import Judge
 from share.format.entry import Author, Copied, Entry, Form, Plain
 from share.format.operation import Operation, typed
 from share.program import retyping
@@ -44,11 +45,29 @@ class Typed(Three):
         self.assertIn("Typed again: 5 characters", self.run_as(self.carol, "recover", "--lost", "note"))
         self.assertEqual(shown(self.carol), (text, []))
 
+    def test_letters_that_two_histories_have_at_one_place_are_not_one(self) -> None:
+        self.begun()
+        with contextlib.closing(self.carol.disk()) as disk:
+            form = disk.form
+        author = form.new_author()
+        claim = form.claim(65_001, author)
+        forks = [entry_of(form, claim, [inserting(65_001, 1, stamp, None, 0, b"Q")], author) for stamp in (1, 2, 3)]
+        with contextlib.closing(self.carol.log()) as log:
+            log.append([one.raw for one in [claim, *forks[:2]]])
+        self.carol.open().session.close()
+        self.run_as(self.carol, "recover", "--lost", "note")
+        self.assertEqual(shown(self.carol), ("QQDear all of you, we meet at ten. Bob. ", []))
+        with contextlib.closing(self.carol.log()) as log:
+            log.append([forks[2].raw])
+        self.carol.open().session.close()
+        self.run_as(self.carol, "recover", "--lost", "note")
+        self.assertEqual(shown(self.carol), ("QQQDear all of you, we meet at ten. Bob. ", []))
+
     def numbers_that_typed(self, person: Person) -> list[int]:
         """Those of somebody's numbers under which something was typed."""
         with contextlib.closing(person.disk()) as disk:
-            own = {one.site for one in disk.clients()}
-            return sorted({row.entry.site for row in disk.rows() if row.made and row.entry.size and row.entry.site in own})
+            own = {one.site for one in disk.own.clients()}
+            return sorted({row.entry.site for row in disk.entries.rows() if row.made and row.entry.size and row.entry.site in own})
 
 
 class Twice:

@@ -32,7 +32,7 @@ import json, resource
 from share.store import notes
 from share.sync.session import Session
 from share.tests.note import Note
-note = Note(Session(notes.opened("note", None, None)))
+note = Note(Session(notes.open_note("note", None, None)))
 resource.setrlimit(resource.RLIMIT_FSIZE, (200_000, 300_000))
 while not note.notice:
     before = len(note.text)
@@ -222,7 +222,7 @@ class BadInput(Case):
                 run = self.note("cat", "note")
                 self.assertEqual((run.returncode, run.stdout), (3, "one two three "))
                 self.assertIn("The log can't be read", run.stderr)
-        with mock.patch("share.log.bounded.MOST_TIMES", 1):
+        with mock.patch("share.log.sqlite_file.MOST_TICKS", 1):
             found = read_only.found_in(self.ann.path())
         self.assertRegex(found.faults[0], "damaged .interrupted.")
 
@@ -250,7 +250,7 @@ class BadInput(Case):
 
     def test_a_file_that_a_later_version_wrote(self) -> None:
         with contextlib.closing(self.ann.disk()) as disk:
-            [client], last = disk.clients(), disk.rows()[-1].entry
+            [client], last = disk.own.clients(), disk.entries.rows()[-1].entry
             later = [newer(disk.form, last, client.author, body) for body in (b"", b"new")]
             # What comes after it doesn't count here, and isn't made anew: it counts there.
             follower = [inserting(client.site, last.last + 1, 2**16, None, 14, b"more ")]
@@ -267,9 +267,9 @@ class BadInput(Case):
         self.assertEqual((note.notice, note.session.status().offline), (NEWER, None))
         note.session.close()
         with contextlib.closing(self.ann.disk()) as disk:
-            self.assertEqual({entry.hash for entry in later} - {place.hash for place in disk.places()}, set())
-            self.assertEqual([one for one in disk.clients() if one.retired], [])
-            self.assertEqual((len(disk.rows()), disk.damaged), (disk.size() - 1, 0))
+            self.assertEqual({entry.hash for entry in later} - {place.hash for place in disk.entries.places()}, set())
+            self.assertEqual([one for one in disk.own.clients() if one.retired], [])
+            self.assertEqual((len(disk.entries.rows()), disk.entries.damaged), (disk.entries.size() - 1, 0))
         run = self.note("note", "--print")
         self.assertEqual((run.returncode, run.stdout), (3, "one two three four "))
         self.assertEqual(run.stderr, f"note: {NEWER}\n")

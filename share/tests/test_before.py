@@ -145,11 +145,11 @@ class AtVersionsOfBefore(Case):
         log.append([bad])
         with self.before():
             two = self.opened(self.person("bob"), link=self.person("ann").link())
-            wait_for(lambda: bad in {row.entry.raw for row in two.session._disk.rows()}, "it to be kept")
+            wait_for(lambda: bad in {row.entry.raw for row in two.session._disk.entries.rows()}, "it to be kept")
             two.session.close()
         two = self.opened(self.person("bob"))
         self.assert_comes_to(two, b"right")
-        self.assertNotIn(bad, {row.entry.raw for row in two.session._disk.rows()})
+        self.assertNotIn(bad, {row.entry.raw for row in two.session._disk.entries.rows()})
         type_at_the_end(two, " on")
         wait_for(lambda: are_alike([two]), "all to be sent")
         self.assertIn(bad, raws_of(log))

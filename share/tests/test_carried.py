@@ -89,7 +89,7 @@ class Lost(Case):
     def assert_log_is_full(self) -> None:
         """That the log has all that is on Anna's disk, soon."""
         with contextlib.closing(self.anna.disk()) as disk:
-            held = {row.entry.raw for row in disk.rows()}
+            held = {row.entry.raw for row in disk.entries.rows()}
         with contextlib.closing(self.anna.log()) as log:
             wait_for(lambda: held <= {*raws_of(log)}, "the log to be filled again", SOON)
 
@@ -161,19 +161,19 @@ class Lost(Case):
         note, append = self.opened(self.anna, url=str(self.path)), SqliteLog.append
         written(note, "one ")
         with mock.patch.object(SqliteLog, "append", lambda *_: None), contextlib.closing(self.anna.disk()) as disk:
-            with mock.patch.object(disk.__class__, "offer", lambda *_: []):
+            with mock.patch.object(disk.entries.__class__, "offer", lambda *_: []):
                 type_at_the_end(note, "two ")
                 last = note.session.last()
                 others = [disk.form.claim(site, disk.form.new_author()) for site in (7, 8)]
                 with contextlib.closing(self.anna.log()) as log:
                     for one in others:
                         append(log, [one.raw])
-                        wait_for(lambda of=one.hash: of in {place.hash for place in disk.places()}, "it to come")
-                    self.assertEqual(disk.withdraw([last.hash]), [last.hash])
+                        wait_for(lambda of=one.hash: of in {place.hash for place in disk.entries.places()}, "it to come")
+                    self.assertEqual(disk.entries.withdraw([last.hash]), [last.hash])
                     # A copy of this folder has sent it.
                     append(log, [last.raw])
-                wait_for(lambda: not disk.withdrawn(), "it to be kept again", SOON)
-                self.assertIn(last.hash, {place.hash for place in disk.places()})
+                wait_for(lambda: not disk.entries.withdrawn(), "it to be kept again", SOON)
+                self.assertIn(last.hash, {place.hash for place in disk.entries.places()})
 
     def test_what_a_copy_has_sent_is_not_withdrawn(self) -> None:
         note = self.opened(self.anna, url=str(self.path))
@@ -181,11 +181,11 @@ class Lost(Case):
         note.session.close()
         with contextlib.closing(self.anna.disk()) as disk:
             change(self.anna.path(), "UPDATE entry SET offered = 0")
-            hashes = [row.entry.hash for row in disk.rows() if row.made]
-            held = disk.in_log(hashes[:1])
+            hashes = [row.entry.hash for row in disk.entries.rows() if row.made]
+            held = disk.entries.in_log(hashes[:1])
             self.assertEqual([*held], hashes[:1])
-            self.assertEqual(disk.withdraw(hashes), hashes[1:])
-            self.assertEqual(disk.places_of(hashes), held)
+            self.assertEqual(disk.entries.withdraw(hashes), hashes[1:])
+            self.assertEqual(disk.entries.places_of(hashes), held)
 
 
 class Gaps(Case):
@@ -201,7 +201,7 @@ class Gaps(Case):
         anna.session.close()
         # One damaged entry, and its author is off.
         self.assertTrue(damage(path, b"007 ", b"00x "))
-        with mock.patch("share.sync.state.ROOM", 40_000), mock.patch("share.log.sqlite.PAGE", 8):
+        with mock.patch("share.sync.state.ROOM", 40_000), mock.patch("share.log.sqlite.READ_AT_ONCE", 8):
             berta = self.opened(self.person("berta"), link=link)
             wait_for(lambda: (berta.take_in(), berta.session._holdings.waiting_for_room())[1], "entries to be dropped")
             self.assertEqual(berta.text.decode(), "".join(words[:7]))

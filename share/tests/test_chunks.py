@@ -4,7 +4,7 @@ import unittest
 from collections.abc import Iterable
 from unittest import mock
 
-from share.admission.ledger import Ledger, Line, Row
+from share.admission.ledger import Branch, Ledger, Row
 from share.format.chunk import CHUNK_BEGIN, MOST_CHUNK, NoChunk, Writer, unpacked_one_by_one, unpacked
 from share.format.entry import Author, Plain
 from share.format.history import Messages, Part
@@ -142,14 +142,14 @@ def length_of(chunk: bytes) -> int:
     return numbers[-1]
 
 
-def line_of(parts: Iterable[list[Operation]]) -> Line:
+def line_of(parts: Iterable[list[Operation]]) -> Branch:
     """The chain of the entries that have these messages of a site."""
     form, author = Plain(bytes(16)), Author(b"sixteen bytes of", b"")
     ledger = Ledger(form)
     line = None
     for part in parts:
         if line is None:
-            line, made = Line(ledger, part[0].site), form.claim(part[0].site, author)
+            line, made = Branch(ledger, part[0].site), form.claim(part[0].site, author)
             line.add(ledger.add(Row(0, made, False), 0))
         made = entry_of(form, made, part, author)
         line.add(ledger.add(Row(0, made, False), line.numbers[-1]))

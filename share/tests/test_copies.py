@@ -9,10 +9,11 @@ from collections.abc import Sequence
 from typing import Any
 from unittest import mock
 
-from share.admission.judge import rank
+from share.admission.chains import rank
 from share.format.entry import Copy, Entry, Kind
 from share.store import read_only
-from share.store.note_file import Disk, Unkept
+from share.store.guarded import Unkept
+from share.store.note_file import Disk
 from share.sync.rebase import Done, make_anew
 from share.tests.editors import Editor
 from share.tests.naive import entry_of
@@ -44,7 +45,7 @@ class Copied(Case):
     def claim(self, person: Person, *sites: int) -> list[bytes]:
         """Has the log of a person's note have claims of a stranger to numbers, which hold against all that were made."""
         with contextlib.closing(person.disk()) as disk, contextlib.closing(person.log()) as log:
-            claims = [row.entry for row in disk.rows() if row.entry.kind is Kind.CLAIM]
+            claims = [row.entry for row in disk.entries.rows() if row.entry.kind is Kind.CLAIM]
             owns = {site: min(rank(claim) for claim in claims if claim.site == site) for site in sites}
             found: list[bytes] = []
             for site, own in owns.items():
@@ -65,8 +66,8 @@ class Copied(Case):
         one; and that entry."""
         (message,) = entry.messages
         with contextlib.closing(person.disk()) as disk:
-            (before,) = [row.entry for row in disk.rows() if row.entry.hash == entry.before]
-            (author,) = [one.author for one in disk.clients() if one.author.name == entry.author]
+            (before,) = [row.entry for row in disk.entries.rows() if row.entry.hash == entry.before]
+            (author,) = [one.author for one in disk.own.clients() if one.author.name == entry.author]
             for number in range(100_000):
                 word = f"new-{number} "
                 other = message._replace(data=word.encode())
@@ -225,7 +226,7 @@ class Damaged(Copied):
     def entry_of(self, person: Person) -> Entry:
         """What a person wrote first."""
         with contextlib.closing(person.disk()) as disk:
-            return next(row.entry for row in disk.rows() if row.made and row.entry.size)
+            return next(row.entry for row in disk.entries.rows() if row.made and row.entry.size)
 
     def test_the_original_comes_before_a_copy_is_made(self) -> None:
         shutil.copytree(self.folder / "log-kept", self.folder / "shared")
@@ -363,7 +364,7 @@ class Renewed(Copied):
         anna.path().unlink()
         written(first, "more ")
         with contextlib.closing(anna.disk()) as disk:
-            self.assertEqual({one.site for one in disk.clients() if one.copied and one.retired}, self.numbers)
+            self.assertEqual({one.site for one in disk.own.clients() if one.copied and one.retired}, self.numbers)
         self.assertNotIn(first.session.number, self.numbers)
 
 

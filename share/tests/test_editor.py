@@ -16,10 +16,10 @@ import time
 import unittest.mock
 from typing import Any
 
-from share.store import atomic
+from share.editors.terminal.app import edit
 from share.editors.terminal.keys import (ESCAPE_SECONDS, LONGEST_PASTE, PASTE_LOST_SECONDS, PASTE_QUIET_SECONDS,
                                          SEQUENCE_SECONDS, Event, Key, Keyboard, Pasted, safe_for_terminal)
-from share.editors.terminal.app import edit
+from share.store import atomic
 from share.sync.session import Bar, Status
 from share.tests.support import TOP, Case, python, wait_for
 from share.tests.terminals import Terminal

@@ -63,7 +63,7 @@ class Sessions(Engines):
         first.edit((4, 7, ""))
         second.shows("🎉\n")
         with contextlib.closing(self.person().disk()) as disk:
-            self.assertEqual(len(disk.clients()), 1)
+            self.assertEqual(len(disk.own.clients()), 1)
         self.assertEqual({second.ask("open")["error"], second.ask("on")["people"][0]["own"]}, {"order", True})
         first.close()
         second.type("still here")

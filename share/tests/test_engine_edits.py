@@ -275,7 +275,7 @@ class Wrong(Engines):
         self.assertEqual(self.printed(), editor.text)
 
     def test_what_is_typed_beside_what_is_taken_out_stays_there(self) -> None:
-        engine = Engine("note", lambda: Session(notes.opened("note", None, None)), lambda: None)
+        engine = Engine("note", lambda: Session(notes.open_note("note", None, None)), lambda: None)
         self.addCleanup(engine.close)
         sent: list[bytes] = []
         peer = engine.joined(sent.append, lambda: 0)
@@ -299,7 +299,7 @@ class Wrong(Engines):
         self.assertEqual(engine.session.text(), b"one twice two ")
 
     def test_a_program_that_can_not_be_started_again(self) -> None:
-        engine = Engine("note", lambda: Session(notes.opened("note", None, None)), lambda: None)
+        engine = Engine("note", lambda: Session(notes.open_note("note", None, None)), lambda: None)
         self.addCleanup(engine.close)
         sent: list[bytes] = []
         peer = engine.joined(sent.append, lambda: 0)

@@ -20,7 +20,8 @@ from share.format.presence import Present, presence_of
 from share.program.process import Ended, Program
 from share.program.replay import Wrote, in_units
 from share.store import notes
-from share.store.note_file import Disk, Unkept
+from share.store.guarded import Unkept
+from share.store.note_file import Disk
 from share.sync.session import Session
 from share.tests.editors import Engines
 from share.tests.support import NOTE, Case, type_at_the_end
@@ -38,7 +39,7 @@ class Here(Case):
 
     def setUp(self) -> None:
         super().setUp()
-        self.engine = Engine("note", lambda: Session(notes.opened("note", None, None)), lambda: None)
+        self.engine = Engine("note", lambda: Session(notes.open_note("note", None, None)), lambda: None)
         self.addCleanup(self.engine.close)
         self.editors = [self.editor(units) for units in ("utf-16", "utf-8")]
 
@@ -160,7 +161,7 @@ class Here(Case):
         self.assertLess(time.process_time() - begin, 5)
 
     def test_a_session_whose_text_fails_as_it_is_opened_is_closed_and_opened_anew(self) -> None:
-        engine = Engine("note", lambda: Session(notes.opened("note", None, None)), lambda: None)
+        engine = Engine("note", lambda: Session(notes.open_note("note", None, None)), lambda: None)
         self.addCleanup(engine.close)
         sent: list[bytes] = []
         peer, opening = engine.joined(sent.append, lambda: 0), b'{"do":"open","protocol":1,"units":["utf-8"]}'

@@ -1,11 +1,14 @@
 """What is read of a note's file: in parts, with what was withdrawn left out, and with what has no room read again in its turn."""
 import contextlib
 import math
+import sqlite3
 import unittest
 from unittest import mock
 
 from share.format.entry import NOTE_BYTES, Author, Entry, Form
-from share.store.note_file import About, Client, Disk, make
+from share.store.guarded import Damaged
+from share.store.note_file import About, Disk, make_note
+from share.store.own import Client
 from share.sync.state import Holdings
 from share.tests.naive import entry_of, inserting
 from share.tests.support import Case
@@ -29,7 +32,7 @@ class Read(Case):
     def setUp(self) -> None:
         super().setUp()
         path = self.folder / "notes" / "n.note"
-        make(path, About(False, bytes(NOTE_BYTES), URL))
+        make_note(path, About(False, bytes(NOTE_BYTES), URL))
         self.disk = Disk(path)
         self.addCleanup(self.disk.close)
         form = self.disk.form
@@ -50,7 +53,7 @@ class Read(Case):
     def test_what_was_withdrawn_further_on_is_left_out(self) -> None:
         self.disk.keep([self.others_claim, *self.others], False)
         self.disk.keep(self.mine, True)
-        self.disk.withdraw([self.mine[1].hash])
+        self.disk.entries.withdraw([self.mine[1].hash])
         for most in math.inf, 2**14:
             holdings = self.read(Holdings(self.disk.form), most)
             self.assertEqual((holdings.judge.front(1), holdings.judge.front(2)), (1, 100))
@@ -63,7 +66,7 @@ class Read(Case):
             holdings = self.read(Holdings(self.disk.form))
             self.assertGreater(holdings.waiting_for_room(), 0)
             self.assertEqual(holdings.judge.front(2), 0)
-            self.disk.withdraw([self.mine[1].hash])
+            self.disk.entries.withdraw([self.mine[1].hash])
             self.read(holdings)
             self.disk.keep([self.others[0]], False)
             for found in self.read(holdings), self.read(Holdings(self.disk.form)):
@@ -76,7 +79,19 @@ class Read(Case):
         for entry in self.claim, self.others_claim, *self.others:
             self.assertEqual(holdings.rows[entry.hash].entry, entry)
         with contextlib.closing(self.disk.again()) as again:
-            self.assertEqual({row.entry for row in again.rows()}, {row.entry for row in holdings.rows.values()})
+            self.assertEqual({row.entry for row in again.entries.rows()}, {row.entry for row in holdings.rows.values()})
+
+    def test_tables_that_another_program_made_are_damage(self) -> None:
+        client = self.disk.own.clients()[0]
+        with contextlib.closing(sqlite3.connect(self.disk.path)) as file:
+            file.execute("ALTER TABLE client RENAME COLUMN stood TO other")
+            with self.assertRaisesRegex(Damaged, "stood"):
+                self.disk.own.stands(client)
+            file.execute("ALTER TABLE client RENAME COLUMN other TO stood")
+            self.disk.own.stands(client)
+            file.executescript("ALTER TABLE anew RENAME TO before; CREATE VIEW anew AS SELECT * FROM before")
+        with self.assertRaisesRegex(Damaged, "lacks some of its tables"):
+            self.disk.again()
 
 
 if __name__ == "__main__":

@@ -10,7 +10,7 @@ from share.format import link as links
 from share.format.entry import Entry, Form
 from share.format.link import is_network
 from share.format.operation import Operation
-from share.log.base import open_log
+from share.log.opening import open_log
 from share.program.process import Program
 from share.store import notes
 from share.sync.session import Session
@@ -90,7 +90,7 @@ class Joining(Case):
 
         begin = time.monotonic()
         with person.here(), mock.patch.object(Program, "ask", counting):
-            disk = notes.opened("note", None, links.read_link(link) if link else None)
+            disk = notes.open_note("note", None, links.read_link(link) if link else None)
             note = Note(Session(disk, None, lambda done, total: steps.append((done, total))))
             end = begin + PATIENCE
             while bytes(note.text) != text and time.monotonic() < end:

@@ -16,7 +16,9 @@ from typing import NamedTuple
 from hypothesis import HealthCheck, given, settings
 from hypothesis import strategies as st
 
-from share.admission.judge import LEAP, Judge, Rank, rank
+from share.admission.causes import LEAP
+from share.admission.chains import Rank, rank
+from share.admission.judge import Judge
 from share.format.entry import NO_HASH, Author, Bad, Copied, Entry, Kind, Plain
 from share.format.operation import Operation
 from share.program.process import Program

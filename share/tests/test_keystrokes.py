@@ -8,8 +8,9 @@ from collections.abc import Iterable
 from itertools import chain
 from unittest import mock
 
-from share.admission.judge import AHEAD, Judge
-from share.admission.ledger import MOST_TYPED, Row
+from share.admission.judge import Judge
+from share.admission.ledger import MOST_IN_RUN, Row
+from share.admission.passage import AHEAD
 from share.format import chunk as chunks
 from share.format.chunk import MOST_CHUNK
 from share.format.entry import Bad, Entry, Kind, Plain, check_entry
@@ -18,7 +19,8 @@ from share.format.operation import DELETE, GREATEST_STAMP, INSERT, MOST_OF_A_SIT
 from share.format.sealed import Sealed
 from share.program.site import Site
 from share.store import contents
-from share.store.note_file import About, Client, make
+from share.store.note_file import About, make_note
+from share.store.own import Client
 from share.tests.support import Case
 from share.text.change import make as make_changes
 from share.text.names import Names
@@ -212,7 +214,7 @@ class Counts(unittest.TestCase):
             for seq in range(1, one.front(site) + 1):
                 self.assertEqual(one.message(site, seq), other.message(site, seq))
                 self.assertEqual(one.entry_of(site, seq), other.entry_of(site, seq))
-            chains = one._chains[site], other._chains[site]
+            chains = one._chains.by_site[site], other._chains.by_site[site]
             for at in range(one.length(site)):
                 self.assertEqual(*((chain.stamp_of(at), chain.inserter_of(at)) for chain in chains))
             self.assertEqual(*(chain.pending for chain in chains))
@@ -253,13 +255,13 @@ class Counts(unittest.TestCase):
 
     def test_a_long_stretch_fits_into_chunks(self) -> None:
         typist = Typist(FORM, 9)
-        for number in range(3 * MOST_TYPED + 7):
+        for number in range(3 * MOST_IN_RUN + 7):
             typist.keep(typist.insert(b"\r" if number % 7 == 0 else b"x"))
         found = added(typist.entries, True).let_through_in_order()
         self.assertEqual(len([*found.parts()]), 1)
         sizes = [len(one.data) for part in found.parts() for chunk, known, _ in part.holder.parts(part.begin, part.end)
                  for one in known or chunks.unpacked(chunk)]
-        self.assertLessEqual(max(sizes), MOST_TYPED)
+        self.assertLessEqual(max(sizes), MOST_IN_RUN)
         self.assertLess(len(sizes), 10)
         with contextlib.closing(Site(1, found)) as site:
             self.assertEqual(site.text(), b"".join(run.data for entry in typist.entries[1:] for run in entry.operations))
@@ -301,7 +303,7 @@ class Opened(Case):
             typist.keep(typist.insert(self.text[number:number + 1]))
         self.ann = self.person("ann")
         rows = [Row(0, entry, True) for entry in typist.entries]
-        make(self.ann.path(), About(True, bytes(range(32)), ""), rows, [Client(17, typist.author, stood=True)])
+        make_note(self.ann.path(), About(True, bytes(range(32)), ""), rows, [Client(17, typist.author, stood=True)])
 
     def test_few_chunks_are_read(self) -> None:
         with mock.patch.object(chunks, "_keystrokes_in", wraps=chunks._keystrokes_in) as read:
@@ -314,17 +316,17 @@ class Opened(Case):
             note = self.opened(self.ann)
             self.assertEqual(note.session.text(), self.text)
             with self.ann.here():
-                self.assertEqual(contents.printed("note", None, None, None).text, self.text)
+                self.assertEqual(contents.text_of_note("note", None, None, None).text, self.text)
 
     def test_none_is_opened_as_a_strangers(self) -> None:
         with self.ann.here(), mock.patch.object(Sealed, "_opened", side_effect=AssertionError):
-            self.assertEqual(contents.printed("note", None, None, None).text, self.text)
+            self.assertEqual(contents.text_of_note("note", None, None, None).text, self.text)
 
     def test_none_is_kept_whole(self) -> None:
         with self.ann.here():
             tracemalloc.start()
             try:
-                contents.printed("note", None, None, None)
+                contents.text_of_note("note", None, None, None)
                 _, most = tracemalloc.get_traced_memory()
             finally:
                 tracemalloc.stop()

@@ -9,7 +9,8 @@ import shutil
 import subprocess
 import unittest
 
-from share.admission.judge import Judge, rank
+from share.admission.chains import rank
+from share.admission.judge import Judge
 from share.admission.left_out import LeftOut
 from share.editors.terminal.status_line import state_of_others
 from share.format.entry import Author, Entry, Form, Kind, Plain
@@ -168,9 +169,9 @@ class Taken(Three):
         site = self.begun()
         with contextlib.closing(self.anna.disk()) as disk:
             form = disk.form
-            (author,) = [one.author for one in disk.clients() if one.site == site]
-            line = next(row.entry for row in disk.rows() if row.entry.site == site and row.entry.size)
-            before = next(row.entry for row in disk.rows() if row.entry.hash == line.before)
+            (author,) = [one.author for one in disk.own.clients() if one.site == site]
+            line = next(row.entry for row in disk.entries.rows() if row.entry.site == site and row.entry.size)
+            before = next(row.entry for row in disk.entries.rows() if row.entry.hash == line.before)
         with contextlib.closing(self.anna.log()) as log:
             log.append([smaller(form, before, author, line).raw])
         self.assertEqual([(one["site"] == site, one["text"]) for one in left_out(self.carol)].count((True, SENTENCE)), 1)
@@ -327,14 +328,14 @@ FORM = Plain(bytes(16))
 def shown(person: Person) -> tuple[str, list[str]]:
     """What somebody's note and its log show, and what is missing in that."""
     with person.here():
-        found = contents.printed("note", None, None, None)
+        found = contents.text_of_note("note", None, None, None)
     return found.text.decode(), found.missing
 
 
 def left_out(person: Person) -> list[dict]:
     """What is left out of somebody's note."""
     with person.here():
-        return contents.counted("note", contents.found("note", None, None, None)).left_out
+        return contents.contents_of("note", contents.found_of("note", None, None, None)).left_out
 
 
 def typed_at(site: int, data: bytes) -> list[Operation]:

@@ -22,7 +22,8 @@ from unittest import mock
 
 from share.format.entry import MOST_BYTES, Plain
 from share.format.presence import MOST_PRESENCE
-from share.log.base import PAGE, START, Log, Lost, Unreachable, open_log
+from share.log.base import READ_AT_ONCE, START, Log, LogLost, Unreachable
+from share.log.opening import open_log
 from share.log.sqlite import SqliteLog
 from share.tests.servers import RedisServer, free_port
 from share.text.errors import Trouble
@@ -98,9 +99,9 @@ class Shared:
             self.assertEqual(raws(log, last), [raw(3)])
 
         def test_many_come_in_pages(self) -> None:
-            log, many = self.log(), [raw(number) for number in range(2 * PAGE + 7)]
+            log, many = self.log(), [raw(number) for number in range(2 * READ_AT_ONCE + 7)]
             log.append(many)
-            self.assertLessEqual(len(log.read(START)), PAGE)
+            self.assertLessEqual(len(log.read(START)), READ_AT_ONCE)
             self.assertEqual(raws(log), many)
             self.assertEqual(log.size(), len(many))
 
@@ -170,14 +171,14 @@ class Shared:
             author = form.new_author()
             claims = [form.claim(site, author) for site in (7, 65_000, 7)]
             log.append([b"", b"\1", raw(1), *(one.raw for one in claims), form.made_anew(claims[1], author).raw])
-            with mock.patch("share.log.redis.PART", 2):
+            with mock.patch("share.log.redis.CLAIMS_AT_ONCE", 2):
                 self.assertIn(log.claimed(), ({7, 65_000}, None))
 
         def test_a_place_of_another_log_is_told(self) -> None:
             log = self.log()
             log.append([raw(1)])
             for place in ("x", "1", "7-1", "1.1", "7-1/3", "99999999999999999999.1"):
-                with self.assertRaises(Lost, msg=place):
+                with self.assertRaises(LogLost, msg=place):
                     log.watch(place, 0.1)
                     log.read(place)
 
@@ -279,7 +280,7 @@ class Files(Shared.Both):
     def lost(self, log: Log, *why: str) -> None:
         """That each call at a log says that it is lost."""
         for call in self.calls(log):
-            with self.assertRaises(Lost) as told:
+            with self.assertRaises(LogLost) as told:
                 call()
         for part in why:
             self.assertIn(part, str(told.exception))
@@ -325,7 +326,7 @@ class Files(Shared.Both):
             with closing(self.opened()) as log, closing(self.opened()) as other:
                 log.append([raw(1), raw(2)])
                 os.truncate(self.path, 0)
-                with self.assertRaisesRegex(Lost, f"was emptied; it is kept as log.db.damaged-{which}"):
+                with self.assertRaisesRegex(LogLost, f"was emptied; it is kept as log.db.damaged-{which}"):
                     log.append([raw(3)])
                 self.lost(other, "was removed")
             with closing(self.opened()) as log:
@@ -341,7 +342,7 @@ class Files(Shared.Both):
         self.file().execute("DELETE FROM entry")
         log.watch(place, 0)
         for after in (place, START):
-            with self.assertRaisesRegex(Lost, "has lost entries"):
+            with self.assertRaisesRegex(LogLost, "has lost entries"):
                 log.read(after)
         with closing(self.opened()) as again:
             again.append([raw(1)])
@@ -357,7 +358,7 @@ class Files(Shared.Both):
                 with closing(self.opened()) as other:
                     other.append([take] * 3)
                     other.append([raw(7)])
-                with self.assertRaisesRegex(Lost, "has lost entries"):
+                with self.assertRaisesRegex(LogLost, "has lost entries"):
                     log.read(place)
 
     def test_a_damaged_file_is_set_aside(self) -> None:
@@ -368,7 +369,7 @@ class Files(Shared.Both):
             with open(self.path, "r+b") as file:
                 file.seek(size // 4)
                 file.write(random.Random(5).randbytes(size // 2))
-            with self.assertRaisesRegex(Lost, f"is damaged .*kept as log.db.damaged-{number}"):
+            with self.assertRaisesRegex(LogLost, f"is damaged .*kept as log.db.damaged-{number}"):
                 with closing(self.opened()) as log:
                     raws(log)
             with closing(self.opened()) as log:
@@ -382,10 +383,10 @@ class Files(Shared.Both):
         size = self.path.stat().st_size
         with open(self.path, "r+b") as file:
             file.write(bytes(size))
-        with self.assertRaises(Lost):
+        with self.assertRaises(LogLost):
             raws(log)
         self.lost(log)
-        with contextlib.suppress(Lost):
+        with contextlib.suppress(LogLost):
             self.opened().close()
         with closing(self.opened()) as again:
             again.append([raw(1)])
@@ -395,7 +396,7 @@ class Files(Shared.Both):
         self.closed_with(raw(1))
         with open(self.path, "r+b") as file:
             file.write(bytes(4096))
-        with self.assertRaisesRegex(Lost, "kept as"):
+        with self.assertRaisesRegex(LogLost, "kept as"):
             self.opened()
         self.closed_with(raw(1))
 
@@ -403,7 +404,7 @@ class Files(Shared.Both):
         for table in ("entry", "header", "presence"):
             with self.subTest(table), closing(self.opened()) as log:
                 self.file().execute(f"DROP TABLE {table}")
-                with self.assertRaisesRegex(Lost, "is damaged"):
+                with self.assertRaisesRegex(LogLost, "is damaged"):
                     with closing(self.opened()) as other:
                         other.meet(b"x", b"")
                 self.lost(log)
@@ -411,20 +412,20 @@ class Files(Shared.Both):
 
     def test_views_without_end_end(self) -> None:
         self.closed_with(raw(1))
-        with closing(self.opened()) as log, mock.patch("share.log.bounded.MOST_TIMES", 1):
+        with closing(self.opened()) as log, mock.patch("share.log.sqlite_file.MOST_TICKS", 1):
             self.file().executescript(f"ALTER TABLE entry RENAME TO before; {WITHOUT_END}")
             for call in (lambda: raws(log), lambda: log.watch(START, 0), log.size):
                 with self.assertRaisesRegex(Unreachable, "interrupted"):
                     call()
         # Who opens it sees at once that it is no log.
-        with self.assertRaisesRegex(Lost, "lacks some of its tables.*kept as"):
+        with self.assertRaisesRegex(LogLost, "lacks some of its tables.*kept as"):
             self.opened()
         self.closed_with(raw(1))
 
     def test_places_without_room_above_are_set_aside(self) -> None:
         self.closed_with(raw(1))
         self.file().execute("INSERT INTO entry (place, raw) VALUES (9223372036854775807, x'00')")
-        with self.assertRaisesRegex(Lost, "kept as"), closing(self.opened()) as log:
+        with self.assertRaisesRegex(LogLost, "kept as"), closing(self.opened()) as log:
             log.append([raw(2)])
             raws(log)
         self.closed_with(raw(1))
@@ -453,11 +454,11 @@ class Files(Shared.Both):
         log = self.log()
         log.append([raw(1)])
         assert isinstance(log, SqliteLog)
-        pages = log._one("PRAGMA page_count")
-        log._one(f"PRAGMA max_page_count = {pages + 4}")
+        pages = log._file.one("PRAGMA page_count")
+        log._file.one(f"PRAGMA max_page_count = {pages + 4}")
         with self.assertRaisesRegex(Unreachable, "full"):
             log.append([raw(number) for number in range(2, 500)])
-        log._one("PRAGMA max_page_count = 100000")
+        log._file.one("PRAGMA max_page_count = 100000")
         self.assertEqual(raws(log), [raw(1)])
         log.append([raw(2)])
         self.assertEqual(raws(log), [raw(1), raw(2)])
@@ -465,7 +466,7 @@ class Files(Shared.Both):
     def test_a_locked_file_is_unreachable(self) -> None:
         log = self.log()
         assert isinstance(log, SqliteLog)
-        log._one("PRAGMA busy_timeout = 50")
+        log._file.one("PRAGMA busy_timeout = 50")
         other = self.file()
         other.execute("BEGIN IMMEDIATE")
         with self.assertRaisesRegex(Unreachable, "locked"):
@@ -481,7 +482,7 @@ class Files(Shared.Both):
 
     def test_kept_files_of_those_who_die(self) -> None:
         """What was appended stands, whenever who appended was killed."""
-        code = ("import sys\nfrom share.log.base import open_log\nlog = open_log(sys.argv[1], bytes(range(16)))\n"
+        code = ("import sys\nfrom share.log.opening import open_log\nlog = open_log(sys.argv[1], bytes(range(16)))\n"
                 "for number in range(10 ** 6):\n"
                 "    log.append([b'%06d' % number]); print(number, flush=True)")
         for turn in range(5):
@@ -542,7 +543,7 @@ class Servers(Shared.Both):
             page = log.read(START)
             self.script(lose, page[2].place.split("/")[0])
             for more in range(2):
-                with self.subTest(which), self.assertRaisesRegex(Lost, "has lost entries"):
+                with self.subTest(which), self.assertRaisesRegex(LogLost, "has lost entries"):
                     log.read(page[-1].place)
                 self.log().append([raw(9)])
             self.assertIn(raw(9), raws(log))
@@ -559,10 +560,10 @@ class Servers(Shared.Both):
         self.server.start()
         with self.assertRaises(Unreachable):
             log.read(place)
-        with self.assertRaises(Lost):
+        with self.assertRaises(LogLost):
             log.read(place)
         log.append([raw(4), raw(5), raw(6)])
-        with self.assertRaises(Lost):
+        with self.assertRaises(LogLost):
             log.read(place)
         log.append([raw(number) for number in range(1, 4)])
         self.assertEqual(raws(log), [raw(number) for number in (1, 4, 5, 6, 2, 3)])

@@ -8,7 +8,7 @@ import time
 from collections.abc import Sequence
 from unittest import mock
 
-from share.admission.judge import rank
+from share.admission.chains import rank
 from share.admission.ledger import Row
 from share.format.entry import Entry, Form, Kind
 from share.format.operation import DELETE, Operation
@@ -16,7 +16,7 @@ from share.log.base import Log
 from share.log.sqlite import SqliteLog
 from share.program.process import Program
 from share.program.site import Edited, Site
-from share.store.note_file import Client, Disk
+from share.store.own import Client, OwnTables
 from share.sync.replicator import Courier
 from share.sync.session import Session
 from share.tests.naive import about, entry_of
@@ -28,7 +28,7 @@ from share.tests.support import Case, Person, type_at_the_end, wait_for, written
 def stood(person: Person) -> list[int]:
     """The numbers of a person whose claims were noted to stand in the log."""
     with contextlib.closing(person.disk()) as disk:
-        return [one.site for one in disk.clients() if one.stood]
+        return [one.site for one in disk.own.clients() if one.stood]
 
 
 class Numbers(Case):
@@ -139,8 +139,8 @@ class Numbers(Case):
         """A word that makes an entry of a smaller hash than what was typed, where it is typed in its place."""
         (message,) = entry.messages
         with contextlib.closing(self.anna.disk()) as disk:
-            (before,) = [row.entry for row in disk.rows() if row.entry.hash == entry.before]
-            (author,) = [one.author for one in disk.clients() if one.site == entry.site]
+            (before,) = [row.entry for row in disk.entries.rows() if row.entry.hash == entry.before]
+            (author,) = [one.author for one in disk.own.clients() if one.site == entry.site]
             for number in range(100_000):
                 word = f"another-word-{number} "
                 other = message._replace(data=word.encode())
@@ -218,19 +218,19 @@ class Numbers(Case):
 
     def test_a_number_that_is_claimed_while_another_editor_is_opened(self) -> None:
         self.begun()
-        first, ask, asked = self.opened(self.anna), Disk.clients, []
+        first, ask, asked = self.opened(self.anna), OwnTables.clients, []
 
-        def clients(disk: Disk) -> list[Client]:
+        def clients(own: OwnTables) -> list[Client]:
             if threading.current_thread() is threading.main_thread():
-                asked.append(disk)
+                asked.append(own)
                 if len(asked) == 2:
                     # Between the entries and the numbers that go with them.
-                    client = Client(next(site for site in range(1, 99) if site != self.site_of()), disk.form.new_author())
                     with contextlib.closing(self.anna.disk()) as other:
-                        other.keep([disk.form.claim(client.site, client.author)], True, client=client)
-            return ask(disk)
+                        client = Client(next(site for site in range(1, 99) if site != self.site_of()), other.form.new_author())
+                        other.keep([other.form.claim(client.site, client.author)], True, client=client)
+            return ask(own)
 
-        with mock.patch.object(Disk, "clients", clients):
+        with mock.patch.object(OwnTables, "clients", clients):
             second = self.opened(self.anna)
         written(second, "four ")
         self.assertEqual(self.assert_meet(first, second), b"one two three four ")
@@ -299,7 +299,7 @@ class Numbers(Case):
     def test_entries_under_my_number_while_i_am_off(self) -> None:
         self.begun()
         with contextlib.closing(self.anna.disk()) as disk:
-            (client,) = [one for one in disk.clients() if not one.retired]
+            (client,) = [one for one in disk.own.clients() if not one.retired]
             form, log = disk.form, self.log()
         claim = form.claim(client.site, client.author)
         forged = Program(client.site)
@@ -326,7 +326,7 @@ class Numbers(Case):
         while not (greater and smaller):
             one = form.claim(mine.site, form.new_author())
             with contextlib.closing(self.anna.disk()) as disk:
-                own = form.claim(mine.site, disk.clients()[0].author)
+                own = form.claim(mine.site, disk.own.clients()[0].author)
             if rank(one) < rank(own):
                 smaller = one
             else:
@@ -398,7 +398,7 @@ class Numbers(Case):
     def site_of(self) -> int:
         """The first one's number."""
         with contextlib.closing(self.anna.disk()) as disk:
-            return disk.clients()[0].site
+            return disk.own.clients()[0].site
 
 
 class OnAServer(Case):

@@ -14,7 +14,7 @@ import zlib
 from unittest import mock
 
 from share.format.operation import DELETE, Operation
-from share.store.old import JOURNAL_BEGIN, RECORD, Old, is_old_note, messages_of_old_note, messages_of_old_server
+from share.store.old import JOURNAL_BEGIN, JOURNAL_RECORD, Old, is_old_note, messages_of_old_note, messages_of_old_server
 from share.tests.naive import about, spelled
 from share.tests.servers import RedisServer
 from share.text.errors import Trouble
@@ -31,7 +31,7 @@ def deletion(site: int, seq: int, at: int = 0) -> Operation:
 def record(message: Operation) -> bytes:
     """A record of a journal."""
     data = spelled(message)
-    return RECORD.pack(len(data), zlib.crc32(data)) + data
+    return JOURNAL_RECORD.pack(len(data), zlib.crc32(data)) + data
 
 
 def counts(old: Old | None) -> dict[int, int]:
@@ -229,7 +229,7 @@ class Files(OldCase):
         with mock.patch("shutil.copyfile", copied):
             self.assertEqual(counts(self.read()), {1: 5, 2: 2, 3: 2})
         self.assertGreaterEqual(copies, 6)
-        with mock.patch("share.store.old.TRIES", 2), mock.patch("share.store.old._stats", side_effect=range(100)):
+        with mock.patch("share.store.old.COPY_TRIES", 2), mock.patch("share.store.old._sizes_and_times", side_effect=range(100)):
             with self.assertRaisesRegex(Trouble, "is being written to"):
                 self.read()
 

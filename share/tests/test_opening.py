@@ -12,7 +12,7 @@ import unittest
 
 from share.format.link import read_link
 from share.store import notes
-from share.store.note_file import Unkept
+from share.store.guarded import Unkept
 from share.sync.session import Session
 from share.tests.note import Note
 from share.tests.servers import RedisServer
@@ -117,7 +117,7 @@ class Links(Opening):
         (self.folder / "password").write_text("open sesame\n")
         ann = self.person("ann")
         with ann.here():
-            note = Note(Session(notes.opened("note", server.url, None, "open sesame"), "open sesame"))
+            note = Note(Session(notes.open_note("note", server.url, None, "open sesame"), "open sesame"))
         written(note, "one ")
         note.session.close()
         bob, link = self.person("bob"), ann.link()
@@ -147,7 +147,7 @@ class Links(Opening):
     def test_a_folder_that_can_not_be_written(self) -> None:
         (self.folder / "data").write_text("no folder")
         with self.person().here(), self.assertRaisesRegex((notes.Trouble, Unkept), "Not a directory|File exists"):
-            notes.opened("note", None, None)
+            notes.open_note("note", None, None)
 
 
 class Moved(Opening):
@@ -181,7 +181,7 @@ class Moved(Opening):
         ann = self.made("ann", self.file_log())
         server = self.redis()
         with ann.here(), self.assertRaisesRegex(notes.Trouble, "isn't sealed.*bin/note renew note --log redis"):
-            notes.opened("note", server.url, None)
+            notes.open_note("note", server.url, None)
         self.assertEqual(read_link(ann.link()).url, self.file_log())
 
 
@@ -260,7 +260,7 @@ class Before(Opening):
         self.assertFalse((self.folder / "data" / "notes").exists())
         told: list[str] = []
         with self.ann.here():
-            session = Session(notes.opened("diary", None, None, None, told.append))
+            session = Session(notes.open_note("diary", None, None, None, told.append))
         self.addCleanup(session.close)
         self.assertEqual(session.text().replace(b"\r", b"\n").decode(), printed.stdout)
         self.assertRegex(" ".join(told), "3.left has 2 edits")
@@ -268,7 +268,7 @@ class Before(Opening):
         written(note, "and more")
         self.assertTrue(self.ann.text("diary").endswith(b"and more"))
         self.assertEqual(self.files(), self.old_files)
-        self.assertEqual(notes.opened("diary", None, None).about.url, "")
+        self.assertEqual(notes.open_note("diary", None, None).about.url, "")
 
     def test_renewed_at_once(self) -> None:
         run = self.run_as(self.ann, "renew", "diary", "--log", self.file_log())
@@ -281,7 +281,7 @@ class Before(Opening):
         server = self.server()
         stranger = self.person("stranger")
         with stranger.here(), self.assertRaisesRegex(notes.Trouble, "is read only.*bin/note renew diary --log"):
-            notes.opened("diary", server.url, None)
+            notes.open_note("diary", server.url, None)
         digest = server.cli("DEBUG", "DIGEST")
         printed = self.run_as(stranger, "diary", "--print", "--log", server.url)
         self.assertTrue(printed.stdout)
@@ -343,7 +343,7 @@ class Recovered(Opening):
         shutil.rmtree(self.folder / "shared")
         people = [self.person(name) for name in ("ann", "bob", "carol")]
         with contextlib.closing(people[0].disk()) as disk:
-            hashes = chance.sample(sorted(row.entry.hash for row in disk.rows()), 15)
+            hashes = chance.sample(sorted(row.entry.hash for row in disk.entries.rows()), 15)
         for number, person in enumerate(people):
             # Each entry is damaged in one file.
             for of in hashes[number::3]:
@@ -382,7 +382,7 @@ class Recovered(Opening):
         ann = self.made("ann")
         ann.path().write_bytes(b"words")
         with ann.here(), self.assertRaisesRegex(notes.Trouble, "bin/note recover .*join the note again"):
-            notes.opened("note", None, None)
+            notes.open_note("note", None, None)
 
 
 if __name__ == "__main__":

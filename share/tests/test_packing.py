@@ -14,8 +14,8 @@ from share.format.entry import Author, Plain, digest
 from share.program.process import Ended, Program
 from share.program.site import Site
 from share.store import snapshot
-from share.store.note_file import Unkept
-from share.store.snapshot import FRONT, KEPT, LEFT
+from share.store.guarded import Unkept
+from share.store.snapshot import KEPT, LEFT, PACKED_FRONT
 from share.sync.session import Session
 from share.tests.naive import entry_of, inserting
 from share.tests.note import Note
@@ -28,12 +28,12 @@ from unittest import mock
 from share.program.process import Program
 from share.program.site import Site
 from share.store import notes, snapshot
-from share.store.note_file import Disk
+from share.store.own import OwnTables
 from share.sync.session import Session
 from share.tests.note import Note
 
 point = sys.argv[1]
-keep, noted, ask = Site.keep, Disk.note_packed, Program.ask
+keep, noted, ask = Site.keep, OwnTables.note_packed, Program.ask
 
 def dies(*_):
     os.kill(os.getpid(), 9)
@@ -52,15 +52,15 @@ def keeps(site):
 
 def noted_then_dies(*words):
     if point == "transaction":
-        with words[0]._words(), words[0]._transaction():
-            words[0]._file.execute("INSERT OR REPLACE INTO packed VALUES (?, x'00', x'00')", words[1:2])
+        with words[0]._file.writing():
+            words[0]._sql.execute("INSERT OR REPLACE INTO packed VALUES (?, x'00', x'00')", words[1:2])
             dies()
     noted(*words)
     dies()
 
 snapshot.AT_END = 1
-Site.keep, Disk.note_packed, Program.ask = keeps, noted_then_dies, asks
-note = Note(Session(notes.opened("note", None, None)))
+Site.keep, OwnTables.note_packed, Program.ask = keeps, noted_then_dies, asks
+note = Note(Session(notes.open_note("note", None, None)))
 note.moved_to(len(note.text))
 note.type(f"{point} ")
 note.session.close()
@@ -222,7 +222,7 @@ class Packing(Case):
                           key=lambda entry: entry.hash)
         judge = Judge([claim, branches[1]])
         self.file().write_bytes(b"packed")
-        disk = mock.Mock(packed=lambda _: (digest(b"packed"), FRONT.pack(7, 1, branches[1].hash)))
+        disk = mock.Mock(own=mock.Mock(packed=lambda _: (digest(b"packed"), PACKED_FRONT.pack(7, 1, branches[1].hash))))
         self.assertEqual(snapshot.fronts_of(disk, judge, 7, self.file().parent), {7: 1})
         for judge in Judge([claim, *branches]), Judge([claim]), Judge():
             self.assertEqual(snapshot.fronts_of(disk, judge, 7, self.file().parent), {})
@@ -234,7 +234,7 @@ class Packing(Case):
         self.closed("and more ")
         self.shows("begin and more ", False)
         shutil.rmtree(self.file())
-        with mock.patch("share.store.note_file.Disk.note_packed", side_effect=Unkept("database or disk is full")):
+        with mock.patch("share.store.own.OwnTables.note_packed", side_effect=Unkept("database or disk is full")):
             self.closed("still more ")
         self.shows("begin and more still more ", False)
         with mock.patch("share.store.snapshot.make_folder", side_effect=OSError(28, "No space left on device")):
@@ -274,7 +274,7 @@ class Packing(Case):
 
     def test_it_is_written_while_much_comes(self) -> None:
         note = self.opened(self.ann)
-        with mock.patch.object(snapshot, "MANY", 3), mock.patch.object(
+        with mock.patch.object(snapshot, "MANY_NEW", 3), mock.patch.object(
                 Site, "keep", autospec=True, side_effect=Site.keep) as kept:
             for number in range(6):
                 type_at_the_end(note, str(number))
@@ -301,7 +301,7 @@ class Packing(Case):
 
     def test_a_joined_note_is_packed(self) -> None:
         one = self.opened(self.person("one"), url=self.file_log())
-        with mock.patch.object(snapshot, "MANY", 5):
+        with mock.patch.object(snapshot, "MANY_NEW", 5):
             written(one, "some words")
             for word in "a few more words".split():
                 written(one, word)
@@ -310,7 +310,7 @@ class Packing(Case):
             wait_for(lambda: (two.take_in(), two.session._packed)[1], "it to be packed")
 
     def test_a_session_whose_file_can_not_be_read(self) -> None:
-        with mock.patch("share.store.note_file.Disk.packed", side_effect=Unkept("busy")):
+        with mock.patch("share.store.own.OwnTables.packed", side_effect=Unkept("busy")):
             note = self.opened(self.ann)
             self.assertEqual(bytes(note.text), b"begin ")
             self.assertIsInstance(note.session, Session)

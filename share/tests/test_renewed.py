@@ -187,8 +187,8 @@ class Renewing(Case):
         note = self.opened(self.ann)
         written(note, "one ")
         with contextlib.closing(self.ann.disk()) as disk:
-            form, (client,) = disk.form, disk.clients()
-            rows = [row.entry for row in disk.rows()]
+            form, (client,) = disk.form, disk.own.clients()
+            rows = [row.entry for row in disk.entries.rows()]
         stranger = form.new_author()
         judge = Judge([*rows, form.renewed("Ann", client.site, stranger), form.renewed("Ann", 9, stranger)])
         self.assertIsNone(renewal.renewed_by(judge, set()))

@@ -7,9 +7,12 @@ import subprocess
 import time
 from unittest import mock
 
-from share.admission.judge import rank
+from share.admission.chains import rank
 from share.program.site import MOST_BYTES, Edited, Site
-from share.store.note_file import Anew, Disk, Overtaken, Unkept, make
+from share.store.entries import Entries
+from share.store.guarded import Unkept
+from share.store.note_file import Disk, make_note
+from share.store.own import Anew, Overtaken, OwnTables
 from share.sync.session import Session
 from share.tests import test_numbers
 from share.tests.note import Note
@@ -22,7 +25,7 @@ import sys, time
 from share.store import notes
 from share.sync.session import Session
 from share.tests.note import Note
-note, number = Note(Session(notes.opened("note", None, None))), 0
+note, number = Note(Session(notes.open_note("note", None, None))), 0
 print("open", flush=True)
 sys.stdin.readline()
 end = time.monotonic() + 1
@@ -108,7 +111,7 @@ class UnderSeveral(Case):
             about = disk.about
         wal = person.path().with_name("note.note-wal")
         before = wal.stat().st_ino
-        make(person.path(), about)
+        make_note(person.path(), about)
         self.assertEqual(wal.stat().st_ino, before)
 
 
@@ -168,17 +171,17 @@ class GivenUp(Case):
     def clients(self, note: Note) -> list:
         """The numbers of who has a note open."""
         with contextlib.closing(Disk(note.session._disk.path)) as disk:
-            return disk.clients()
+            return disk.own.clients()
 
     def test_what_another_editor_made_anew_isnt_kept_twice(self) -> None:
         for person in self.forked() and (self.anna, self.person("copied")):
             with contextlib.closing(person.disk()) as disk:
-                for one in disk._file.execute("SELECT * FROM anew").fetchall():
+                for one in disk._file.sql.execute("SELECT * FROM anew").fetchall():
                     with self.assertRaises(Overtaken):
                         disk.keep([], True, anew=[Anew(*one)])
 
     def test_a_disk_that_is_full_between_two_steps(self) -> None:
-        for number, step in enumerate(("withdraw", "stands", "keep")):
+        for number, step in enumerate(((Entries, "withdraw"), (OwnTables, "stands"), (Disk, "keep"))):
             with self.subTest(step=step):
                 if number:
                     self.doCleanups()
@@ -190,7 +193,7 @@ class GivenUp(Case):
                     wait_for(lambda one=note: one.session.status().offline, "the log to be away")
                     type_at_the_end(note, words)
                 with mock.patch("share.sync.session.AGAIN_SECONDS", 0.3):
-                    with mock.patch.object(Disk, step, side_effect=Unkept("full")):
+                    with mock.patch.object(*step, side_effect=Unkept("full")):
                         self.back()
                         end = time.monotonic() + 1.2
                         while time.monotonic() < end:
@@ -205,7 +208,7 @@ class GivenUp(Case):
     def test_what_the_log_brings_back_isnt_made_anew(self) -> None:
         self.begun()
         with contextlib.closing(self.anna.disk()) as disk:
-            place = disk.rows()[2].place
+            place = disk.entries.rows()[2].place
         change(self.anna.path(), "UPDATE entry SET raw = x'00' WHERE place = ?", place)
         read = Session._read
 

@@ -27,7 +27,7 @@ class Verbs(Case):
     def numbers(self, person: Person) -> int:
         """How many numbers somebody has claimed."""
         with contextlib.closing(person.disk()) as disk:
-            return len(disk.clients())
+            return len(disk.own.clients())
 
     def test_texts_go_in_and_out(self) -> None:
         text = "tea\njam\r\nhoney\rfig\n\n🎉\0é\n"

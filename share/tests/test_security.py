@@ -15,7 +15,7 @@ import time
 import unittest
 from unittest import mock
 
-from share.admission.judge import rank
+from share.admission.chains import rank
 from share.format.entry import MOST_BYTES, Author, Entry, Form
 from share.format.heartbeat import OF_BEFORE
 from share.format.link import Link, read_link
@@ -40,7 +40,7 @@ import json, os, pathlib, re, sys, time
 from share.format import link
 from share.store import notes
 from share.sync.session import Session
-session = Session(notes.opened("note", None, link.read(os.environ["VIALSHOAL_LINK"])))
+session = Session(notes.open_note("note", None, link.read(os.environ["VIALSHOAL_LINK"])))
 end = time.monotonic() + 120
 told = []
 while time.monotonic() < end and not (session.text() == b"one two " and (told or sys.argv[1] == "quiet")):
@@ -169,7 +169,7 @@ class Operators(Shared):
         self.assertIn(token, seen[0])
         key = self.about.secret
         with contextlib.closing(self.ann.disk()) as disk:
-            secrets = [one.author.secret[:32] for one in disk.clients()]
+            secrets = [one.author.secret[:32] for one in disk.own.clients()]
         unseen = [b"marzipan", b"marz", b"gooseberry", b"one ", b"OT\1", token + bytes(4), token + bytes(3),
                   OF_BEFORE.pack(token, 0), key, key.hex().encode(), base64.urlsafe_b64encode(key)[:20], *secrets]
         for one in unseen:
@@ -201,7 +201,7 @@ class Operators(Shared):
     def of_ann(self) -> list[bytes]:
         """The entries on Ann's disk."""
         with contextlib.closing(self.ann.disk()) as disk:
-            return [row.entry.raw for row in disk.rows()]
+            return [row.entry.raw for row in disk.entries.rows()]
 
     def test_an_operator_forges_nothing(self) -> None:
         forger = About(True, bytes(range(32))).form()
@@ -329,7 +329,7 @@ class Peers(Shared):
     def claim_of_ann(self, site: int) -> Entry:
         """The claim with which Ann got a number."""
         with contextlib.closing(self.ann.disk()) as disk:
-            (author,) = [one.author for one in disk.clients() if one.site == site]
+            (author,) = [one.author for one in disk.own.clients() if one.site == site]
         return self.form.claim(site, author)
 
     def test_claims_of_all_numbers_keep_a_newcomer_out(self) -> None:

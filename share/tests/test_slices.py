@@ -5,7 +5,7 @@ import random
 import unittest
 from unittest import mock
 
-from share.admission.ledger import Ledger, Line, Row
+from share.admission.ledger import Branch, Ledger, Row
 from share.format import chunk as chunks
 from share.format.chunk import MOST_CHUNK, Writer
 from share.format.entry import Kind, Plain
@@ -79,7 +79,7 @@ class Parts(unittest.TestCase):
         self.assertTrue(writer.add(far._replace(size=room, data=b"\1" * room)))
         claim, ledger = form.claim(9, author), Ledger(form)
         entry = form._made(Kind.CHUNK, 9, 1, 1 + room, claim.hash, author, b"", bytes(writer.data))
-        line = Line(ledger, 9)
+        line = Branch(ledger, 9)
         for one in claim, entry:
             line.add(ledger.add(Row(0, one, False), 0))
         coming, found = Coming(), list[Operation]()

@@ -5,7 +5,7 @@ import time
 from unittest import mock
 
 from share.format import link as links
-from share.log.base import open_log
+from share.log.opening import open_log
 from share.store import notes
 from share.tests.naive import entry_of, inserting
 from share.tests.support import Case, raws_of, wait_for, written

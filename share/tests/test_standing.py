@@ -4,10 +4,10 @@ import random
 import unittest
 
 from share.admission.judge import Judge
+from share.admission.ledger import Row
 from share.format.entry import Author, Copied, Copy, Entry, Plain
 from share.format.operation import Operation
-from share.admission.ledger import Row
-from share.store.note_file import Client
+from share.store.own import Client
 from share.sync.recovered import Recovered
 from share.sync.standing import Standing, in_stretches, said
 from share.tests.naive import entry_of, inserting

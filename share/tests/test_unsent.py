@@ -108,4 +108,4 @@ class InAFile(Case):
         text = self.assert_meet(self.opened(anna), other, berta)
         self.assertEqual(sorted(text.split()), sorted(f"begun berta other {''.join(words)}".encode().split()))
         with contextlib.closing(anna.disk()) as disk:
-            self.assertGreater(len(disk.rows()), self.EDITS)
+            self.assertGreater(len(disk.entries.rows()), self.EDITS)

@@ -11,7 +11,8 @@ from contextlib import closing
 from unittest import mock
 
 from share.format.entry import MOST_BYTES
-from share.log.base import START, Carried, Log, Lost, Unreachable, open_log
+from share.log.base import START, InLog, Log, LogLost, Unreachable
+from share.log.opening import open_log
 from share.tests.servers import Hostile, RedisServer, SocketServer, TlsServer
 from share.tests.test_logs import NOTE, Case, raw, raws
 from share.text.errors import Trouble
@@ -117,7 +118,7 @@ class HostileServers(Case):
     def ends_in_words(self, answer: bytes, *which: int) -> None:
         """That each call gives something of its type, or what is told, and those of these numbers the latter."""
         log = self.answering(answer)
-        with mock.patch("share.log.resp.ANSWER_SECONDS", 0.05):
+        with mock.patch("share.log.resp.REPLY_SECONDS", 0.05):
             for number, call in enumerate(self.calls(log)):
                 told = self.told(number, call)
                 if number in which:
@@ -127,7 +128,7 @@ class HostileServers(Case):
         """What a call tells, nothing where its value is of its type."""
         try:
             self.assert_is_right(number, call())
-        except (Unreachable, Trouble, Lost) as why:
+        except (Unreachable, Trouble, LogLost) as why:
             told = str(why)
             self.assertTrue(told.isprintable(), told)
             self.assertLess(len(told), 500)
@@ -169,7 +170,7 @@ class HostileServers(Case):
 
     def test_places_that_do_not_rise(self) -> None:
         right = self.reading(2, (b"1-1", b"x"), (b"1-2", None))
-        self.assertEqual(self.answering(right).read(START), [Carried("1-1/1", b"x"), Carried("1-2/2", None)])
+        self.assertEqual(self.answering(right).read(START), [InLog("1-1/1", b"x"), InLog("1-2/2", None)])
         for entries in (((b"1-2", b"x"), (b"1-1", b"x")), ((b"1-1", b"x"), (b"1-1", b"x")), ((b"0-0", b"x"),) * 2,
                         ((b"-1-1", b"x"),) * 2, ((b"\xff-1", b"x"),) * 2, ((b"", b"x"),) * 2,
                         ((b"1", b"x"), (b"2", b"x"))):
@@ -180,11 +181,11 @@ class HostileServers(Case):
         for size in (-1, 0, 2, 10**18):
             self.ends_in_words(self.reading(size, (b"1-1", b"x")), 1, 2)
         log = self.answering(self.reading(1, (b"1-1", bytes(MOST_BYTES + 1))))
-        self.assertEqual(log.read(START), [Carried("1-1/1", None)])
+        self.assertEqual(log.read(START), [InLog("1-1/1", None)])
 
     def test_a_slow_answer_has_an_end(self) -> None:
         log = self.answering(b"*")
-        with mock.patch("share.log.resp.ANSWER_SECONDS", 0.2):
+        with mock.patch("share.log.resp.REPLY_SECONDS", 0.2):
             begin = time.monotonic()
             with self.assertRaisesRegex(Unreachable, "in time"):
                 log.append([raw(1)])

@@ -8,7 +8,6 @@ judged as one set, what it types or says, and which files have it: `m` made ther
 """
 import contextlib
 import pathlib
-import sqlite3
 import sys
 from collections import defaultdict
 from typing import NamedTuple
@@ -16,7 +15,8 @@ from typing import NamedTuple
 from share.admission.judge import Judge
 from share.format.entry import Bad, Entry, Kind
 from share.format.operation import CHANGE_LOOKS, DELETE, INSERT, Operation
-from share.store.note_file import about_of, as_text
+from share.log.sqlite_file import SqliteFile
+from share.store.note_file import about_of
 
 ENTRIES = "SELECT hash, raw, made, offered, hash IN (SELECT hash FROM withdrawn) FROM entry ORDER BY place"
 
@@ -31,8 +31,7 @@ class File(NamedTuple):
 
 def file_of(path: pathlib.Path) -> File:
     """What a file has."""
-    with contextlib.closing(sqlite3.connect(path)) as file:
-        file.text_factory = as_text
+    with contextlib.closing(SqliteFile(path)) as file:
         form = about_of(file).form()
         rows = file.execute(ENTRIES).fetchall()
         own = set(file.execute("SELECT site, author FROM client"))

@@ -11,7 +11,7 @@ from collections.abc import Iterator, Sequence
 from share.editors.web import guard
 from share.editors.web.server import Page, listening, serve
 from share.engine.server import run_folder
-from share.store.note_file import make_folder
+from share.log.folder import make_folder
 
 # A browser that has a window of its own. One in the terminal would be of no use.
 WINDOWS = ("DISPLAY", "WAYLAND_DISPLAY", "BROWSER")

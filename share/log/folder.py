@@ -1,0 +1,35 @@
+"""Folders in which several processes make files and set them aside."""
+import contextlib
+import fcntl
+import os
+import pathlib
+from collections.abc import Iterator
+
+Inode = tuple[int, int]
+
+
+def inode_of(path: pathlib.Path | str | int) -> Inode | None:
+    """What tells a file from one that took its name; None where there is none."""
+    try:
+        found = os.stat(path)
+    except OSError:
+        return None
+    return found.st_dev, found.st_ino
+
+
+def make_folder(folder: pathlib.Path) -> None:
+    """Makes a folder, and those that it is in, which nobody else may look into."""
+    for one in [*reversed(folder.parents), folder]:
+        if not one.exists():
+            one.mkdir(mode=0o700, exist_ok=True)
+
+
+@contextlib.contextmanager
+def held(folder: pathlib.Path) -> Iterator[int]:
+    """Lets one process at a time make a file in a folder, or set one aside."""
+    file = os.open(folder, os.O_RDONLY | os.O_DIRECTORY | os.O_CLOEXEC)
+    try:
+        fcntl.flock(file, fcntl.LOCK_EX)
+        yield file
+    finally:
+        os.close(file)

@@ -1,0 +1,222 @@
+"""The entries of a note's file: all that came, whoever wrote it, and which of the own ones were withdrawn."""
+import contextlib
+import math
+import struct
+import zlib
+from collections.abc import Container, Iterable, Sequence
+from typing import NamedTuple
+
+from share.admission.ledger import Row
+from share.format.entry import CHUNKS, HEAD, MOST_AUTHOR_BYTES, NO_HASH, Bad, Entry, Form, Kind, digest
+from share.format.keystrokes import Keystrokes
+from share.store.guarded import GuardedFile
+
+ENTRIES_SCHEMA = """
+    CREATE TABLE entry (place INTEGER PRIMARY KEY AUTOINCREMENT, hash BLOB NOT NULL UNIQUE, raw BLOB NOT NULL,
+                        body BLOB, sum INTEGER NOT NULL, made INTEGER NOT NULL,
+                        offered INTEGER NOT NULL DEFAULT 0);
+    CREATE TABLE withdrawn (number INTEGER PRIMARY KEY AUTOINCREMENT, hash BLOB NOT NULL UNIQUE);
+"""
+ADD_ENTRY = "INSERT INTO entry (hash, raw, body, sum, made, offered) VALUES (?, ?, ?, ?, ?, ?) ON CONFLICT (hash) DO NOTHING"
+AFTER_PLACE = "SELECT place, hash, raw, body, sum, made FROM entry WHERE place > ? ORDER BY place LIMIT ?"
+AT_PLACE = "SELECT place, hash, raw, body, sum, made FROM entry WHERE place = ?"
+IN_SHORT = f"""SELECT place, hash, substr(raw, 1, {HEAD.size + MOST_AUTHOR_BYTES}), made, offered FROM entry
+               WHERE place > ? AND hash NOT IN (SELECT hash FROM withdrawn) ORDER BY place LIMIT ?"""
+OF_HASHES = "SELECT hash, place, made > offered FROM entry WHERE hash IN ({}) AND hash NOT IN (SELECT hash FROM withdrawn)"
+AFTER_HASHES = f"""SELECT place FROM entry WHERE substr(raw, {HEAD.size - len(NO_HASH) + 1}, {len(NO_HASH)}) IN ({{}})
+                   AND hash NOT IN (SELECT hash FROM withdrawn) LIMIT ?"""
+TAKEN_BACK = "SELECT number, place FROM withdrawn JOIN entry USING (hash) WHERE number > ? ORDER BY number"
+# What a log has after all counts, also where it was withdrawn here.
+BACK = ("DELETE FROM entry WHERE hash IN (SELECT hash FROM withdrawn WHERE hash = ?)",
+        "DELETE FROM withdrawn WHERE hash = ?")
+WITHDRAW = "INSERT OR IGNORE INTO withdrawn (hash) SELECT hash FROM entry WHERE hash = ? AND made AND NOT offered"
+OFFERED = "UPDATE entry SET offered = 1 WHERE place = ?"
+RAW_AT = "SELECT raw, hash FROM entry WHERE place = ? AND hash NOT IN (SELECT hash FROM withdrawn)"
+# Entries are read from the file in portions of this many, and asked for by no more hashes at once.
+ROWS_AT_ONCE, HASHES_AT_ONCE = 5_000, 500
+
+
+class Located(NamedTuple):
+    """Where an entry is in the file, its kind and author, whether this person made it here, and whether a log was
+    offered it."""
+
+    place: int
+    hash: bytes
+    kind: Kind
+    author: bytes
+    made: bool
+    offered: bool
+
+
+class Entries:
+    """The entries that a file has. What writes does so by itself, but for `put` and `restore`."""
+
+    def __init__(self, file: GuardedFile, form: Form, sealed: bool):
+        self._file, self._sql = file, file.sql
+        self._form, self._sealed = form, sealed
+        self._keystrokes = Keystrokes()
+        # How many were found damaged, and taken out.
+        self.damaged = 0
+
+    def size(self) -> int:
+        """How many there are."""
+        with self._file.reading():
+            return self._sql.one("SELECT count(*) FROM entry")
+
+    def many_of(self, known: Container[bytes]) -> int:
+        """How many of these entries the file has as they were written."""
+        with self._file.reading():
+            found = self._sql.execute("SELECT hash, raw, body, sum FROM entry")
+            return sum(of in known and isinstance(raw, bytes) and digest(raw) == of and zlib.crc32(body or b"") == check
+                       for of, raw, body, check in found)
+
+    def rows(self, after: int = 0, most: float = math.inf) -> list[Row]:
+        """The entries after a place, also those that were withdrawn; all, or the first ones, until they have this many bytes.
+        What the disk damaged is taken out: whoever has it brings it back."""
+        rows: list[Row] = []
+        with self._file.reading():
+            while True:
+                found = self._portion(after, most)
+                rows += [row for one in found if (row := self._row(*one))]
+                if len(found) < ROWS_AT_ONCE or most < math.inf:
+                    break
+                after = found[-1][0]
+        return rows
+
+    def rows_at(self, places: Iterable[int]) -> list[Row]:
+        """The entries at these places."""
+        with self._file.reading():
+            found = [self._sql.execute(AT_PLACE, (place,)).fetchone() for place in places]
+            return [row for one in found if one and (row := self._row(*one))]
+
+    def places(self, after: int = 0, most: int = -1) -> list[Located]:
+        """The places of the entries after one, without those that were withdrawn; all, or no more than this."""
+        with self._file.reading():
+            found = self._sql.execute(IN_SHORT, (after, most)).fetchall()
+        # What the disk damaged may have another type.
+        return [Located(place, of, self._form.kind(head), self._form.author(head), bool(made), bool(offered))
+                for place, of, head, made, offered in found if isinstance(head, bytes) and len(head) >= HEAD.size]
+
+    def places_of(self, hashes: Iterable[bytes]) -> dict[bytes, int]:
+        """The places of those of these entries that the file has and that weren't withdrawn."""
+        return {of: place for of, place, _ in self._of(hashes)}
+
+    def in_log(self, hashes: Iterable[bytes]) -> dict[bytes, int]:
+        """The same, of entries that a log has: it was offered them, though perhaps by a copy of this file."""
+        found = self._of(hashes)
+        if new := [(place,) for _, place, is_new in found if is_new]:
+            with self._file.writing():
+                self._sql.executemany(OFFERED, new)
+        return {of: place for of, place, _ in found}
+
+    def places_after(self, hashes: Sequence[bytes], most: int) -> list[int]:
+        """The places of the entries that name one of these as the one before them. The whole file is looked through."""
+        if not hashes:
+            return []
+        with self._file.reading():
+            return [place for place, in self._sql.execute(AFTER_HASHES.format(_marks(hashes)), (*hashes, most))]
+
+    def many_at(self, places: Sequence[int]) -> int:
+        """How many of these places have an entry."""
+        with self._file.reading():
+            return sum(self._sql.one("SELECT count(*) FROM entry WHERE place = ?", place) for place in places)
+
+    def last_place(self) -> int:
+        """The place of the last entry, within a transaction."""
+        return self._sql.one("SELECT coalesce(max(place), 0) FROM entry")
+
+    def taken_back(self, after: int) -> list[tuple[int, int]]:
+        """The numbers and the places of the entries that were withdrawn, after a number."""
+        with self._file.reading():
+            return self._sql.execute(TAKEN_BACK, (after,)).fetchall()
+
+    def withdrawn(self, after: int = 0) -> list[tuple[int, bytes]]:
+        """The hashes of the entries that were withdrawn, after a number, with their own."""
+        with self._file.reading():
+            return self._sql.execute("SELECT number, hash FROM withdrawn WHERE number > ?", (after,)).fetchall()
+
+    def put(self, entries: Sequence[Entry], made: bool) -> None:
+        """Adds entries, within a transaction."""
+        # What a log has counts, also where it was withdrawn here, and was made here all the same.
+        back = set() if made else self._taken_from_withdrawn(entries)
+        self._sql.executemany(ADD_ENTRY, [entry_values(entry, made or entry.hash in back, entry.hash in back, self._sealed)
+                                          for entry in entries])
+
+    def restore(self, rows: Iterable[Row], withdrawn: Iterable[bytes]) -> None:
+        """Puts back what the file lacks of these, within a transaction. A log may have been offered any of it."""
+        self._sql.executemany("INSERT OR IGNORE INTO withdrawn (hash) VALUES (?)", ((one,) for one in withdrawn))
+        self._sql.executemany(ADD_ENTRY, (entry_values(row.entry, row.made, True, self._sealed) for row in rows))
+
+    def withdraw(self, hashes: Iterable[bytes], in_log: Iterable[bytes] = ()) -> list[bytes]:
+        """Takes back those of these entries that no log was ever offered, and gives them. Those that are in the log
+        after all count as offered from now on."""
+        with self._file.writing():
+            self._sql.executemany("UPDATE entry SET offered = 1 WHERE hash = ?", ((one,) for one in in_log))
+            return [one for one in hashes if self._sql.execute(WITHDRAW, (one,)).rowcount]
+
+    def offer(self, places: Sequence[int]) -> list[bytes]:
+        """The bytes of the entries at these places, which are said to have been offered to a log from now on.
+        """
+        with self._file.writing():
+            self._sql.executemany(OFFERED, ((one,) for one in places))
+            found = [self._sql.execute(RAW_AT, (one,)).fetchone() for one in places]
+        # What the disk has damaged meanwhile isn't sent.
+        return [one[0] for one in found if one and isinstance(one[0], bytes) and digest(one[0]) == one[1]]
+
+    def _portion(self, after: int, most: float) -> list[tuple[int, bytes, bytes, bytes | None, int, int]]:
+        """The first of the entries after a place, as the file has them."""
+        found, size = [], 0
+        with contextlib.closing(self._sql.execute(AFTER_PLACE, (after, ROWS_AT_ONCE))) as rows:
+            for one in rows:
+                found.append(one)
+                # What the disk damaged may have another type.
+                size += len(one[2]) if isinstance(one[2], bytes) else 0
+                if size >= most:
+                    break
+        return found
+
+    def _row(self, place: int, of: bytes, raw: bytes, body: bytes | None, check: int, made: int) -> Row | None:
+        try:
+            if digest(raw) == of and zlib.crc32(body or b"") == check:
+                entry = self._form.reopened(raw, self._form.body(raw) if body is None else body, of)
+                # A version that didn't know these has kept whatever came.
+                types_on = (entry.kind in CHUNKS or entry.kind is Kind.COPIES) and self._keystrokes.type_on(entry)
+                return Row(place, entry, bool(made), types_on)
+        except (TypeError, ValueError, struct.error, Bad):
+            pass
+        if isinstance(raw, bytes) and len(raw) >= HEAD.size and digest(raw) == of and self._form.kind(raw) is Kind.NEWER:
+            # A newer version may keep it in another way, too.
+            return None
+        with self._file.transaction():
+            self._sql.execute("DELETE FROM entry WHERE place = ?", (place,))
+        self.damaged += 1
+        return None
+
+    def _of(self, hashes: Iterable[bytes]) -> list[tuple[bytes, int, int]]:
+        wanted = [*hashes]
+        found: list[tuple[bytes, int, int]] = []
+        with self._file.reading():
+            for begin in range(0, len(wanted), HASHES_AT_ONCE):
+                some = wanted[begin:begin + HASHES_AT_ONCE]
+                found += self._sql.execute(OF_HASHES.format(_marks(some)), some)
+        return found
+
+    def _taken_from_withdrawn(self, entries: Sequence[Entry]) -> set[bytes]:
+        """Takes those of these entries out that were withdrawn, so that they can be put in once more; their hashes."""
+        if not self._sql.one("SELECT EXISTS (SELECT 1 FROM withdrawn)"):
+            return set()
+        back = {entry.hash for entry in entries
+                if self._sql.one("SELECT count(*) FROM withdrawn WHERE hash = ?", entry.hash)}
+        for statement in BACK:
+            self._sql.executemany(statement, ((of,) for of in back))
+        return back
+
+
+def entry_values(entry: Entry, made: bool, offered: bool, sealed: bool) -> tuple[object, ...]:
+    """An entry's row: a sealed one has its body unsealed beside it."""
+    body = entry.body if sealed else None
+    return entry.hash, entry.raw, body, zlib.crc32(body or b""), made, offered
+
+
+def _marks(values: Sequence[bytes]) -> str:
+    return ", ".join("?" * len(values))
