@@ -646,7 +646,7 @@ class WhatStandsForWhat(unittest.TestCase):
         FORM.salt = 0
         self.first, self.second, self.third, _ = AUTHORS
         self.claims = [FORM.claim(site, author) for site, author in zip(SITES, AUTHORS)]
-        some = [FORM.entry(self.claims[0], [inserting(1, 1, 1, None, 0, data)], self.first) for data in (b"ab", b"ba")]
+        some = [entry_of(FORM, self.claims[0], [inserting(1, 1, 1, None, 0, data)], self.first) for data in (b"ab", b"ba")]
         self.holds, self.lost = sorted(some, key=rank)
         (message,) = self.lost.messages
         self.letters = message.data
@@ -666,12 +666,12 @@ class WhatStandsForWhat(unittest.TestCase):
     def typed_by_second(self, *parts: bytes) -> Entry:
         """An entry in which another one types these."""
         starts = [sum(map(len, parts[:at])) for at in range(len(parts))]
-        return FORM.entry(self.claims[1], [inserting(2, seq, seq + 1, None, start, data)
-                                           for seq, (start, data) in enumerate(zip(starts, parts), 1)], self.second)
+        return entry_of(FORM, self.claims[1], [inserting(2, seq, seq + 1, None, start, data)
+                                               for seq, (start, data) in enumerate(zip(starts, parts), 1)], self.second)
 
     def test_the_last_entry_that_has_the_copies_may_come_last(self) -> None:
         begin = self.typed_by_second(self.letters)
-        last = FORM.entry(begin, [inserting(2, 2, 3, None, 2, b"more")], self.second)
+        last = entry_of(FORM, begin, [inserting(2, 2, 3, None, 2, b"more")], self.second)
         said = self.copies(1, of=last, by=self.second)
         for order in permutations([begin, last, said]):
             self.assertEqual(self.told_as_left_out(*order), [])
@@ -688,7 +688,7 @@ class WhatStandsForWhat(unittest.TestCase):
 
     def test_two_who_copied_it_do_not_make_one_that_is_no_copy(self) -> None:
         whole = self.typed_by_second(self.letters)
-        again = FORM.entry(self.claims[2], [inserting(3, 1, 2, None, 0, self.letters)], self.third)
+        again = entry_of(FORM, self.claims[2], [inserting(3, 1, 2, None, 0, self.letters)], self.third)
         said = [self.copies(1, of=of, by=by) for of, by in ((whole, self.second), (again, self.third))]
         self.assertEqual(self.told_as_left_out(whole, again, *said), [])
 

@@ -12,10 +12,10 @@ from unittest import mock
 from share.admission.judge import Judge
 from share.format.entry import Author, Plain, digest
 from share.program.process import Ended, Program
-from share.program.site import Site
+from share.program.site import PACKED_NAME, Site
 from share.store import snapshot
 from share.store.guarded import Unkept
-from share.store.snapshot import KEPT, LEFT, PACKED_FRONT
+from share.store.snapshot import LEFT, PACKED_FRONT
 from share.sync.session import Session
 from share.tests.naive import entry_of, inserting
 from share.tests.note import Note
@@ -89,7 +89,7 @@ class Packing(Case):
     def file(self) -> pathlib.Path:
         """The packed file."""
         path = self.ann.path()
-        return path.with_suffix(".packed") / str(self.number) / KEPT
+        return path.with_suffix(".packed") / str(self.number) / PACKED_NAME
 
     def shows(self, text: str, packed: bool) -> Note:
         """That the note shows a text, and whether it went on from the packed file; what is typed then stays."""
@@ -158,7 +158,7 @@ class Packing(Case):
         left = self.file().with_name(LEFT.replace("*", "3"))
         left.write_bytes(b"OTP1")
         self.closed("and more")
-        self.assertEqual([path.name for path in self.file().parent.iterdir()], [KEPT])
+        self.assertEqual([path.name for path in self.file().parent.iterdir()], [PACKED_NAME])
 
     def test_one_that_is_missing_or_damaged(self) -> None:
         right = self.file().read_bytes()
@@ -289,7 +289,7 @@ class Packing(Case):
         note.session.site._program.process.kill()
         type_at_the_end(note, "more ")
         note.session._pack(1)
-        self.assertFalse((pathlib.Path.cwd() / KEPT).exists())
+        self.assertFalse((pathlib.Path.cwd() / PACKED_NAME).exists())
         note.session.close()
         self.shows("begin more ", False)
         self.shows("begin more ", True)

@@ -8,7 +8,8 @@ import time
 from unittest import mock
 
 from share.admission.chains import rank
-from share.program.site import MOST_BYTES, Edited, Site
+from share.format.operation import MOST_INSERTED
+from share.program.site import Edited, Site
 from share.store.entries import Entries
 from share.store.guarded import Unkept
 from share.store.note_file import Disk, make_note
@@ -274,7 +275,7 @@ class Failing(Case):
             return real(site, *words)
 
         with mock.patch.object(Site, "_edit", edit):
-            note.type("x" * 3 * MOST_BYTES)
+            note.type("x" * 3 * MOST_INSERTED)
         self.assertIn("ended again", note.notice)
         self.assertEqual((bytes(note.text), note.session.text()), (b"one ", b"one "))
         written(note, "two ")
