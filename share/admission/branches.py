@@ -8,7 +8,7 @@ from collections.abc import Iterator, Mapping, Sequence
 from dataclasses import dataclass, field
 
 from share.format.entry import Entry
-from share.format.operation import Message
+from share.format.operation import Operation
 
 
 @dataclass(slots=True)
@@ -54,7 +54,7 @@ class Branches:
             last = branch.before
         return last
 
-    def message(self, last: bytes, seq: int) -> Message | None:
+    def message(self, last: bytes, seq: int) -> Operation | None:
         """The message of a seq of an entry or of those here to which it is chained."""
         for branch, end in self._down(last):
             at = bisect_left(branch.lasts, seq)

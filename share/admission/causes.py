@@ -15,8 +15,8 @@ from enum import Enum
 
 from share.admission.chain import Chain, last_of_others
 from share.admission.chains import Chains
-from share.format.chunk import Run
 from share.format.entry import digest
+from share.format.operation import Operation
 
 # A message's stamp may be this far above the greatest that was let through.
 LEAP = 2**20
@@ -38,7 +38,7 @@ class Causes:
     def __init__(self, chains: Chains):
         self._chains, self._ledger = chains, chains.ledger
 
-    def verdict(self, chain: Chain, run: Run, greatest: int) -> Verdict:
+    def verdict(self, chain: Chain, run: Operation, greatest: int) -> Verdict:
         """What becomes of a chain's next messages, where the greatest stamp is this."""
         if run.stamp <= chain.stamp or run.data and run.at != chain.length:
             return Verdict.WRONG
@@ -69,7 +69,7 @@ class Causes:
             needs[one.site] = min(begin, one.at), max(end, one.at + one.length)
         return {site: need for site, need in needs.items() if need[1] > self._chains.length(site)}
 
-    def built_on(self, runs: Sequence[Run]) -> bytes:
+    def built_on(self, runs: Sequence[Operation]) -> bytes:
         """What messages build on, all of which is let through; nothing where they mention no other site's characters."""
         last, by_site = last_of_others(runs), self._chains.by_site
         return digest(b"".join(by_site[site].inserter_of(last[site]) for site in sorted(last))) if last else b""

@@ -4,7 +4,7 @@ from bisect import bisect_right
 from collections.abc import Iterable, Sequence
 
 from share.admission.ledger import Ledger, Branch
-from share.format.chunk import Run
+from share.format.operation import Operation
 from share.text.names import Names
 
 
@@ -26,7 +26,7 @@ class Chain:
         self.front = self.length = self.stamp = 0
         # Which entry has the message that is next, its runs, and which of these it begins.
         self.at = self.run = 0
-        self._runs: Sequence[Run] | None = None
+        self._runs: Sequence[Operation] | None = None
         # How many bytes are kept of entries that aren't let through.
         self.pending = sum(map(self.branch.ledger.weight, self.branch.numbers))
         # Whether the next message is wrong.
@@ -44,13 +44,13 @@ class Chain:
         """The number of the entry that has the message that is next."""
         return self.branch.numbers[self.at]
 
-    def runs(self) -> Sequence[Run]:
+    def runs(self) -> Sequence[Operation]:
         """The messages of the entry that has the next one."""
         if self._runs is None:
             self._runs = self.branch.ledger.runs(self.number)
         return self._runs
 
-    def next(self) -> Run | None:
+    def next(self) -> Operation | None:
         """The messages that are next to be let through."""
         if self.ended:
             return None
@@ -62,7 +62,7 @@ class Chain:
             self.at, self._runs, self.run = self.at + 1, None, 0
         return None
 
-    def pass_on(self, run: Run, up_to: float) -> None:
+    def pass_on(self, run: Operation, up_to: float) -> None:
         """Lets the next messages through; with the last one of an entry also the next entries that type on after it, up to a
         stamp. These are right where it is."""
         while len(self._ends) <= self.at:
@@ -138,12 +138,12 @@ class Chain:
         return [*runs[0].mentions, *of_others(runs[1:])]
 
 
-def of_others(runs: Iterable[Run]) -> list[Names]:
+def of_others(runs: Iterable[Operation]) -> list[Names]:
     """The characters of other sites that messages mention."""
     return [names for run in runs for names in run.mentions if names.site != run.site]
 
 
-def last_of_others(runs: Iterable[Run]) -> dict[int, int]:
+def last_of_others(runs: Iterable[Operation]) -> dict[int, int]:
     """The offset of the last character that messages mention of each other site."""
     last: dict[int, int] = {}
     for names in of_others(runs):

@@ -16,7 +16,7 @@ from share.admission.outside import Unchained
 from share.admission.room import Room
 from share.admission.statements import Statements
 from share.format.entry import NO_HASH, Entry, Form, Kind
-from share.format.operation import Message
+from share.format.operation import Operation
 
 # What decides between two claims of a number, or two entries of a place: the smaller one holds.
 Rank = Callable[[Entry], bytes]
@@ -203,11 +203,11 @@ class Chains:
         at = chain.branch.at(number)
         return 0 if at is None else min(chain.front, chain.branch.lasts[at])
 
-    def message(self, site: int, seq: int) -> Message:
+    def message(self, site: int, seq: int) -> Operation:
         """A message of a site's chain."""
         return self.by_site[site].branch.message(seq)
 
-    def message_in(self, last: bytes, seq: int) -> Message | None:
+    def message_in(self, last: bytes, seq: int) -> Operation | None:
         """The message of a seq, of those of an entry or of those to which it is chained; None where it isn't here."""
         branches = self.outside.branches()
         if found := branches.message(last, seq):

@@ -5,7 +5,7 @@ from typing import NamedTuple, Protocol
 
 from share.admission.ledger import Who
 from share.format.entry import NO_HASH, Copy, Entry
-from share.format.operation import Message, typed
+from share.format.operation import Operation
 
 # The most messages that are looked at which stand for others by the word of somebody else than their author; and the most of what is
 # said of an author's messages, as somebody asks what stands beside one.
@@ -19,7 +19,7 @@ class Counting(Protocol):
         """How many messages of an author and site are let through that an entry has, or one to which it is chained; all where it
         isn't said which."""
 
-    def message(self, site: int, seq: int) -> Message:
+    def message(self, site: int, seq: int) -> Operation:
         """A message that is let through."""
 
     def is_chained(self, of: bytes, last: bytes) -> bool:
@@ -109,8 +109,8 @@ class Copies:
                 continue
             for seq in range(first, min(last, first + MOST_COPIES_BY_OTHERS) + 1) if one.by.seq else ():
                 by = one.by.seq + seq - one.seq
-                found.setdefault((seq, one.by.site, one.by.author), {})[by] = typed(counting.message(one.by.site, by))
+                found.setdefault((seq, one.by.site, one.by.author), {})[by] = counting.message(one.by.site, by).data
         for (seq, _, _), parts in found.items():
-            data = typed(entry.messages[seq - entry.first])
+            data = entry.messages[seq - entry.first].data
             if data and data in (b"".join(parts[by] for by in sorted(parts)), *parts.values()):
                 yield seq, seq

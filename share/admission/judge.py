@@ -20,10 +20,9 @@ from share.admission.ledger import Row, Who
 from share.admission.left_out import LeftOut, Uncounted
 from share.admission.passage import Passage
 from share.admission.statements import Statements
-from share.format.chunk import of_message
 from share.format.entry import CHUNKS, ONE_BY_ONE, Copy, Entry, Form, Kind
 from share.format.history import Messages
-from share.format.operation import Message
+from share.format.operation import Operation
 
 
 class Counted(NamedTuple):
@@ -195,11 +194,11 @@ class Judge:
         """Whether an entry lacks one before it."""
         return of in self._chains.outside and self._chains.outside.is_loose(of)
 
-    def message(self, site: int, seq: int) -> Message:
+    def message(self, site: int, seq: int) -> Operation:
         """A message that is let through."""
         return self._chains.message(site, seq)
 
-    def message_in(self, last: bytes, seq: int) -> Message | None:
+    def message_in(self, last: bytes, seq: int) -> Operation | None:
         """The message of a seq, of those of an entry or of those to which it is chained; None where it isn't here."""
         return self._chains.message_in(last, seq)
 
@@ -207,28 +206,28 @@ class Judge:
         """Whether the message of this author, site and seq is let through."""
         return 0 < seq <= self.front_of(author, site)
 
-    def is_let_through(self, message: Message) -> bool:
+    def is_let_through(self, message: Operation) -> bool:
         """Whether just this message of its place is let through."""
         return message.seq <= self.front(message.site) and self.message(message.site, message.seq) == message
 
-    def built_on(self, messages: Sequence[Message]) -> bytes:
+    def built_on(self, messages: Sequence[Operation]) -> bytes:
         """What messages build on, all of which is let through; nothing where they mention no other site's
         characters."""
         self._passage.let_through()
-        return self._passage.causes.built_on([*map(of_message, messages)])
+        return self._passage.causes.built_on(messages)
 
     # What is told of copies.
 
-    def copies_of(self, author: bytes, site: int, seq: int, suits: Callable[[Message], bool]) -> list[Copy]:
+    def copies_of(self, author: bytes, site: int, seq: int, suits: Callable[[Operation], bool]) -> list[Copy]:
         """The messages that stand for one of these that suits, as its author says, whether they count or not; that of the least
         number first. Another history of the number has another message of this seq."""
         return [copy for copy, _ in self._made_for(author, site, seq, suits)]
 
-    def is_made_anew(self, author: bytes, site: int, seq: int, suits: Callable[[Message], bool]) -> bool:
+    def is_made_anew(self, author: bytes, site: int, seq: int, suits: Callable[[Operation], bool]) -> bool:
         """Whether one of these counts."""
         return any(copy.seq <= self.front_up_to(*copy[:2], last) for copy, last in self._made_for(author, site, seq, suits))
 
-    def _made_for(self, author: bytes, site: int, seq: int, suits: Callable[[Message], bool]) -> list[tuple[Copy, bytes]]:
+    def _made_for(self, author: bytes, site: int, seq: int, suits: Callable[[Operation], bool]) -> list[tuple[Copy, bytes]]:
         return self.copies.of(author, site, seq, lambda last: (found := self.message_in(last, seq)) is not None and suits(found))
 
     def is_copied(self, entry: Entry, seq: int) -> bool:
@@ -238,7 +237,7 @@ class Judge:
 
     # What is told of all that came.
 
-    def wrong(self) -> list[Message]:
+    def wrong(self) -> list[Operation]:
         """The messages that are wrong, and with which what follows of their sites is left out."""
         chains = self._counted_chains()
         return [chains.message(site, chains.by_site[site].front + 1) for site in sorted(self._passage.ended)]

@@ -9,9 +9,8 @@ from bisect import bisect_left
 from collections.abc import Iterator, Sequence
 from typing import NamedTuple
 
-from share.format.chunk import Run
-from share.format.entry import CHUNKS, NO_HASH, SAY_WHAT_THEY_BUILD_ON, Entry, Form, Kind, messages_of, runs_of
-from share.format.operation import Message
+from share.format.entry import CHUNKS, NO_HASH, SAY_WHAT_THEY_BUILD_ON, Entry, Form, Kind, operations_of, operations_one_by_one
+from share.format.operation import Operation
 
 HASH_BYTES = 32
 # A site and an author.
@@ -138,18 +137,18 @@ class Ledger:
         """The chunk of an entry's messages, where it has them in one."""
         return self.spelled(number) if self._kinds[number] in CHUNKS else b""
 
-    def runs(self, number: int) -> Sequence[Run]:
+    def runs(self, number: int) -> Sequence[Operation]:
         """An entry's messages, those in one that are letters typed one after the other."""
-        return runs_of(Kind(self._kinds[number]), self.spelled(number))
+        return operations_of(Kind(self._kinds[number]), self.spelled(number))
 
     def typed(self, number: int) -> bytes:
         """The letters of an entry that types on."""
         end = self._ends[number]
         return bytes(self._kept[end - self._sizes[number]:end])
 
-    def messages(self, number: int) -> Sequence[Message]:
+    def messages(self, number: int) -> Sequence[Operation]:
         """An entry's messages."""
-        return messages_of(Kind(self._kinds[number]), self.spelled(number))
+        return operations_one_by_one(Kind(self._kinds[number]), self.spelled(number))
 
     def entry(self, number: int) -> Entry:
         """An entry as it was."""
@@ -246,17 +245,17 @@ class Branch:
         """The seq of an entry's first message."""
         return self.lasts[at - 1] + 1
 
-    def message(self, seq: int) -> Message:
+    def message(self, seq: int) -> Operation:
         """A message."""
         at = self.at_seq(seq)
         return self.ledger.messages(self.numbers[at])[seq - self.first(at)]
 
-    def between(self, begin: int, end: int) -> Iterator[Message]:
+    def between(self, begin: int, end: int) -> Iterator[Operation]:
         """The messages from one place to another; the first one has place 0."""
         for at, begins, ends in self._within(begin, end):
             yield from self.ledger.messages(self.numbers[at])[begins:ends]
 
-    def parts(self, begin: int, end: int) -> Iterator[tuple[bytes, Sequence[Run], int]]:
+    def parts(self, begin: int, end: int) -> Iterator[tuple[bytes, Sequence[Operation], int]]:
         """The same in parts: a chunk, or the runs where there is none of just these messages; and how many they are."""
         while begin < end:
             at = self.at_seq(begin + 1)
@@ -301,7 +300,7 @@ class Branch:
             begin, at = ends, at + 1
 
 
-def _runs_between(runs: Sequence[Run], begin: int, end: int) -> Iterator[Run]:
+def _runs_between(runs: Sequence[Operation], begin: int, end: int) -> Iterator[Operation]:
     """The messages of runs from one place to another."""
     at = 0
     for run in runs:

@@ -216,7 +216,7 @@ def not_copied(entry: Entry, begin: int, typed: int, copies: Copies, counting: C
         for first, last in copies.stretches(entry, counting):
             left = [part for begin, end in left for part in ((begin, min(end, first - 1)), (max(begin, last + 1), end))
                     if part[0] <= part[1]]
-    for run in entry.runs if left else ():
+    for run in entry.operations if left else ():
         for begin, end in left:
             first, last = max(begin, run.seq), min(end, run.seq + run.size - 1)
             if first <= last:

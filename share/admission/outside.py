@@ -72,7 +72,7 @@ class Unchained:
     def add(self, row: Row, is_loose: bool, stays: bool = False) -> None:
         """Adds an entry; what follows it lacks no more than it does."""
         entry = row.entry
-        typed = [(run.at + len(run.data), len(run.data)) for run in entry.runs if run.data] if entry.size else []
+        typed = [(run.at + len(run.data), len(run.data)) for run in entry.operations if run.data] if entry.size else []
         end = max((last for last, _ in typed), default=0)
         one = _One(row, end, sum(size for _, size in typed), is_loose, stays or row.made)
         self._kept[entry.hash] = one

@@ -10,8 +10,8 @@ from collections.abc import Sequence
 from share.admission.causes import LEAP, Causes, Verdict
 from share.admission.chain import Chain
 from share.admission.chains import Chains
-from share.format.chunk import Run
 from share.format.history import Messages, Part
+from share.format.operation import Operation
 
 # Letters that are typed on are let through together before those of others whose stamps are lower by no more than this.
 AHEAD = 100
@@ -134,7 +134,7 @@ class Passage:
                 if found := self._chains[other].next():
                     heapq.heappush(heads, (found.stamp, other))
 
-    def _pass_entry(self, site: int, woken: list[int], up_to: float) -> Run | None:
+    def _pass_entry(self, site: int, woken: list[int], up_to: float) -> Operation | None:
         """Lets the messages of a chain's next entry through, as far as they are right, and of those that type on after it, up to
         a stamp; the messages that are next where all were. What follows in an entry needs nothing else, unless a version of before
         wrote it."""
@@ -149,7 +149,7 @@ class Passage:
             run = chain.next()
         return run
 
-    def _pass_on(self, site: int, chain: Chain, run: Run, woken: list[int], up_to: float) -> None:
+    def _pass_on(self, site: int, chain: Chain, run: Operation, woken: list[int], up_to: float) -> None:
         """Lets a chain's next messages through, and wakes those that waited for them."""
         chain.pass_on(run, up_to)
         part = Part(chain.branch, run.seq - 1, chain.front)
@@ -181,7 +181,7 @@ class Passage:
             self.changes += 1
             woken.append(site)
 
-    def _block(self, site: int, chain: Chain, run: Run, verdict: Verdict) -> None:
+    def _block(self, site: int, chain: Chain, run: Operation, verdict: Verdict) -> None:
         """Notes for what a chain waits whose next messages can't be let through."""
         self.changes += 1
         if verdict is Verdict.WRONG:

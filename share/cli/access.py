@@ -35,7 +35,7 @@ def given_url(given: argparse.Namespace) -> str | None:
 def given_link(given: argparse.Namespace) -> Link | None:
     """The link, if one was given."""
     spelled = secret(given.link_file, "VIALSHOAL_LINK")
-    return links.read(spelled) if spelled else None
+    return links.read_link(spelled) if spelled else None
 
 
 def given_password(given: argparse.Namespace) -> str | None:
@@ -59,7 +59,7 @@ def given_or_asked_link(given: argparse.Namespace, name: str) -> Link | None:
         spelled = getpass.getpass("Link: ")
     except (EOFError, KeyboardInterrupt) as why:
         raise Trouble("No note was made.") from why
-    return links.read(spelled) if spelled.strip() else None
+    return links.read_link(spelled) if spelled.strip() else None
 
 
 def require_agreement(given: argparse.Namespace, name: str, link: Link | None) -> None:

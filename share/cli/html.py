@@ -3,7 +3,7 @@ import html
 
 from share.editors.terminal.keys import CONTROL, DOT
 from share.text.looks import COLOURS, Run, told
-from share.text.rope import shown, swapped
+from share.text.rope import readable, swapped
 
 TEMPLATE = """<!doctype html>
 <html lang="en">
@@ -33,7 +33,7 @@ def page(title: str, text: bytes, runs: list[Run]) -> str:
 
 
 def _escaped(data: bytes) -> str:
-    text = shown(swapped(data))
+    text = readable(swapped(data))
     return html.escape(CONTROL.sub(lambda found: found[0] if found[0] in "\n\t" else DOT, text))
 
 

@@ -14,7 +14,7 @@ from share.store import atomic, contents, nicknames, notes, read_only
 from share.store.contents import Contents
 from share.text.errors import Trouble, counted
 from share.text.line import Line
-from share.text.rope import shown, swapped
+from share.text.rope import readable, swapped
 
 # What was done, in words, where that isn't a word already.
 DONE = {"looked": "changed the looks of"}
@@ -27,7 +27,7 @@ MOST_QUOTED = 60
 def cat(given: argparse.Namespace) -> int:
     """Prints a note's text."""
     messages, missing, _ = _found_messages(given)
-    text = shown(swapped(_site_of(messages).text()))
+    text = readable(swapped(_site_of(messages).text()))
     if given.json:
         return print_json({"note": given.name, "text": text, "missing": missing}, missing)
     print_text(text)
@@ -59,7 +59,7 @@ def history(given: argparse.Namespace) -> int:
     replays = Replays()
     past = replays.past(messages, given.at)
     replays.close()
-    text = shown(swapped(past.text))
+    text = readable(swapped(past.text))
     if given.json:
         return print_json({"note": given.name, "at": given.at, "length": len(messages), "text": text,
                            "stretches": [_stretch(past.text, one) for one in past.wrote], "left_out": left_out}, missing)
@@ -133,11 +133,11 @@ def _listed(name: str, path: pathlib.Path) -> Line:
 def _text_of(messages: Messages, step: HistoryStep) -> str:
     """What a step typed."""
     data = b"".join(one.data for one in messages[step.begin:step.end] if one.kind == INSERT)
-    return shown(swapped(data))
+    return readable(swapped(data))
 
 
 def _stretch(text: bytes, one: Wrote) -> Line:
-    return {"site": one.site, "text": shown(swapped(text[one.begin:one.end]))}
+    return {"site": one.site, "text": readable(swapped(text[one.begin:one.end]))}
 
 
 def _quoted(text: str) -> str:

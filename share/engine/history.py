@@ -12,7 +12,7 @@ from share.program import replay
 from share.program.replay import Past, Replays, Wrote
 from share.sync.session import Session
 from share.text.line import Line
-from share.text.rope import Measured, shown, swapped
+from share.text.rope import Measured, readable, swapped
 
 # The most steps of a history that are given at once.
 MOST_STEPS = 10_000
@@ -60,7 +60,7 @@ class History:
 
         def as_line(found: tuple[Past, list[Wrote]]) -> Line:
             past, wrote = found
-            return {"at": at, "text": shown(swapped(past.text)), "stretches": self._authors.stretches(wrote)}
+            return {"at": at, "text": readable(swapped(past.text)), "stretches": self._authors.stretches(wrote)}
 
         self._answer_when_done(peer, request, work, as_line)
 

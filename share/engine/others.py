@@ -4,7 +4,7 @@ from collections.abc import Callable, Sequence
 from dataclasses import dataclass
 
 from share.format import presence
-from share.format.presence import FRONT, Place, Present
+from share.format.presence import AT_FRONT, NamedPlace, Present
 from share.program.site import Site
 from share.text.change import Change
 from share.text.line import Line
@@ -41,7 +41,7 @@ class OtherEditors:
         """Takes over what others say."""
         if said is not self._said:
             self._said = said
-            read = {one.editor: one for one in map(presence.read, said[:MOST_OTHERS]) if one}
+            read = {one.editor: one for one in map(presence.read_presence, said[:MOST_OTHERS]) if one}
             for token in self._others.keys() - read.keys():
                 del self._others[token]
             for token, one in read.items():
@@ -70,8 +70,8 @@ class OtherEditors:
         other.anchor = None if anchor is None else other.anchor if places[1] is None else places[1]
 
     @staticmethod
-    def _place(site: Site, one: Place | None) -> int | None:
-        if one is None or one == FRONT:
+    def _place(site: Site, one: NamedPlace | None) -> int | None:
+        if one is None or one == AT_FRONT:
             return None if one is None else 0
         found = site.where([Names(one[0], one[1], 1)])[0]
         return found[0].position + 1 if found else None

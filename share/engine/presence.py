@@ -8,7 +8,7 @@ from share.engine.editor import Peer
 from share.engine.others import OtherEditors
 from share.engine.shared_text import SharedText
 from share.format import presence
-from share.format.presence import FRONT, Place, Present
+from share.format.presence import AT_FRONT, NamedPlace, Present
 from share.sync.session import Session, Status
 from share.text.line import Line
 
@@ -42,12 +42,13 @@ class EditorPresence:
     def _says(self, peer: Peer, is_heard: bool) -> bytes:
         """What an editor says of itself; where its cursor is, if somebody is there to hear it."""
         cursor, anchor = (self._named_place(place) if is_heard else None for place in (peer.cursor, peer.anchor))
-        return presence.written(Present(self._session.token(), peer.token, self._session.number, peer.colour, cursor, anchor, peer.name))
+        return presence.presence_of(Present(self._session.token(), peer.token, self._session.number, peer.colour, cursor, anchor,
+                                            peer.name))
 
-    def _named_place(self, place: int | None) -> Place | None:
+    def _named_place(self, place: int | None) -> NamedPlace | None:
         """The character before a place, by its name."""
         if not place:
-            return None if place is None else FRONT
+            return None if place is None else AT_FRONT
         found = self._session.site.names(place - 1, min(place, self._text.measured.size))
         return (found[0].site, found[0].at) if found else None
 

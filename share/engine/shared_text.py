@@ -9,7 +9,7 @@ from share.sync.session import Session
 from share.text.change import Change
 from share.text.delta import Op, in_text, of_changes
 from share.text.names import Names
-from share.text.rope import Measured, Outside, Split, shown, swapped
+from share.text.rope import Measured, OutsideText, Split, readable, swapped
 from share.text.units import Units
 
 # What follows a change of the text; the names of what that brings may be known.
@@ -30,7 +30,7 @@ class SharedText:
         """The place in bytes of a position in an editor's text."""
         try:
             return self.measured.place(peer.transformer.position(position), peer.transformer.units)
-        except Outside as why:
+        except OutsideText as why:
             raise Wrong("outside", f"Position {position} is outside the text.") from why
         except Split as why:
             raise Wrong("split", f"Position {position} is inside a character.") from why
@@ -41,7 +41,7 @@ class SharedText:
         try:
             return [Change(place(begin, units), place(end, units), swapped(units.decode(data).encode()))
                     for begin, end, data in reversed(in_text(op, units))]
-        except Outside as why:
+        except OutsideText as why:
             raise Wrong("outside", str(why)) from why
         except Split as why:
             raise Wrong("split", str(why)) from why
@@ -108,7 +108,7 @@ class SharedText:
     def _in_units(self, whole: Change, units: Units) -> tuple[int, int, bytes]:
         """A change of whole characters as editors that count in these units make it."""
         begin, end = self.measured.position(whole.begin, units), self.measured.position(whole.end, units)
-        return begin, end, units.encode(shown(swapped(whole.new)))
+        return begin, end, units.encode(readable(swapped(whole.new)))
 
     def _move(self, one: Change, names: list[Names] | None) -> None:
         """Moves all places along with a change."""

@@ -457,7 +457,7 @@ class _ChunkReader:
         return self._data[self._at - count:self._at]
 
 
-# OLD NAMES
+# As admission and sync call these.
 Run = Operation
 runs = unpacked
 

@@ -87,7 +87,7 @@ NOT_UNDER_A_NUMBER = (Kind.CLAIM, *SAY_WHAT_BECAME)
 # The most bytes that are said of a renewed note.
 LONGEST_SAID = 200
 # The hashes of the entries that were made, or came, last: of this many bytes of them.
-MOST_HASHED = 2**19
+MOST_HASHED = 2**17
 _hashes = Latest[bytes](MOST_HASHED)
 
 
@@ -160,7 +160,7 @@ class Entry(NamedTuple):
 
     @property
     def runs(self) -> tuple[Operation, ...]:
-        """OLD NAME."""
+        """The same, as admission calls it."""
         return self.operations
 
     @property
@@ -463,5 +463,5 @@ def _check_messages(entry: Entry) -> None:
         raise Bad("doesn't have as many messages as it says")
 
 
-# OLD NAMES
+# As admission and sync call these.
 messages_of, runs_of, in_entries = operations_one_by_one, operations_of, chunk.packed_in_parts

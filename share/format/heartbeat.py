@@ -54,14 +54,14 @@ def is_of_now(token: bytes) -> bool:
     return not any(token[RANDOM_BYTES:])
 
 
-def written(one: Said) -> bytes:
+def heartbeat_of(one: Said) -> bytes:
     """What a replicator says, as bytes."""
     lacks = b"".join(LACK.pack(*lack) for lack in one.lacks[:MOST_LACKS])
     # Of one length, so that a server's operator can't tell who lacks something.
     return (SAID_HEAD.pack(one.token, one.number, one.asks) + lacks).ljust(BYTES, b"\0")
 
 
-def read(data: bytes) -> Said | None:
+def read_heartbeat(data: bytes) -> Said | None:
     """What a replicator has said; None where these bytes are something else."""
     if len(data) != BYTES:
         return None

@@ -44,7 +44,7 @@ class Link(NamedTuple):
         return f"vialshoal:1:{self.form[0]}:{checked.rstrip(b'=').decode()}@{self.url}"
 
 
-def read(text: str) -> Link:
+def read_link(text: str) -> Link:
     """The link that is spelled so, with space around it or none."""
     found = LINK.fullmatch(text.strip())
     if not found:

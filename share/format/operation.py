@@ -168,7 +168,7 @@ def _ranges(message: bytes, begin: int) -> tuple[Names, ...]:
     return found
 
 
-# OLD NAMES
+# As admission and sync call these.
 Message = Operation
 
 

@@ -26,8 +26,8 @@ HAS_CURSOR, HAS_ANCHOR = 1, 2
 # Zeros, which a token of versions of before doesn't have there, and the count.
 COUNT = struct.Struct(">II")
 # The site and the offset of a character.
-Place = tuple[int, int]
-FRONT: Place = (0, 0)
+NamedPlace = tuple[int, int]
+AT_FRONT: NamedPlace = (0, 0)
 
 
 class Present(NamedTuple):
@@ -37,21 +37,21 @@ class Present(NamedTuple):
     editor: bytes
     site: int
     colour: str
-    cursor: Place | None
-    anchor: Place | None
+    cursor: NamedPlace | None
+    anchor: NamedPlace | None
     name: str
 
 
-def written(one: Present) -> bytes:
+def presence_of(one: Present) -> bytes:
     """What an editor says, as bytes."""
     flags = (one.cursor is not None) * HAS_CURSOR | (one.anchor is not None) * HAS_ANCHOR
-    head = FORM.pack(one.engine, one.editor, one.site, bytes.fromhex(one.colour[1:]), flags, *(one.cursor or FRONT),
-                     *(one.anchor or FRONT))
+    head = FORM.pack(one.engine, one.editor, one.site, bytes.fromhex(one.colour[1:]), flags, *(one.cursor or AT_FRONT),
+                     *(one.anchor or AT_FRONT))
     # Of one length, so that a server's operator can't tell people by the lengths of their names.
     return head + one.name.encode("utf-8", "ignore")[:MOST_NAME_BYTES].ljust(MOST_NAME_BYTES, b"\0")
 
 
-def read(data: bytes) -> Present | None:
+def read_presence(data: bytes) -> Present | None:
     """What an editor has said; None where these bytes are something else."""
     if not FORM.size <= len(data) <= FORM.size + MOST_NAME_BYTES:
         return None
@@ -67,10 +67,10 @@ def clean_name(name: str) -> str:
     return _NO_NAME.sub("", name).strip()[:MOST_NAME]
 
 
-def _is_place(place: Place) -> bool:
-    return place == FRONT or place[0] > 0 and place[1] < 2**24
+def _is_place(place: NamedPlace) -> bool:
+    return place == AT_FRONT or place[0] > 0 and place[1] < 2**24
 
 
-def counted(data: bytes, count: int) -> bytes:
+def with_count(data: bytes, count: int) -> bytes:
     """What an editor says, with a count."""
     return data[:RANDOM_BYTES] + COUNT.pack(0, count) + data[TOKEN_BYTES:]

@@ -7,7 +7,7 @@ from typing import NamedTuple
 
 # The seconds between two looks at a process that is waited for, and the number of looks in a row that find it still before it is
 # given up.
-LOOK_AGAIN_SECONDS = 0.5
+BETWEEN_LOOKS_SECONDS = 0.5
 MOST_STILL = 4
 # The seconds of a processor after which one that works is given up.
 MOST_WORKING_SECONDS = 30

@@ -11,7 +11,7 @@ import time
 from collections.abc import Callable
 
 from share.format.operation import TEXT
-from share.program.patience import LOOK_AGAIN_SECONDS, Patience
+from share.program.patience import BETWEEN_LOOKS_SECONDS, Patience
 from share.text.errors import Trouble
 
 # Not resolved: where it is installed a link leads to the version of the moment.
@@ -26,7 +26,7 @@ NOTHING_BUILT = "Nothing is built here. Run bin/site_cli < demo/two-sites.script
 MOST_LINES_READ = 2**20
 PIPE = 1 << 20
 F_SETPIPE_SZ = 1031
-END_SECONDS = 1
+LAST_WAIT_SECONDS = 1
 # In a clock's number: that it is a process's processor time.
 CLOCK_OF_A_PROCESS = 2
 # The lines of an answer that others follow.
@@ -108,7 +108,7 @@ class Program:
         part: list[bytes] = []
         patience = Patience(self.process.pid)
         while len(answers) < len(events):
-            read, write, _ = select.select([self._out], [self._in] if script else [], [], LOOK_AGAIN_SECONDS)
+            read, write, _ = select.select([self._out], [self._in] if script else [], [], BETWEEN_LOOKS_SECONDS)
             if not (read or write):
                 self._wait(patience)
                 continue
@@ -170,7 +170,7 @@ class Program:
             if pipe:
                 pipe.close()
         try:
-            self.process.wait(END_SECONDS)
+            self.process.wait(LAST_WAIT_SECONDS)
         except subprocess.TimeoutExpired:
             self.process.kill()
             self.process.wait()

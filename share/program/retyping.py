@@ -25,7 +25,7 @@ from share.text.line import Line
 from share.text.looks import DEFAULT, Dressed, Looks, dressed
 from share.text.names import Name, Names, united, without
 from share.text.rope import swapped
-from share.text.rope import shown as as_text
+from share.text.rope import readable as as_text
 
 # A number may have been claimed, or a place taken, by several that lost: so often what was left out is looked at anew.
 MOST_VIEWS = 8

@@ -81,7 +81,7 @@ def do(site: Site, step: Step, redo: bool, told: list[Told], changed: Step) -> E
         if edited.refused is not None:
             return Edited(messages, edited.refused)
     changed.looked = _to_look(site, step.looked, redo)
-    edited = one_by_one(site.look(*one) for one in _by_looks(changed.looked, redo).items())
+    edited = one_by_one(site.look(*one) for one in _names_by_looks(changed.looked, redo).items())
     return Edited(messages + edited.messages, edited.refused)
 
 
@@ -116,7 +116,7 @@ def _to_look(site: Site, looked: list[Looked], redo: bool) -> list[Looked]:
     return found
 
 
-def _by_looks(looked: list[Looked], redo: bool) -> dict[Looks, list[Names]]:
+def _names_by_looks(looked: list[Looked], redo: bool) -> dict[Looks, list[Names]]:
     """The names that are to be given looks, by these."""
     found: dict[Looks, list[Names]] = {}
     for names, was, became in looked:

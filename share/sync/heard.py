@@ -10,8 +10,8 @@ from collections.abc import Iterable, Sequence
 from enum import IntEnum
 from typing import NamedTuple
 
-from share.format.heartbeat import OF_BEFORE, Lack, Said, is_of_now, read
-from share.format.presence import COUNT, FORM, MOST_NAME_BYTES, RANDOM_BYTES, TOKEN_BYTES, counted
+from share.format.heartbeat import OF_BEFORE, Lack, Said, is_of_now, read_heartbeat
+from share.format.presence import COUNT, FORM, MOST_NAME_BYTES, RANDOM_BYTES, TOKEN_BYTES, with_count
 from share.log.base import ON_SECONDS
 
 # The most tokens that are remembered; the one that was silent longest is forgotten first.
@@ -70,7 +70,7 @@ class Others:
         on: set[bytes] = set()
         asked = Asked([], False)
         for data in said:
-            if one := read(data):
+            if one := read_heartbeat(data):
                 asked.lacks.extend(self._heard(one, on))
             elif len(data) == OF_BEFORE.size:
                 token, asks = OF_BEFORE.unpack(data)
@@ -109,4 +109,4 @@ class Shows:
             if is_new or token not in now and self._now.get(token) == data and self._voices.is_on(token):
                 now[token] = data
         self._now = now
-        return [data if COUNT.unpack_from(data, RANDOM_BYTES)[0] else counted(data, 0) for data in now.values()]
+        return [data if COUNT.unpack_from(data, RANDOM_BYTES)[0] else with_count(data, 0) for data in now.values()]

@@ -61,7 +61,7 @@ class Meeting:
         """Says that this one is on, and what it lacks; hears who else is, and what they lack."""
         self._ask_for_more()
         mine = Said(self._token, next(self._counts), self._asks, self._lacks)
-        log.meet(self._token[:RANDOM_BYTES] + ASKING, self._form.presence(heartbeat.written(mine)))
+        log.meet(self._token[:RANDOM_BYTES] + ASKING, self._form.presence(heartbeat.heartbeat_of(mine)))
         said = log.meet(self._token, self._form.presence(OF_BEFORE.pack(self._token, self._asks)))
         asked = self._others.heard(found for raw in said if (found := self._form.present(raw)))
         for one in asked.lacks[:MOST_WANTED - len(self._wanted)]:

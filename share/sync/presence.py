@@ -64,7 +64,7 @@ class Presence:
             del self._said[token]
         news = [token for token in shows if token not in self._said or self._said[token][1] != shows[token]]
         for token in news or sorted(shows, key=lambda token: self._said[token][0])[:1]:
-            mine = presence.counted(shows[token], next(self._counts))
+            mine = presence.with_count(shows[token], next(self._counts))
             self._hear(log.meet(token, self._form.presence(mine)))
             self._said[token] = time.monotonic(), shows[token]
 

@@ -55,7 +55,7 @@ class Person:
     def open(self, name: str = "note", url: str | None = None, link: str | None = None) -> Note:
         """A note, as an editor has it open."""
         with self.here():
-            return Note(Session(notes.open_note(name, url, links.read(link) if link else None)))
+            return Note(Session(notes.open_note(name, url, links.read_link(link) if link else None)))
 
     def link(self, name: str = "note") -> str:
         """A note's link."""

@@ -277,14 +277,14 @@ class Company(Engines):
         chance = random.Random(5)
         for _ in range(3_000):
             data = bytearray(chance.randbytes(chance.choice((0, 20, 49, 50, 60, 210, 211))))
-            if (found := presence.read(bytes(data))):
+            if (found := presence.read_presence(bytes(data))):
                 self.assertLessEqual(len(found.name), 40)
                 self.assertTrue(found.name.isprintable() or not found.name.isascii())
-                again = presence.read(presence.written(found))
+                again = presence.read_presence(presence.presence_of(found))
                 assert again
                 self.assertEqual(again._replace(name=""), found._replace(name=""))
         long = presence.Present(bytes(16), bytes(16), 7, "#000000", (0, 0), None, "🎉" * 40)
-        self.assertEqual(presence.read(presence.written(long)), long)
+        self.assertEqual(presence.read_presence(presence.presence_of(long)), long)
 
 
 if __name__ == "__main__":

@@ -17,7 +17,7 @@ from share.engine import server as serving
 from share.engine.engine import Engine
 from share.engine.transform import Transformer
 from share.format import link as links
-from share.format.presence import Present, written
+from share.format.presence import Present, presence_of
 from share.program.process import Ended, Program
 from share.program.replay import Wrote, in_units
 from share.store import notes
@@ -196,7 +196,7 @@ class Here(Case):
         first.edit([(0, 0, "mine")])
         self.meet()
         number = self.session().number
-        said = [written(Present(bytes(16), bytes([site % 256] * 16), site, "#000000", None, None, "Mallory"))
+        said = [presence_of(Present(bytes(16), bytes([site % 256] * 16), site, "#000000", None, None, "Mallory"))
                 for site in (number, number % 65_000 + 1)]
         with mock.patch.object(self.engine.session, "show", lambda shows: said):
             self.meet()
@@ -250,7 +250,7 @@ class Apart(Engines):
         first = self.editor("bo", link=link, opens=False)
         wait_for((self.folder / "bo" / "run" / "note.sock").exists, "an engine")
         with self.person("bo").here(), ThreadPoolExecutor(1) as threads:
-            agrees = threads.submit(serving.agree_with_engine, "note", None, links.read(link))
+            agrees = threads.submit(serving.agree_with_engine, "note", None, links.read_link(link))
             with self.assertRaises(FutureTimeout):
                 # The other one isn't refused, though the note isn't here yet.
                 agrees.result(0.5)

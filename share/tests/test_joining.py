@@ -90,7 +90,7 @@ class Joining(Case):
 
         begin = time.monotonic()
         with person.here(), mock.patch.object(Program, "ask", counting):
-            disk = notes.open_note("note", None, links.read(link) if link else None)
+            disk = notes.open_note("note", None, links.read_link(link) if link else None)
             note = Note(Session(disk, None, lambda done, total: steps.append((done, total))))
             end = begin + PATIENCE
             while bytes(note.text) != text and time.monotonic() < end:

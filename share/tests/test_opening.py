@@ -11,7 +11,7 @@ import tarfile
 import unittest
 from collections.abc import Callable
 
-from share.format.link import read
+from share.format.link import read_link
 from share.store import notes
 from share.store.guarded import Unkept
 from share.sync.session import Session
@@ -81,7 +81,7 @@ class Links(Opening):
         shutil.rmtree(self.folder / "shared")
         run = self.run_as(ann, "link", "note")
         self.assert_ends(run, "vialshoal:1:p:")
-        self.assertEqual(read(run.stdout).url, self.file_log())
+        self.assertEqual(read_link(run.stdout).url, self.file_log())
 
     def test_a_note_without_a_log_has_none(self) -> None:
         self.assert_says(self.run_as(self.made("ann"), "link", "note"), "on this machine alone", "bin/note renew note")
@@ -163,7 +163,7 @@ class Moved(Opening):
         written(note, "two ")
         with contextlib.closing(ann.log()) as log:
             self.assertEqual(len(raws_of(log)), 3)
-        self.assertEqual(read(ann.link()).url, moved)
+        self.assertEqual(read_link(ann.link()).url, moved)
         bob = self.opened(self.person("bob"), link=ann.link())
         self.assertEqual(self.assert_meet(note, bob), b"one two ")
 
@@ -185,7 +185,7 @@ class Moved(Opening):
         server = self.redis()
         with ann.here(), self.assertRaisesRegex(Trouble, "isn't sealed.*bin/note renew note --log redis"):
             notes.open_note("note", server.url, None)
-        self.assertEqual(read(ann.link()).url, self.file_log())
+        self.assertEqual(read_link(ann.link()).url, self.file_log())
 
 
 class Renewed(Opening):

@@ -26,12 +26,12 @@ LACK = Lack(Way.IT, bytes(range(32)))
 
 def said(number: int, asks: int, *lacks: Lack, token: bytes = OTHER) -> bytes:
     """What a replicator says."""
-    return heartbeat.written(Said(token, number, asks, lacks))
+    return heartbeat.heartbeat_of(Said(token, number, asks, lacks))
 
 
 def present(data: bytes) -> presence.Present:
     """Who is on, as it was said."""
-    found = presence.read(data)
+    found = presence.read_presence(data)
     assert found
     return found
 
@@ -41,16 +41,16 @@ class Words(unittest.TestCase):
 
     def test_what_is_written_is_read(self) -> None:
         one = Said(OTHER, 7, 3, [LACK, Lack(Way.AFTER, bytes(32))])
-        self.assertEqual(heartbeat.read(heartbeat.written(one)), one)
-        many = heartbeat.written(one._replace(lacks=[LACK] * 20))
-        self.assertEqual(len(many), len(heartbeat.written(one)))
+        self.assertEqual(heartbeat.read_heartbeat(heartbeat.heartbeat_of(one)), one)
+        many = heartbeat.heartbeat_of(one._replace(lacks=[LACK] * 20))
+        self.assertEqual(len(many), len(heartbeat.heartbeat_of(one)))
         self.assertEqual(len(many) + NONCE_BYTES + TAG_BYTES, MOST_PRESENCE)
         # Versions of before pass it over: it isn't their own word, nor a cursor.
         self.assertNotEqual(len(many), OF_BEFORE.size)
-        self.assertIsNone(presence.read(many))
+        self.assertIsNone(presence.read_presence(many))
         for wrong in b"", many[1:], many + b"\0":
-            self.assertIsNone(heartbeat.read(wrong))
-        self.assertEqual(heartbeat.read(bytes([255]) * heartbeat.BYTES), Said(b"\xff" * 16, 2**32 - 1, 2**32 - 1, []))
+            self.assertIsNone(heartbeat.read_heartbeat(wrong))
+        self.assertEqual(heartbeat.read_heartbeat(bytes([255]) * heartbeat.BYTES), Said(b"\xff" * 16, 2**32 - 1, 2**32 - 1, []))
 
     def test_only_what_is_greater_is_heard(self) -> None:
         voices = Voices()
@@ -94,21 +94,21 @@ class Words(unittest.TestCase):
 
     def test_cursors_of_before(self) -> None:
         shows, editor = Shows(ME), secrets.token_bytes(16)
-        one, two = (presence.written(Present(OTHER, editor, 7, "#000000", (0, 0), anchor, "Bo"))
+        one, two = (presence.presence_of(Present(OTHER, editor, 7, "#000000", (0, 0), anchor, "Bo"))
                     for anchor in (None, (0, 0)))
-        self.assertEqual(shows.heard([presence.counted(one, 1), presence.counted(one, 1)]), [one])
-        self.assertEqual(shows.heard([presence.counted(two, 2), presence.counted(one, 1)]), [two])
-        self.assertEqual(shows.heard([presence.counted(one, 1), presence.counted(two, 2)]), [two])
+        self.assertEqual(shows.heard([presence.with_count(one, 1), presence.with_count(one, 1)]), [one])
+        self.assertEqual(shows.heard([presence.with_count(two, 2), presence.with_count(one, 1)]), [two])
+        self.assertEqual(shows.heard([presence.with_count(one, 1), presence.with_count(two, 2)]), [two])
         self.assertEqual(shows.heard([]), [])
-        for gone in [presence.counted(two, 2)], [presence.counted(one, 1)]:
+        for gone in [presence.with_count(two, 2)], [presence.with_count(one, 1)]:
             self.assertEqual(shows.heard(gone), [])
-        self.assertEqual(shows.heard([presence.counted(one, 3)]), [one])
-        own = presence.written(Present(ME, editor, 7, "#000000", None, None, ""))
-        self.assertEqual(shows.heard([presence.counted(own, 9), b"", bytes(49), bytes(211)]), [])
+        self.assertEqual(shows.heard([presence.with_count(one, 3)]), [one])
+        own = presence.presence_of(Present(ME, editor, 7, "#000000", None, None, ""))
+        self.assertEqual(shows.heard([presence.with_count(own, 9), b"", bytes(49), bytes(211)]), [])
         # A version of before has a token that doesn't end so, and no count.
         older = one[:8] + bytes(range(1, 9)) + one[16:]
         self.assertEqual([shows.heard([older]), shows.heard([]), shows.heard([older])], [[older], [], [older]])
-        self.assertEqual(present(presence.counted(one, 2**32 - 1))._replace(engine=OTHER), presence.read(one))
+        self.assertEqual(present(presence.with_count(one, 2**32 - 1))._replace(engine=OTHER), presence.read_presence(one))
 
 
 class OnAServer(Case):
@@ -196,15 +196,15 @@ class OnAServer(Case):
         token, raws = secrets.token_bytes(16), list[bytes]()
 
         for at in 1, 2:
-            data = presence.written(Present(bob.session.token(), token, bob.session.number, "#000000", (1, at), None, ""))
-            self.ann.session.show({b"ann": presence.written(Present(self.ann.session.token(), bytes(16), 7, "#000000", None,
-                                                                    None, "Ann"))})
+            data = presence.presence_of(Present(bob.session.token(), token, bob.session.number, "#000000", (1, at), None, ""))
+            shown = Present(self.ann.session.token(), bytes(16), 7, "#000000", None, None, "Ann")
+            self.ann.session.show({b"ann": presence.presence_of(shown)})
             bob.session.show({token: data})
             wait_for(lambda at=at: [present(one).cursor for one in self.ann.session._replicator.shown()
                                     ] == [(1, at)], "the cursor to be shown", SOON)
             with contextlib.closing(self.person("ann").log()) as log:
                 raws += [raw for raw in log.meet(b"me", b"") if (found := self.form.present(raw))
-                         and (one := presence.read(found)) and one.editor == token]
+                         and (one := presence.read_presence(found)) and one.editor == token]
         for under, raw in zip((b"a", b"z"), raws):
             self.puts(under, raw)
         self.hears(Presence)

@@ -69,7 +69,8 @@ class Here:
     def __init__(self, person: Person, url: str | None = None, link: str | None = None):
         self._person = person
         with person.here():
-            self.engine = Engine("note", lambda: Session(notes.open_note("note", url, links.read(link) if link else None)), lambda: None)
+            given = links.read_link(link) if link else None
+            self.engine = Engine("note", lambda: Session(notes.open_note("note", url, given)), lambda: None)
             self._sent: list[bytes] = []
             self._peer = self.engine.joined(self._sent.append, lambda: 0)
             self.engine.take(self._peer, [json.dumps({"do": "open", "protocol": 1, "units": ["utf-8"], "looks": True}).encode()])

@@ -194,8 +194,8 @@ class Links(unittest.TestCase):
         for one in (self.sealed, Link("plain", bytes(16), "/home/a b/it's.db"),
                     Link("sealed", new_key(), "unix:///run/redis.sock"),
                     Link("sealed", new_key(), "rediss://[::1]:7000"), Link("sealed", new_key(), "/x@y.db")):
-            self.assertEqual(link.read(one.spelled()), one)
-            self.assertEqual(link.read(f" \n{one.spelled()}\r\n"), one)
+            self.assertEqual(link.read_link(one.spelled()), one)
+            self.assertEqual(link.read_link(f" \n{one.spelled()}\r\n"), one)
 
     def test_the_spelling_lasts(self) -> None:
         self.assertEqual(self.sealed.spelled(),
@@ -207,7 +207,7 @@ class Links(unittest.TestCase):
             for at in range(text.index("@")):
                 wrong = text[:at] + ("B" if text[at] != "B" else "C") + text[at + 1:]
                 with self.assertRaises(Trouble):
-                    link.read(wrong)
+                    link.read_link(wrong)
 
     def test_what_is_no_link_is_refused(self) -> None:
         text = self.sealed.spelled()
@@ -216,7 +216,7 @@ class Links(unittest.TestCase):
                       text.replace("@", "=@"), text + "\nx", text.replace("127", "u:p@127"), plain,
                       text.replace("redis://127.0.0.1:7000", "x.db"), text.replace("redis", "http")):
             with self.assertRaises(Trouble, msg=wrong):
-                link.read(wrong)
+                link.read_link(wrong)
 
     def test_urls_have_one_spelling(self) -> None:
         for given, url in {"redis://Host.example:07000/": "redis://host.example:7000",

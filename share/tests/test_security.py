@@ -18,7 +18,7 @@ from unittest import mock
 from share.admission.chains import rank
 from share.format.entry import MOST_BYTES, Author, Entry, Form
 from share.format.heartbeat import OF_BEFORE
-from share.format.link import Link, read
+from share.format.link import Link, read_link
 from share.format.operation import DELETE, Operation
 from share.store.note_file import About
 from share.tests.naive import about, entry_of, inserting
@@ -105,7 +105,7 @@ class Shared(Case):
         for words in "one ", "two ":
             written(self.note_of_ann, words)
         self.link = self.ann.link()
-        self.about = About(True, read(self.link).secret, self.server.url)
+        self.about = About(True, read_link(self.link).secret, self.server.url)
         self.form: Form = self.about.form()
 
     @property
@@ -419,7 +419,7 @@ class Accounts(Case):
         terminal.press(b"\n")
         wait_for(lambda: (terminal.read(), b"all sent" in terminal.shown)[1], "the editor")
         link = person.link()
-        secrets = [b"gooseberry", link.split(":")[3].split("@")[0].encode()[:20], read(link).secret]
+        secrets = [b"gooseberry", link.split(":")[3].split("@")[0].encode()[:20], read_link(link).secret]
         of_server = server.process.pid
         running = [path for path in pathlib.Path("/proc").glob("[0-9]*/cmdline") if path.parent.name != str(of_server)]
         for path in running:

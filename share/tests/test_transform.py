@@ -15,7 +15,7 @@ from share.text.change import Change, boundary
 from share.text.delta import Op, Replacement, composed, growth, in_text, in_turn, moved, of_changes, transformed
 from share.text.line import Line
 from share.text.names import Names, united, without
-from share.text.rope import Measured, Outside, Split, shown, swapped
+from share.text.rope import Measured, OutsideText, Split, readable, swapped
 from share.text.units import UNITS, Units
 
 LETTERS = "ab\n\ré漢🎉\ufffd"
@@ -192,15 +192,15 @@ class Parts(unittest.TestCase):
             self.assertEqual(whole, one)
         before = swapped(data)
         data = data[:begin] + new + data[end:]
-        self.assertEqual(shown(before[:whole.begin]) + shown(swapped(whole.new)) + shown(before[whole.end:]),
-                         shown(swapped(data)))
+        self.assertEqual(readable(before[:whole.begin]) + readable(swapped(whole.new)) + readable(before[whole.end:]),
+                         readable(swapped(data)))
         text.replace(whole)
-        self.assertEqual((text.as_note(), text.size, text.text()), (data, len(data), shown(swapped(data))))
+        self.assertEqual((text.as_note(), text.size, text.text()), (data, len(data), readable(swapped(data))))
         return data
 
     def places(self, text: Measured, data: bytes, chance: random.Random) -> None:
         """Looks at places of a text by each of the units."""
-        seen, kept = shown(data), data.decode("utf-8", "surrogateescape")
+        seen, kept = readable(data), data.decode("utf-8", "surrogateescape")
         for units in UNITS.values():
             ends = [units.count(units.encode(seen[:number])) for number in range(len(seen) + 1)]
             number = chance.randrange(len(ends))
@@ -212,7 +212,7 @@ class Parts(unittest.TestCase):
                 with self.assertRaises(Split):
                     text.place(position, units)
             for position in -1, ends[-1] + 1:
-                with self.assertRaises(Outside):
+                with self.assertRaises(OutsideText):
                     text.place(position, units)
 
     @staticmethod

@@ -21,7 +21,7 @@ def say(word: str, number: int) -> None:
 def main(tag: str, link: str, seed: str) -> None:
     """Types for as long as it is let."""
     chance = random.Random(seed)
-    note = Note(Session(notes.open_note("note", None, links.read(link))))
+    note = Note(Session(notes.open_note("note", None, links.read_link(link))))
     say("open", 0)
     number = 0
     while True:

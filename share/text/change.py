@@ -48,10 +48,10 @@ def make(text: bytearray, changes: list[Change]) -> None:
 def change(before: bytes, after: bytes) -> Change:
     """The least change of one stretch of whole characters that makes the one text of the other."""
     most, ends = min(len(before), len(after)), (len(before), len(after))
-    begin = _common(lambda place, size: before[place:place + size] == after[place:place + size], most)
+    begin = _common_length(lambda place, size: before[place:place + size] == after[place:place + size], most)
     begin = boundary(after, boundary(before, begin))
-    back = _common(lambda place, size: before[ends[0] - place - size:ends[0] - place]
-                   == after[ends[1] - place - size:ends[1] - place], most - begin)
+    back = _common_length(lambda place, size: before[ends[0] - place - size:ends[0] - place]
+                          == after[ends[1] - place - size:ends[1] - place], most - begin)
     while back and after[ends[1] - back] & 0xC0 == 0x80:
         back -= 1
     return Change(begin, ends[0] - back, bytes(after[begin:ends[1] - back]))
@@ -66,7 +66,7 @@ def boundary(text: bytes, position: int) -> int:
     return position
 
 
-def _common(equal: Callable[[int, int], bool], most: int) -> int:
+def _common_length(equal: Callable[[int, int], bool], most: int) -> int:
     """The number of equal bytes from a place on; `equal` compares a place, with a size."""
     done = 0
     while done < most and equal(done, min(BLOCK, most - done)):

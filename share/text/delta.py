@@ -5,10 +5,10 @@ from collections.abc import Iterable, Iterator, Sequence
 from share.text.units import Units
 
 # A number above 0 keeps this many units, one below 0 deletes them; bytes, in the units' encoding, come in.
-Piece = int | bytes
+OpPart = int | bytes
 # A part after the last one is kept. What is inserted stands before what is deleted in the same place, so that what
 # does the same is equal.
-Op = list[Piece]
+Op = list[OpPart]
 # What is between two positions gives way to some units.
 Replacement = tuple[int, int, bytes]
 NOTHING: Op = []
@@ -69,7 +69,7 @@ class _Reader:
         """Whether a part is left."""
         return self._place < len(self._op)
 
-    def next(self) -> Piece:
+    def next(self) -> OpPart:
         """What is next; all that is after the last part is kept."""
         return self._op[self._place] if self.has_more() else ENDLESS
 

@@ -18,7 +18,7 @@ _SWAPPED = bytes.maketrans(b"\r\n", b"\n\r")
 _HALVES = dict.fromkeys(range(0xDC80, 0xDD00), "\ufffd")
 
 
-class Outside(Exception):
+class OutsideText(Exception):
     """A position is outside the text; in words."""
 
 
@@ -31,7 +31,7 @@ def swapped(data: bytes) -> bytes:
     return data.translate(_SWAPPED)
 
 
-def shown(data: bytes) -> str:
+def readable(data: bytes) -> str:
     """What an editor shows of bytes that are an editor's."""
     try:
         return data.decode()
@@ -41,7 +41,7 @@ def shown(data: bytes) -> str:
 
 def _sizes_of(data: bytes) -> dict[str, int]:
     """The size of some bytes, in bytes and in each of the units as they are shown."""
-    text = shown(data)
+    text = readable(data)
     return {AS_BYTES: len(data), "utf-8": len(text.encode()), "utf-16": len(text.encode("utf-16-le")) // 2,
             "utf-32": len(text)}
 
@@ -92,7 +92,7 @@ class Measured:
 
     def text(self) -> str:
         """What editors show."""
-        return shown(self.as_file())
+        return readable(self.as_file())
 
     def length(self, units: Units) -> int:
         """Its length in units."""
@@ -107,12 +107,12 @@ class Measured:
         number, begin = self._find(place)
         before = self._parts[number][:place - begin] if number < len(self._parts) else b""
         return self._begin(number, units.name) + (
-            len(before) if before.isascii() else units.count(units.encode(shown(before))))
+            len(before) if before.isascii() else units.count(units.encode(readable(before))))
 
     def place(self, position: int, units: Units) -> int:
         """The number of bytes before a position in units; Split where it is inside a character."""
         if not 0 <= position <= self.length(units):
-            raise Outside(f"Position {position} is outside the text.")
+            raise OutsideText(f"Position {position} is outside the text.")
         number = bisect_right(self._ends_of(units.name), position)
         left = position - self._begin(number, units.name)
         return self._begin(number, AS_BYTES) + (_bytes_of(self._parts[number], left, units, position) if left else 0)
@@ -188,7 +188,7 @@ def _bytes_of(data: bytes, position: int, units: Units, told: int) -> int:
     """The number of bytes before a position in a part."""
     if data.isascii():
         return position
-    text = shown(data)
+    text = readable(data)
     before = units.decode(units.encode(text)[:units.size * position])
     # What was cut isn't a begin of the text any more, or is too long.
     if not text.startswith(before) or units.count(units.encode(before)) != position:
