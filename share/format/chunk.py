@@ -455,12 +455,3 @@ class _ChunkReader:
         if self._at > len(self._data):
             raise NoChunk
         return self._data[self._at - count:self._at]
-
-
-# As admission and sync call these.
-Run = Operation
-runs = unpacked
-
-
-def of_message(one: Operation) -> Operation:
-    return one

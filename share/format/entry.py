@@ -461,7 +461,3 @@ def _check_messages(entry: Entry) -> None:
         seq += one.size
     if seq != entry.first + entry.size:
         raise Bad("doesn't have as many messages as it says")
-
-
-# As admission and sync call these.
-messages_of, runs_of, in_entries = operations_one_by_one, operations_of, chunk.packed_in_parts

@@ -166,23 +166,3 @@ def _ranges(message: bytes, begin: int) -> tuple[Names, ...]:
             raise NoMessage
         before, end = site, at + length
     return found
-
-
-# As admission and sync call these.
-Message = Operation
-
-
-def inserted(one: Operation) -> Names | None:
-    return one.new
-
-
-def typed(one: Operation) -> bytes:
-    return one.data
-
-
-def mentioned(one: Operation) -> list[Names]:
-    return [*one.mentions]
-
-
-def names_of(one: Operation) -> list[Names]:
-    return [*one.names]

@@ -248,7 +248,7 @@ class Site:
         found = sorted((one.position, one.position + len(one.data)) for part in self.where(united(names)) for one in part)
         return one_by_one(self._of_stretch("looks", begin, end, in_words(looks)) for begin, end in _joined_places(found))
 
-    def where(self, names: list[Names]) -> list[list[Stretch]]:
+    def where(self, names: Sequence[Names]) -> list[list[Stretch]]:
         """Where characters are shown, of each of these names."""
         return [*map(stretches, self._ask(self._asking_where(names)))]
 

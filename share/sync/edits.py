@@ -3,7 +3,7 @@ from collections.abc import Callable, Sequence
 
 from share.format.chunk import packed_in_parts
 from share.format.entry import Copy, Entry, Form
-from share.format.operation import Message
+from share.format.operation import Operation
 from share.program.site import Edited, Site
 from share.program.trace import Traced, trace
 from share.store.guarded import Unkept
@@ -72,7 +72,7 @@ class OwnEdits:
             self.goes_on()
             self._replica.go_on_under_another_number()
 
-    def keep(self, messages: Sequence[Message], anew: Sequence[Anew] = (),
+    def keep(self, messages: Sequence[Operation], anew: Sequence[Anew] = (),
              says: Says = lambda last: (), hidings: Sequence[Copy] = ()) -> None:
         """Puts messages that the site made into the file, after what is said of them up to their last entry, and has them
         sent."""
@@ -97,7 +97,7 @@ class OwnEdits:
             self._numbers.is_settled = False
         self._replicator.made(range(place - len(made) + 1, place + 1))
 
-    def _in_entries(self, messages: Sequence[Message]) -> list[Entry]:
+    def _in_entries(self, messages: Sequence[Operation]) -> list[Entry]:
         """Messages as entries that follow the last one."""
         judge, own = self._holdings.judge, self._numbers.own
         made, before = list[Entry](), self.last
@@ -106,7 +106,7 @@ class OwnEdits:
             made.append(before)
         return made
 
-    def _keep_or_go_back(self, messages: Sequence[Message], says: Says, before: int) -> None:
+    def _keep_or_go_back(self, messages: Sequence[Operation], says: Says, before: int) -> None:
         """Keeps messages; where that fails the site has only those it had before."""
         try:
             self.keep(messages, says=says)

@@ -5,12 +5,12 @@ Shown again is only what was hidden for this: never what a user has deleted. Wha
 since their disk may be gone.
 """
 import time
-from collections.abc import Iterable
+from collections.abc import Iterable, Sequence
 from itertools import chain
 from typing import NamedTuple
 
 from share.format.entry import Author, Copied, Copy, Entry, Form
-from share.format.operation import DELETE, RESTORE, Message, inserted, mentioned
+from share.format.operation import DELETE, RESTORE, Operation
 from share.program.site import Edited, Told
 from share.program.trace import Traced, trace
 from share.store.guarded import Unkept
@@ -92,13 +92,13 @@ def wanted(holdings: Holdings) -> Wanted:
     hidden, shown, of_others, hidden_here = list[Names](), list[Names](), list[tuple[Copy, Names]](), list[Names]()
     judge, standing, recovered = holdings.judge, holdings.standing, holdings.recovered
     for copy, is_hidden in chain(standing.made_here(judge.entry_of, holdings.rows), recovered.made_here(judge)):
-        if (message := _made_here(holdings, copy)) and (names := inserted(message)):
+        if (message := _made_here(holdings, copy)) and (names := message.new):
             (hidden if is_hidden else shown).append(names)
     of_all = holdings.standing_for_all.made_by_all(judge.entry_of, judge.front_up_to)
     for copy, is_hidden in chain(of_all, recovered.made_by_others(judge)):
         # What was hidden here is shown again by who hid it.
         if (is_hidden or holdings.hidings) and judge.message_counts(*copy) and not _made_here(holdings, copy):
-            if names := inserted(judge.message(copy.site, copy.seq)):
+            if names := judge.message(copy.site, copy.seq).new:
                 of_others.append((copy, names)) if is_hidden else hidden_here.append(names)
     own = [message for copy in holdings.hidings if (message := _made_here(holdings, copy))]
     said_so = (judge.message(one.site, one.seq) for one in recovered.hidings if judge.message_counts(*one))
@@ -107,12 +107,12 @@ def wanted(holdings: Holdings) -> Wanted:
     return Wanted(united(hidden), _hidden_for_that_alone(holdings, hidings, united(shown)), of_others)
 
 
-def said_of_hidden(form: Form, author: Author, made: Iterable[Message], hidden: Iterable[tuple[Copy, Names]], last: Entry) -> list[Entry]:
+def said_of_hidden(form: Form, author: Author, made: Iterable[Operation], hidden: Iterable[tuple[Copy, Names]], last: Entry) -> list[Entry]:
     """The entries by which the author of messages, of which this is the last entry, says of which copies of others they are
     made to hide: of one for each."""
     copies, found = [*hidden], list[Entry]()
     for message in made:
-        names = mentioned(message)
+        names = message.mentions
         of = next((copy for copy, one in copies if _in_both([one], names)), None)
         if of and message.kind == DELETE:
             stretches = ((of.seq, message.seq, 1),)
@@ -120,7 +120,7 @@ def said_of_hidden(form: Form, author: Author, made: Iterable[Message], hidden: 
     return found
 
 
-def _made_here(holdings: Holdings, copy: Copy) -> Message | None:
+def _made_here(holdings: Holdings, copy: Copy) -> Operation | None:
     """A copy, where it counts. Another disk may have written under its number, too."""
     if not holdings.judge.message_counts(*copy):
         return None
@@ -131,12 +131,12 @@ def _made_here(holdings: Holdings, copy: Copy) -> Message | None:
     return entry.messages[copy.seq - entry.first]
 
 
-def _hidden_by(hidings: Iterable[Message], names: list[Names]) -> list[Names]:
+def _hidden_by(hidings: Iterable[Operation], names: list[Names]) -> list[Names]:
     """Those of these characters that messages mention."""
-    return _in_both(names, united(part for message in hidings for part in mentioned(message))) if names else []
+    return _in_both(names, united(part for message in hidings for part in message.mentions)) if names else []
 
 
-def _hidden_for_that_alone(holdings: Holdings, hidings: Iterable[Message], names: list[Names]) -> list[Names]:
+def _hidden_for_that_alone(holdings: Holdings, hidings: Iterable[Operation], names: list[Names]) -> list[Names]:
     """Those of these characters that would be shown if no copy had ever been hidden, and aren't."""
     if not names:
         return []
@@ -146,11 +146,11 @@ def _hidden_for_that_alone(holdings: Holdings, hidings: Iterable[Message], names
     return without([*_of(_gone(names, messages))], [*_of(would_be)])
 
 
-def _gone(names: list[Names], messages: Iterable[Message]) -> set[Name]:
+def _gone(names: list[Names], messages: Iterable[Operation]) -> set[Name]:
     """Those of these characters that messages have deleted and not restored: of each the greatest stamp decides."""
     last: dict[Name, tuple[int, int, int]] = {}
     for message in messages:
-        for one in _in_both(mentioned(message), names):
+        for one in _in_both(message.mentions, names):
             for at in range(one.at, one.at + one.length):
                 last[one.site, at] = max(last.get((one.site, at), (0, 0, 0)), (message.stamp, message.site, message.kind))
     return {name for name, (_, _, kind) in last.items() if kind == DELETE}
@@ -160,6 +160,6 @@ def _of(names: Iterable[Name]) -> list[Names]:
     return united(Names(site, at, 1) for site, at in names)
 
 
-def _in_both(names: list[Names], others: list[Names]) -> list[Names]:
+def _in_both(names: Sequence[Names], others: Sequence[Names]) -> list[Names]:
     """Names that are in both sets."""
     return without(names, without(names, others))

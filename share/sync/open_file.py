@@ -139,7 +139,7 @@ class OpenFile:
             return disk
         except Damaged:
             aside = make_note(path, self.disk.about, self._rows_and(path), holdings.clients.values(),
-                         [Anew(*one, 0, 0) for one in holdings.anew], holdings.withdrawn(), offered=True, damaged=inode)
+                              [Anew(*one, 0, 0) for one in holdings.anew], holdings.withdrawn(), offered=True, damaged=inode)
             self._notices.tell(f"The note's file was gone or damaged ({why}) and was written anew."
                                + (f" What was there is {aside}." if aside else ""))
             trace(Traced.FILE_WRITTEN_ANEW, entries=len(holdings.rows))

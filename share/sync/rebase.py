@@ -13,7 +13,7 @@ from typing import NamedTuple
 from share.admission.judge import Judge
 from share.admission.ledger import Row
 from share.format.entry import Copy, Entry, Form, Kind
-from share.format.operation import CHANGE_LOOKS, DELETE, RESTORE, Message, inserted, mentioned
+from share.format.operation import CHANGE_LOOKS, DELETE, RESTORE, Operation
 from share.program.effects import Stretch
 from share.program.site import Edited, Site
 from share.program.undo import looks_of
@@ -33,8 +33,8 @@ REBASED_AT_ONCE = 2**22
 class Done(NamedTuple):
     """A message that was made, and the one for which it stands; none was needed where it is None."""
 
-    old: Message
-    new: Message | None
+    old: Operation
+    new: Operation | None
 
 
 class Rebased:
@@ -43,11 +43,11 @@ class Rebased:
     def __init__(self, holdings: Holdings, lost: Sequence[ToRebase], done: Sequence[Done], last: Entry):
         self._holdings, self._lost, self._last = holdings, lost, last
         # What was typed in one go may have come apart, and be several messages now.
-        self._made: dict[Message, list[int]] = {}
+        self._made: dict[Operation, list[int]] = {}
         for one in done:
             self._made.setdefault(one.old, []).extend([one.new.seq] if one.new else [])
 
-    def _each(self) -> Iterator[tuple[Entry, Message, list[int]]]:
+    def _each(self) -> Iterator[tuple[Entry, Operation, list[int]]]:
         """The lost messages, with the seqs of those that stand for them now."""
         for entry, messages in self._lost:
             for message in messages:
@@ -86,9 +86,9 @@ def at_once(lost: Sequence[ToRebase]) -> tuple[Sequence[ToRebase], bool]:
     return lost, True
 
 
-def length_of(messages: Iterable[Message]) -> int:
+def length_of(messages: Iterable[Operation]) -> int:
     """How many characters messages insert."""
-    return sum(names.length for names in map(inserted, messages) if names)
+    return sum(names.length for names in (each.new for each in messages) if names)
 
 
 def with_claims(rows: Sequence[Row], lost: Sequence[ToRebase]) -> set[bytes]:
@@ -112,7 +112,7 @@ class _Differing(NamedTuple):
         return without(without(united(names), self.seen), self.counted)
 
 
-def rebase(rows: Sequence[Row], lost: Sequence[Message], judge: Judge, site: Site,
+def rebase(rows: Sequence[Row], lost: Sequence[Operation], judge: Judge, site: Site,
            first: Collection[bytes] = ()) -> list[Done]:
     """Does at a site, which has all that counts, what remains of lost messages."""
     # These entries first, then what was made here, then what came first: so what was seen as these edits were made is found
@@ -134,27 +134,27 @@ def rebase(rows: Sequence[Row], lost: Sequence[Message], judge: Judge, site: Sit
     return done + [Done(message, None) for message in lost if message not in made]
 
 
-def _differing(seen: Sequence[Message], judge: Judge) -> _Differing:
+def _differing(seen: Sequence[Operation], judge: Judge) -> _Differing:
     """The names of what messages speak of that count in one of the texts alone."""
     counted = {(message.site, message.seq): message for message in judge.let_through_in_order()}
     only_seen = [message for message in seen if counted.get((message.site, message.seq)) != message]
     for message in seen:
         if counted.get((message.site, message.seq)) == message:
             del counted[message.site, message.seq]
-    seen_names, counted_names = (united(filter(None, map(inserted, some))) for some in (only_seen, counted.values()))
+    seen_names, counted_names = (united(filter(None, (each.new for each in some))) for some in (only_seen, counted.values()))
     differing = _Differing(seen_names, counted_names, [])
     return differing._replace(named=differing.common(
         names for message in (*only_seen, *counted.values()) if message.kind in (DELETE, RESTORE)
-        for names in mentioned(message)))
+        for names in message.mentions))
 
 
-def _deleted_and_restored(lost: Sequence[Message], differing: _Differing, old: Site, site: Site) -> list[Done]:
+def _deleted_and_restored(lost: Sequence[Operation], differing: _Differing, old: Site, site: Site) -> list[Done]:
     """Deletes again what is hidden in the old text and shown in the new one, and the other way round."""
     done = []
     for message in lost:
         if message.kind not in (DELETE, RESTORE):
             continue
-        names = mentioned(message)
+        names = message.mentions
         shown = united(Names(one.site, stretch.at, len(stretch.data))
                        for one, stretches in zip(names, old.where(names)) for stretch in stretches)
         edited, _ = (site.delete(differing.common(without(names, shown))) if message.kind == DELETE else
@@ -163,12 +163,12 @@ def _deleted_and_restored(lost: Sequence[Message], differing: _Differing, old: S
     return done
 
 
-def _typed_again(lost: Sequence[Message], differing: _Differing, old: Site, site: Site) -> list[Done]:
+def _typed_again(lost: Sequence[Operation], differing: _Differing, old: Site, site: Site) -> list[Done]:
     """Types again what is shown of lost messages in the old text."""
     was, now = _positions(old, differing.named), _positions(site, differing.named)
     gone = sorted([*_positions(old, differing.seen).values(), *(at for name, at in was.items() if name not in now)])
     come = sorted([*_positions(site, differing.counted).values(), *(at for name, at in now.items() if name not in was)])
-    typing = [(message, one) for message in lost if (one := inserted(message))]
+    typing = [(message, one) for message in lost if (one := message.new)]
     found = old.where([one for _, one in typing]) if typing else []
     stretches = sorted((stretch.position, stretch.data, message)
                        for (message, _), shown in zip(typing, found) for stretch in shown)
@@ -185,7 +185,7 @@ def _in_looks(made: Sequence[Done], position: int, looks: Sequence[Dressed], sit
     """Gives what was typed again the looks that it had in the old text, where it began at a position."""
     done: list[Done] = []
     for old, new in made:
-        names = inserted(new) if new else None
+        names = new.new if new else None
         if not names:
             continue
         for one in looks:
@@ -197,13 +197,13 @@ def _in_looks(made: Sequence[Done], position: int, looks: Sequence[Dressed], sit
     return done
 
 
-def _looked(lost: Sequence[Message], differing: _Differing, old: Site, site: Site) -> list[Done]:
+def _looked(lost: Sequence[Operation], differing: _Differing, old: Site, site: Site) -> list[Done]:
     """Gives characters again the looks that they have in the old text and not in the new one."""
     done = []
     for message in lost:
         if message.kind != CHANGE_LOOKS:
             continue
-        for parts in looks_of(old, differing.common(mentioned(message))):
+        for parts in looks_of(old, differing.common(message.mentions)):
             for part, was in parts:
                 for there, now in chain.from_iterable(looks_of(site, [part])):
                     if was != now:
@@ -222,9 +222,9 @@ def _place_in_new(common: int, come: Sequence[int]) -> int:
     return place
 
 
-def _at_the_end(lost: Sequence[Message], site: Site) -> list[Done]:
+def _at_the_end(lost: Sequence[Operation], site: Site) -> list[Done]:
     """Types at the end what was typed after something that isn't known any more."""
-    typed = [(message, message.data[-names.length:]) for message in lost if (names := inserted(message))]
+    typed = [(message, message.data[-names.length:]) for message in lost if (names := message.new)]
     done, end = [], len(site.text()) if typed else 0
     for message, data in typed:
         done += _all_of(message, site.insert(end, data))
@@ -232,7 +232,7 @@ def _at_the_end(lost: Sequence[Message], site: Site) -> list[Done]:
     return done
 
 
-def _all_of(old: Message, edited: Edited) -> list[Done]:
+def _all_of(old: Operation, edited: Edited) -> list[Done]:
     if edited.refused:
         raise Trouble(f"An edit couldn't be made anew (refused {edited.refused}). Save the note as a file.")
     return [Done(old, message) for message in edited.messages]

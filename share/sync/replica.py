@@ -7,7 +7,7 @@ from contextlib import suppress
 from share.admission import ledger
 from share.admission.judge import Counted
 from share.format.history import Messages, Part
-from share.format.operation import Message
+from share.format.operation import Operation
 from share.program.difference import Shown, differences, shown_by
 from share.program.intake import Coming
 from share.program.site import SLICE, Progress, Site, Told
@@ -70,7 +70,7 @@ class Replica:
             self.pack(max(snapshot.MANY_NEW, self.packed // snapshot.SHARE))
         return told
 
-    def made(self, messages: Sequence[Message], found: Counted) -> None:
+    def made(self, messages: Sequence[Operation], found: Counted) -> None:
         """Takes over what counts, after messages that the site made were kept."""
         self.comes(Messages(parts=(one for one in found.messages.parts() if not self._is_own(one))))
         history, own = self.site.history, Messages(parts=filter(self._is_own, found.messages.parts()))

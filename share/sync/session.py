@@ -9,7 +9,7 @@ from share.admission.ledger import Row, Who
 from share.format.entry import Entry, Kind
 from share.format.history import Messages
 from share.format.link import is_network
-from share.format.operation import Message
+from share.format.operation import Operation
 from share.log.opening import open_log
 from share.program import retyping
 from share.program.alike import One
@@ -129,7 +129,7 @@ class Session:
 
     def recover(self) -> list[Lost]:
         """Types again what was left out, and says so of it; what that was."""
-        found, holdings, copies = self.lost(), self._holdings, list[tuple[One, Message]]()
+        found, holdings, copies = self.lost(), self._holdings, list[tuple[One, Operation]]()
         self._replica.remember()
 
         def work(site: Site) -> Edited:

@@ -8,7 +8,7 @@ from share.admission.judge import Counted, Judge
 from share.admission.ledger import Row, Who
 from share.admission.left_out import LeftOut
 from share.format.entry import NOT_UNDER_A_NUMBER, Copy, Entry, Form, Kind
-from share.format.operation import Message
+from share.format.operation import Operation
 from share.store.note_file import Disk
 from share.store.own import Anew, Client
 from share.sync.backlog import Backlog
@@ -25,7 +25,7 @@ class ToRebase(NamedTuple):
     """Messages of an entry that don't count, and that nothing stands for."""
 
     entry: Entry
-    messages: list[Message]
+    messages: list[Operation]
 
 
 def who(one: Client | Entry) -> Who:
@@ -200,7 +200,7 @@ class Holdings:
         return ToRebase(row.entry, [message for message in row.entry.messages if not self.judge.is_let_through(message)
                                     and not self._is_made_anew(row, message)])
 
-    def _is_made_anew(self, row: Row, message: Message) -> bool:
+    def _is_made_anew(self, row: Row, message: Operation) -> bool:
         """Whether a message was rebased here, or by another disk with its key, or typed again by somebody."""
         entry = row.entry
         is_noted = row.made and (entry.author, message.site, message.seq) in self.anew

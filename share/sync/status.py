@@ -2,7 +2,7 @@
 from collections.abc import Iterable
 from dataclasses import dataclass, field
 
-from share.format.operation import Message
+from share.format.operation import Operation
 from share.program.site import is_nearly_full
 from share.text.errors import entries
 from share.text.line import Line
@@ -65,7 +65,7 @@ class Notices:
             self._without_room = many
             self.tell(f"{entries(many)} wait in the note's file, since too many came that don't count yet.")
 
-    def tell_of_wrong(self, messages: Iterable[Message]) -> None:
+    def tell_of_wrong(self, messages: Iterable[Operation]) -> None:
         """Tells once of each wrong message."""
         for message in messages:
             if (message.site, message.seq) not in self._wrong:

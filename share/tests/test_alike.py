@@ -7,7 +7,7 @@ from collections.abc import Sequence
 from share.admission.chains import rank
 from share.admission.judge import Judge
 from share.format.entry import Author, Copied, Entry, Form, Plain
-from share.format.operation import Operation, typed
+from share.format.operation import Operation
 from share.program import retyping
 from share.program.site import Site
 from share.sync.recovered import Recovered
@@ -164,7 +164,7 @@ class Words(unittest.TestCase):
         some = Twice(FORM)
         other = entry_of(FORM, some.entries[0], [inserting(65_001, 1, 2, None, 0, b"else ")], some.author)
         messages, made = self.typed_again([*some.entries, other])
-        self.assertEqual(sorted(typed(one) for one in messages), [b"else ", b"word "])
+        self.assertEqual(sorted(one.data for one in messages), [b"else ", b"word "])
 
     def test_two_copies_that_were_left_out_are_typed_as_one(self) -> None:
         some = Twice(FORM)

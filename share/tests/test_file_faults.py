@@ -28,7 +28,7 @@ import sys, time
 from share.store import notes
 from share.sync.session import Session
 from share.tests.note import Note
-note, number = Note(Session(notes.opened("note", None, None))), 0
+note, number = Note(Session(notes.open_note("note", None, None))), 0
 print("open", flush=True)
 sys.stdin.readline()
 end = time.monotonic() + 1

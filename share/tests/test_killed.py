@@ -12,7 +12,7 @@ import subprocess
 import threading
 import time
 
-from share.format.operation import typed
+
 from share.tests.note import Note
 from share.tests.servers import RedisServer
 from share.tests.support import TOP, Case, Person, are_alike, python, type_at_the_end, wait_for, written
@@ -150,7 +150,7 @@ class Killed(Case):
         keys = {who for note in notes for who in note.session._holdings.clients} if self.was_put_back_together else None
         gone = {(one.site, one.author) for one in holdings.judge.left_out()} - keys if keys else set()
         return {word for row in holdings.rows.values() if (row.entry.site, row.entry.author) in gone
-                for message in row.entry.messages for word in typed(message).decode().split()}
+                for message in row.entry.messages for word in message.data.decode().split()}
 
     def assert_whole(self, text: bytes, gone: set[str]) -> None:
         """That each word that was typed is there once, and no other."""
