@@ -17,7 +17,7 @@ from share.format.operation import Operation
 AHEAD = 100
 
 
-class Waiting:
+class WaitingChains:
     """For what chains wait: for other sites' files to be long enough, or for the greatest stamp to rise."""
 
     def __init__(self) -> None:
@@ -72,7 +72,7 @@ class Passage:
     def _start(self) -> None:
         """Begins with nothing let through."""
         self.greatest = 0
-        self._waiting = Waiting()
+        self._waiting = WaitingChains()
         # What was let through since that was last asked for, and all of it, in the order in which it was.
         self._out, self._through = Messages(), Messages()
 

@@ -40,7 +40,7 @@ def report_renewed(name: str, done: notes.Renewed, is_fresh: bool, names: dict[i
     missing = done.missing
     if done.left_out:
         lines = retyping.with_names(retyping.as_lines(done.left_out, set()), names)
-        missing = [*missing, f"Left out of the old note for good, and not in the new one: {retyping.in_words(lines)}."]
+        missing = [*missing, f"Left out of the old note for good, and not in the new one: {retyping.whose_in_words(lines)}."]
     return report_missing(missing)
 
 

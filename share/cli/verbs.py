@@ -112,7 +112,7 @@ def retype(given: argparse.Namespace, name: str) -> int:
     for line in found:
         print(f"{retyping.called(line)}, {counted(line['characters'], 'character')}:")
         print(safe_for_terminal(line["text"], "\n\t"))
-    print(f"Typed again: {retyping.in_words(retyping.summed(found))}." if found else "Nothing was left out.")
+    print(f"Typed again: {retyping.whose_in_words(retyping.summed(found))}." if found else "Nothing was left out.")
     if unsent:
         print(f"note: kept in {notes.path_of(name)}, and not sent yet.", file=sys.stderr)
     return 0

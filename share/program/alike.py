@@ -4,6 +4,7 @@ from collections.abc import Iterable, Iterator, Mapping, Sequence
 from typing import NamedTuple
 
 from share.admission.judge import Judge
+from share.admission.ledger import Who
 from share.format.entry import NO_HASH, Copy
 from share.format.operation import Operation
 
@@ -11,7 +12,6 @@ from share.format.operation import Operation
 MOST_TIMES, MOST_ALIKE = 8, 64
 # Anybody with the link can say anything of copies: so often it is looked at what is said.
 MOST_LOOKED_AT = 100_000
-Who = tuple[int, bytes]
 
 
 class One(NamedTuple):

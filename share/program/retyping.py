@@ -162,7 +162,7 @@ def called(line: Line) -> str:
     return f"{name} ({site})" if name else f"you ({site})" if line["own"] else site
 
 
-def in_words(lines: Sequence[Line]) -> str:
+def whose_in_words(lines: Sequence[Line]) -> str:
     """How much was left out and whose it is, in words."""
     parts = [f"{counted(line['characters'], 'character')} of {called(line)}" for line in lines[:MOST_NAMED]]
     if more := sum(line["characters"] for line in lines[MOST_NAMED:]):
@@ -172,7 +172,7 @@ def in_words(lines: Sequence[Line]) -> str:
 
 def telling(lines: Sequence[Line], name: str) -> str:
     """What a user is told of what was left out of a note of this name."""
-    return (f"Left out, since others hold its place: {in_words(lines)}. bin/note recover --lost {name} shows it and types it "
+    return (f"Left out, since others hold its place: {whose_in_words(lines)}. bin/note recover --lost {name} shows it and types it "
             "again.")
 
 

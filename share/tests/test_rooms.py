@@ -1,7 +1,9 @@
-"""The folders of share/: each imports only itself and those before it, also inside functions."""
+"""The folders of share/: each imports only itself and those before it, also inside functions; a name means one thing; and classes and
+functions stay small."""
 import ast
 import pathlib
 import unittest
+from collections import defaultdict
 from collections.abc import Iterator
 
 TOP = pathlib.Path(__file__).resolve().parents[1]
@@ -25,6 +27,16 @@ def imported(tree: ast.Module) -> Iterator[str]:
             yield from (name.name for name in node.names)
 
 
+def defined(tree: ast.Module) -> Iterator[str]:
+    """The names that a module defines at its top level."""
+    for node in tree.body:
+        if isinstance(node, ast.FunctionDef | ast.ClassDef):
+            yield node.name
+        elif isinstance(node, ast.Assign | ast.AnnAssign):
+            targets = node.targets if isinstance(node, ast.Assign) else [node.target]
+            yield from (one.id for target in targets for one in ast.walk(target) if isinstance(one, ast.Name))
+
+
 class Rooms(unittest.TestCase):
     """What may know what."""
 
@@ -38,6 +50,20 @@ class Rooms(unittest.TestCase):
     def test_share_itself_has_nothing_but_its_folders(self) -> None:
         self.assertEqual({path.name for path in TOP.glob("*.py")}, {"__init__.py", "__main__.py"})
         self.assertEqual({path.parent.name for path in TOP.glob("*/__init__.py")}, {*ROOMS, "tests"})
+
+    def test_a_name_is_defined_in_one_module(self) -> None:
+        found = defaultdict(set)
+        for path, tree in modules():
+            for name in defined(tree):
+                found[name].add(str(path))
+        self.assertEqual({name: paths for name, paths in found.items() if len(paths) > 1}, {})
+
+    def test_classes_and_functions_are_small(self) -> None:
+        for path, tree in modules():
+            for node in ast.walk(tree):
+                if isinstance(node, ast.ClassDef | ast.FunctionDef):
+                    lines = (node.end_lineno or node.lineno) - node.lineno + 1
+                    self.assertLessEqual(lines, 250 if isinstance(node, ast.ClassDef) else 40, f"{path}: {node.name}")
 
 
 if __name__ == "__main__":

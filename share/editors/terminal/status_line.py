@@ -28,7 +28,7 @@ def state_of_others(status: Status) -> str:
     """Whether something of the others lacks what it builds on, or was left out, whether they go on elsewhere, and whether
     the program isn't proved, in words."""
     waiting = f"  {counted(status.waiting, 'message')} incomplete" if status.waiting else ""
-    left_out = f"  left out: {retyping.in_words(status.left_out)}" if status.left_out else ""
+    left_out = f"  left out: {retyping.whose_in_words(status.left_out)}" if status.left_out else ""
     renewed = f"  renewed by {retyping.called(status.renewed)}" if status.renewed else ""
     return waiting + left_out + renewed + ("  not proved" if status.unproved else "")
 

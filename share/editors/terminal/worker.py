@@ -5,7 +5,7 @@ from concurrent.futures import Future
 from queue import SimpleQueue
 from typing import TypeVar
 
-Outcome = TypeVar("Outcome")
+Worked = TypeVar("Worked")
 
 
 class Worker:
@@ -15,9 +15,9 @@ class Worker:
         self._jobs: SimpleQueue[Callable[[], None]] = SimpleQueue()
         threading.Thread(target=self._run, daemon=True).start()
 
-    def do(self, work: Callable[[], Outcome]) -> "Future[Outcome]":
+    def do(self, work: Callable[[], Worked]) -> "Future[Worked]":
         """Queues a piece of work; what it gives or raises comes in the future."""
-        future: Future[Outcome] = Future()
+        future: Future[Worked] = Future()
 
         def job() -> None:
             try:
