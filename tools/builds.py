@@ -105,7 +105,7 @@ class Build:
             os.replace(fresh, self.record)
 
     def keep(self, made: Path, sources: str) -> None:
-        """Has a file that was made of these sources take the place of the one that is kept. A program that runs can't be written,
+        """Puts a file that was made of these sources in the place of the one that is kept. A program that runs can't be written,
         but it can be replaced."""
         self.folder.mkdir(parents=True, exist_ok=True)
         self.record.unlink(missing_ok=True)
@@ -115,7 +115,7 @@ class Build:
         self.note(sources)
 
     def take(self) -> None:
-        """Has this build be the one that bin/built runs."""
+        """Makes this build the one that bin/built runs."""
         if last() != self.name:
             OUT.mkdir(exist_ok=True)
             fresh = OUT / f"{LAST.name}.{os.getpid()}"

@@ -42,7 +42,7 @@ def make(build: Build) -> None:
 
 
 def make_ready(build: Build) -> None:
-    """Has a build be there that was asked for."""
+    """Sees that the build is there that was asked for."""
     if build.is_current():
         return
     if build is PROVED:

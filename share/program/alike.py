@@ -8,9 +8,9 @@ from share.admission.ledger import Who
 from share.format.entry import NO_HASH, Copy
 from share.format.operation import Operation
 
-# So many times a copy may have been copied, and so many messages may be one text.
+# How many times a copy may have been copied, and how many operations may be one text.
 MOST_TIMES, MOST_ALIKE = 8, 64
-# Anybody with the link can say anything of copies: so often it is looked at what is said.
+# Anybody with the link can say anything of copies: the most looks at what is said.
 MOST_LOOKED_AT = 100_000
 
 

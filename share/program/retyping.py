@@ -27,19 +27,19 @@ from share.text.names import Name, Names, united, without
 from share.text.rope import swapped
 from share.text.rope import readable as as_text
 
-# A number may have been claimed, or a place taken, by several that lost: so often what was left out is looked at anew.
+# A number may have been claimed, or a place taken, by several that lost: how often what was left out is looked at anew.
 MOST_VIEWS = 8
-# So much is typed at once.
+# The most operations that are typed at once.
 MOST_AT_ONCE = 1_000
-# An entry says of so many stretches what they stand for, each of so many messages.
+# The most stretches of which one entry says what they stand for, and the most operations of a stretch.
 MOST_STRETCHES, MOST_COPIES = 1_000, 4_000
-# So many stretches in looks are looked at.
+# The most stretches in looks that are looked at.
 MOST_DRESSED = 20_000
-# Of so many authors it is told how much of their text was left out, and so many of them are named.
+# The most authors of whom it is told how much of their text was left out, and the most who are named.
 MOST_TOLD, MOST_NAMED = 100, 3
 # The number of a site by which is only looked.
 LOOKING = 1
-# So many characters before what was left out are looked at first.
+# How many characters before what was left out are looked at first.
 LOOKED_AT = 64
 # A message by its author, site and seq.
 Made = tuple[bytes, int, int]

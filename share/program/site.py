@@ -90,7 +90,7 @@ class Lasting:
             self._goes_on()
 
     def start_again(self) -> None:
-        """Has a fresh run do all that this one did."""
+        """Lets a fresh run do all that this one did."""
         self.run.close()
         self.run = Program(self._number, self._folder, self._stands_still)
         chunks = self._history.chunks()
@@ -147,7 +147,7 @@ class Site:
         return self._program.run.is_unproved
 
     def keep(self) -> dict[int, int]:
-        """Has the program write the packed file; the number of each site's messages in it, nothing where it isn't written."""
+        """Lets the program write the packed file; the number of each site's messages in it, nothing where it isn't written."""
         if not self._program.run.folder:
             return {}
         fronts, kept = self._ask([self._program.event("front"), self._program.event("keep", PACKED_NAME.encode(), b"packed")])
@@ -276,7 +276,7 @@ class Site:
         self._program.run.close()
 
     def _hand_in(self, coming: Messages, progress: Progress = lambda done: None) -> None:
-        """Has the program take in operations, and doesn't ask what they change."""
+        """Hands operations to the program, and doesn't ask what they change."""
         chunks, done = coming.chunks(), 0
         while some := [*islice(chunks, CHUNKS_AT_ONCE)]:
             end = done + sum(size for _, size in some)

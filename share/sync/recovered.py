@@ -11,8 +11,8 @@ from share.admission.judge import Judge
 from share.admission.ledger import Who
 from share.format.entry import NO_HASH, Copy, Entry, Kind
 
-# Somebody with the link could speak of copies without end: of an author's messages so much is looked at; and of what is to be
-# seen of what others typed so much of all.
+# Somebody with the link could speak of copies without end: the most that is looked at of what is said of an author's messages, and of what
+# others typed.
 MOST_SAID = MOST_OF_OTHERS = 1_000
 
 

@@ -123,7 +123,7 @@ class Window:
         self.wait_for("document.getElementById('state').textContent.includes(words[0])", part)
 
     def rename(self, name: str) -> None:
-        """Has the page's user be called so."""
+        """Gives the page's user this name."""
         self.run("document.getElementById('name').value = arguments[0]", name)
         self.run("document.getElementById('name').dispatchEvent(new Event('change'))")
         self.wait_for("[...document.querySelectorAll('#people li')].some((one) => one.textContent === words[0])", name)

@@ -116,7 +116,7 @@ class Writer:
             (self.unsure if "error" in line else self.has).add(word)
 
     def left(self) -> None:
-        """Has no editor any more, by a kill: what wasn't answered may be there."""
+        """Kills the editor: what wasn't answered may be there."""
         if self.editor:
             self.unsure |= {*self.typing.values()}
             self.typing.clear()
@@ -174,7 +174,7 @@ class Writer:
         return set(self.has)
 
     def put_back(self, folder: pathlib.Path, has: Words) -> None:
-        """Has the data folder be a copy again."""
+        """Puts a copy of the data folder back."""
         self.kill()
         self.clear()
         shutil.copytree(folder, self.person.data, dirs_exist_ok=True)
@@ -284,7 +284,7 @@ class File:
     start = go_on
 
     def flush(self) -> None:
-        """Has it be gone."""
+        """Removes it."""
         for path in self._folder.iterdir() if self._folder.is_dir() else ():
             # Who had it open may have removed what is beside it.
             path.unlink(missing_ok=True)
@@ -294,7 +294,7 @@ class File:
         shutil.copytree(self._folder, folder, dirs_exist_ok=True, copy_function=copied)
 
     def put_back(self, folder: pathlib.Path | None) -> None:
-        """Has it be what it was once, or nothing."""
+        """Puts back what it was once, or nothing."""
         self.go_on()
         self.flush()
         if folder:
@@ -363,7 +363,7 @@ class Storm:
         self.log.start()
 
     def after(self, least: int, most: int, undo: Callable[[], object]) -> None:
-        """Has something be undone after some steps."""
+        """Undoes something after some steps."""
         self.due.append((self.step + self.chance.randint(least, most), undo))
 
     def someone(self) -> Writer:

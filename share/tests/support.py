@@ -44,7 +44,7 @@ class Person:
 
     @contextlib.contextmanager
     def here(self) -> Iterator[None]:
-        """Has what is opened meanwhile be of this person."""
+        """What is opened meanwhile is of this person."""
         before = os.environ.get("VIALSHOAL_DATA")
         os.environ["VIALSHOAL_DATA"] = str(self.data)
         try:

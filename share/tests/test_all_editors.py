@@ -236,7 +236,7 @@ class AllEditors(Case):
             kill_engine([author.writer for author in self.authors if author.writer.person == person])
 
     def away(self, begin: float, end: float) -> None:
-        """Has the log be away from a moment of a round to another one, and a while longer."""
+        """Takes the log away from a moment of a round to another one, and a while longer."""
         time.sleep(begin)
         self.log.kill()
         time.sleep(end - begin + 0.5)

@@ -218,7 +218,7 @@ class Installed(Case):
         raise OSError(errno.ENOSPC, "No space left on device")
 
     def killed(self, number: int, verb: str) -> None:
-        """Has a command be killed at some call: what was there before works, or what is new; the next one mends it."""
+        """Kills a command at some call: what was there before works, or what is new; the next one mends it."""
         if verb == "uninstall":
             self.here("install")
         done = subprocess.run([sys.executable, "-B", "-c", KILLED, str(self.copy), str(self.prefix), str(number), verb],

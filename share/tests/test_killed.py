@@ -82,7 +82,7 @@ class Killed(Case):
         self.was_put_back_together = False
 
     def round(self, number: int) -> None:
-        """Has some type and be killed, and perhaps the server with them."""
+        """Some type and are killed, and perhaps the server with them."""
         lives = [Life(person, self.link, f"{person.data.name}-{number}-{turn}", self.chance)
                  for person in self.people for turn in range(1 + (self.chance.random() < 0.3))]
         if self.chance.random() < 0.5:

@@ -86,7 +86,7 @@ class AtVersionsOfBefore(Case):
     """Versions that don't know chunks keep and carry what has them, and say so."""
 
     def before(self) -> "mock._patch[dict[int, Any]]":
-        """Has entries of chunks be of a kind that isn't known, as they were to the version before."""
+        """Entries of chunks are of a kind that isn't known meanwhile, as they were to the version before."""
         known = {number: kind for number, kind in entry.KINDS.items() if kind not in NEW}
         return mock.patch.object(entry, "KINDS", known)
 

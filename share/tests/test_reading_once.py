@@ -78,7 +78,7 @@ class Here:
         self.mirror = Mirror(json.loads(self._sent.pop(0)), lambda line: self._asked.append(json.dumps(line).encode()))
 
     def turn(self) -> None:
-        """Has what is asked be done, and what came be taken in."""
+        """Does what is asked, and takes in what came."""
         with self._person.here():
             while self._asked:
                 self.engine.take(self._peer, self._asked)

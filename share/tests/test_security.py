@@ -40,7 +40,7 @@ import json, os, pathlib, re, sys, time
 from share.format import link
 from share.store import notes
 from share.sync.session import Session
-session = Session(notes.open_note("note", None, link.read(os.environ["VIALSHOAL_LINK"])))
+session = Session(notes.open_note("note", None, link.read_link(os.environ["VIALSHOAL_LINK"])))
 end = time.monotonic() + 120
 told = []
 while time.monotonic() < end and not (session.text() == b"one two " and (told or sys.argv[1] == "quiet")):

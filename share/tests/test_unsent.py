@@ -62,7 +62,7 @@ class InAFile(Case):
     EDITS = 1_000
 
     def stopped_between_batches(self, person: Person, after: int) -> None:
-        """Has an editor send so many batches and be stopped."""
+        """Stops an editor that has sent this many batches."""
         append, sent = SqliteLog.append, list[int]()
 
         def appended(log: SqliteLog, raws: Sequence[bytes]) -> None:

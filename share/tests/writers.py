@@ -131,7 +131,7 @@ class Writer(ABC):
         """Whether it runs still, and opens a note anew whose engine has ended. Puts away what was begun."""
 
     def marked(self, session: str) -> str:
-        """Has this opening be told from others; by what."""
+        """Tells this opening from others; by what."""
         return session
 
     def close(self) -> None:

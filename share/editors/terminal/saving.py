@@ -5,7 +5,7 @@ from share.editors.terminal.prompts import Prompts
 from share.editors.terminal.status_line import StatusLine, sentence
 from share.editors.terminal.view import View
 from share.editors.terminal.waiting import Waiting
-from share.editors.terminal.worker import Worked, Worker
+from share.editors.terminal.worker import Returned, Worker
 from share.store import atomic
 from share.text.change import LINE_END
 
@@ -36,7 +36,7 @@ class Saving:
         if saved := self._on_disk(lambda: atomic.save(path, data)):
             self._line.say(f"Saved as {saved}.")
 
-    def _on_disk(self, work: Callable[[], Worked]) -> Worked | None:
+    def _on_disk(self, work: Callable[[], Returned]) -> Returned | None:
         """What the disk gives; None where it fails, which is reported."""
         if self._is_saving:
             self._line.say("Not saved: the save before it isn't done yet.")

@@ -7,7 +7,7 @@ from share.editors.terminal.screen import Screen
 from share.editors.terminal.status_line import StatusLine
 from share.editors.terminal.view import View
 from share.editors.terminal.waiting import Waiting
-from share.editors.terminal.worker import Worked, Worker
+from share.editors.terminal.worker import Returned, Worker
 from share.sync.session import Status
 from share.text.errors import Refused
 
@@ -25,7 +25,7 @@ class Work:
         self._note, self._thread, self._screen = note, thread, screen
         self._waiting, self._view, self._line = waiting, view, line
 
-    def do(self, work: Callable[[], Worked]) -> Worked | None:
+    def do(self, work: Callable[[], Returned]) -> Returned | None:
         """Runs work of the note's, and gives what that gives; None where it failed."""
         if self.failure:
             return None
@@ -44,7 +44,7 @@ class Work:
             self.stop(why)
         return None
 
-    def edit(self, work: Callable[[], Worked]) -> Worked | None:
+    def edit(self, work: Callable[[], Returned]) -> Returned | None:
         """Makes an edit, where one can be made."""
         if self.status.can_type:
             return self.do(work)

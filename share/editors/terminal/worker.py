@@ -5,7 +5,7 @@ from concurrent.futures import Future
 from queue import SimpleQueue
 from typing import TypeVar
 
-Worked = TypeVar("Worked")
+Returned = TypeVar("Returned")
 
 
 class Worker:
@@ -15,9 +15,9 @@ class Worker:
         self._jobs: SimpleQueue[Callable[[], None]] = SimpleQueue()
         threading.Thread(target=self._run, daemon=True).start()
 
-    def do(self, work: Callable[[], Worked]) -> "Future[Worked]":
+    def do(self, work: Callable[[], Returned]) -> "Future[Returned]":
         """Queues a piece of work; what it gives or raises comes in the future."""
-        future: Future[Worked] = Future()
+        future: Future[Returned] = Future()
 
         def job() -> None:
             try:
