@@ -31,7 +31,9 @@ class Kept:
     def lines(self) -> list[re.Match[str]]:
         """Its lines, each of which has the form of one."""
         found = []
-        for line in self.path.read_text().rpartition("\n")[0].splitlines():
+        # It comes with the first event.
+        text = self.path.read_text() if self.path.exists() else ""
+        for line in text.rpartition("\n")[0].splitlines():
             match = LINE.fullmatch(line)
             assert match, line
             found.append(match)
