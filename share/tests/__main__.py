@@ -18,7 +18,7 @@ MODULES = ["test_storm", "test_all_editors", "test_page", "test_web", "test_kill
            "test_completions", "test_rooms", "test_alike", "test_framing", "test_trace", "test_reading_once", "test_losses",
            "test_renewal", "test_slow_line", "test_presence", "test_terminal_closed", "test_judge", "test_convergence",
            "test_effects", "test_layout_and_changes", "test_old_notes", "test_sealed", "test_file_faults", "test_transform",
-           "test_notes_of_messages", "test_snapshot", "test_intake", "test_difference", "test_state"]
+           "test_notes_of_messages", "test_snapshot", "test_intake", "test_difference", "test_state", "test_links"]
 
 
 def run(module: str) -> tuple[int, int, str]:
