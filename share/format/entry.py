@@ -39,7 +39,7 @@ import hashlib
 import secrets
 import struct
 from abc import ABC, abstractmethod
-from collections.abc import Sequence
+from collections.abc import Callable, Sequence
 from enum import IntEnum
 from functools import lru_cache
 from typing import NamedTuple
@@ -279,13 +279,19 @@ class Form(ABC):
         """The author of such an entry."""
         return raw[HEAD.size:HEAD.size + self.author_bytes]
 
-    def open_many(self, raws: Sequence[bytes]) -> list["Entry | Bad"]:
-        """What each of these bytes are."""
-        return [self._found(raw) for raw in raws]
+    def open_many(self, raws: Sequence[bytes], hashes: Sequence[bytes] = (),
+                  check: "Callable[[Entry], object] | None" = None) -> list["Entry | Bad"]:
+        """What each of these bytes are, whose hashes may be known. What has the right form is checked in their order, as `check_entry` does,
+        or something else that finds the same wrong."""
+        return [_as_checked(one, check or check_entry) for one in self._formed([*zip(raws, hashes or map(digest, raws), strict=True)])]
 
-    def _found(self, raw: bytes) -> "Entry | Bad":
+    def _formed(self, raws: Sequence[tuple[bytes, bytes]]) -> list["Entry | Bad"]:
+        """The entries of bytes and their hashes, whose messages nobody has looked at."""
+        return [self._as_formed(*one) for one in raws]
+
+    def _as_formed(self, raw: bytes, of: bytes) -> "Entry | Bad":
         try:
-            return self.open(raw)
+            return self.reopened(raw, self._checked(raw), of)
         except Bad as why:
             return why
 
@@ -417,6 +423,16 @@ def _check_copies(entry: Entry) -> None:
         raise Bad("says of copies what can't be")
     if (entry.author, entry.site) not in ((copied.author, copied.site), (copied.by, copied.by_site)):
         raise Bad("speaks of copies of others")
+
+
+def _as_checked(entry: Entry | Bad, check: Callable[[Entry], object]) -> Entry | Bad:
+    """An entry, or what a check finds wrong with it."""
+    try:
+        if not isinstance(entry, Bad):
+            check(entry)
+        return entry
+    except Bad as why:
+        return why
 
 
 def check_entry(entry: Entry) -> None:

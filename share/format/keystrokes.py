@@ -29,7 +29,7 @@ class End:
         """Whether an entry, of whose site this is, types on here. It ends after it then."""
         chunk, size, at = entry.spelled, entry.size, varint(self._at)
         begin = b"".join((self._lead, varint(self._seq), varint(self._stamp), at, self._far, self._cause))
-        if not (entry.first == self._seq and len(chunk) == len(begin) + size <= MOST_CHUNK and chunk.startswith(begin)):
+        if not (size and entry.first == self._seq and len(chunk) == len(begin) + size <= MOST_CHUNK and chunk.startswith(begin)):
             return False
         if chunk[-1] in CODES or size > 1 and not PLAIN_LETTERS.fullmatch(chunk, len(begin)):
             return False

@@ -145,8 +145,9 @@ class Carried:
         self._marks.extend(bytes(max(0, last + 1 - len(self._marks))))
 
     def _mark(self, places: Iterable[int], bit: int) -> None:
+        places = [*places]
+        self._grow(max(places, default=-1))
         for place in places:
-            self._grow(place)
             self._change(place, self._marks[place] | bit)
 
     def _unmark(self, places: Iterable[int], bit: int) -> None:

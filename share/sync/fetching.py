@@ -4,6 +4,7 @@ from collections.abc import Sequence
 from contextlib import closing
 
 from share.format.entry import Bad, Entry, Form, before_of, digest
+from share.format.keystrokes import Keystrokes
 from share.log.base import START, InLog, Log
 from share.program.trace import Traced, trace
 from share.store.note_file import Disk
@@ -38,6 +39,7 @@ class Fetcher:
         # When reading from the front began, and when it may begin again.
         self._began = self._reads_again = 0.0
         self._left_out: set[bytes | str] = set()
+        self._keystrokes = Keystrokes()
 
     def progress(self) -> tuple[int, int] | None:
         """How much was read of what the log had when it was opened, until all of that was; None then, and before it
@@ -129,7 +131,7 @@ class Fetcher:
     def _opened(self, raws: dict[bytes, bytes]) -> tuple[list[Entry], list[bytes]]:
         """The right ones of what came, and what is before those that are damaged."""
         opened, damaged = list[Entry](), list[bytes]()
-        for of, found in zip(raws, self._form.open_many([*raws.values()])):
+        for of, found in zip(raws, self._form.open_many([*raws.values()], [*raws], self._keystrokes.type_on)):
             if isinstance(found, Bad):
                 self._leave_out(of, f"An entry of the log {found} and was left out.")
                 damaged.append(before_of(raws[of]))

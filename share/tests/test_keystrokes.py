@@ -162,6 +162,17 @@ class Told(unittest.TestCase):
             with self.assertRaises(Bad):
                 keystrokes.type_on(entry)
 
+    def test_one_without_letters(self) -> None:
+        # The name of the character before it ends as a letter might.
+        typist, keystrokes = Typist(FORM, 7, at=ord("a")), Keystrokes()
+        self.assertFalse(keystrokes.type_on(typist.keep(typist.insert(b"a"))))
+        typed = typist.keep(typist.insert(b"b"))
+        entry = typed._replace(size=0, spelled=typed.spelled[:-1])
+        self.assertEqual(entry.spelled[-1:], b"a")
+        self.assertFalse(is_right(entry))
+        with self.assertRaises(Bad):
+            keystrokes.type_on(entry)
+
     def test_the_longest(self) -> None:
         for more in 0, 1:
             typist, keystrokes = Typist(FORM, 7), Keystrokes()
