@@ -196,7 +196,7 @@ class Chains:
         isn't said which."""
         if last == NO_HASH:
             return self.front_of(author, site)
-        number = self.ledger.number(self.outside.branches().before(last))
+        number = self.ledger.number(self._in_chain(last))
         if number is None or self.ledger.client(number) != (site, author):
             return 0
         chain = self.by_site[site]
@@ -209,22 +209,25 @@ class Chains:
 
     def message_in(self, last: bytes, seq: int) -> Operation | None:
         """The message of a seq, of those of an entry or of those to which it is chained; None where it isn't here."""
-        branches = self.outside.branches()
-        if found := branches.message(last, seq):
+        if last in self.outside and (found := self.outside.branches().message(last, seq)):
             return found
-        number = self.ledger.number(branches.before(last))
+        number = self.ledger.number(self._in_chain(last))
         branch = self.by_site[self.ledger.client(number)[0]].branch if number is not None else None
         at = branch.at(number) if branch and number is not None else None
         return branch.message(seq) if branch and at is not None and 0 < seq <= branch.lasts[at] else None
 
     def is_chained(self, of: bytes, last: bytes) -> bool:
         """Whether an entry is the last of some, or one to which that is chained."""
-        branches = self.outside.branches()
         if of in self.outside:
-            return branches.is_chained(of, last)
-        number, end = self.ledger.number(of), self.ledger.number(branches.before(last))
+            return last in self.outside and self.outside.branches().is_chained(of, last)
+        number, end = self.ledger.number(of), self.ledger.number(self._in_chain(last))
         if number is None or end is None or self.ledger.client(number) != self.ledger.client(end):
             return False
         branch = self.by_site[self.ledger.client(end)[0]].branch
         at, last_at = branch.at(number), branch.at(end)
         return at is not None and last_at is not None and at <= last_at
+
+    def _in_chain(self, last: bytes) -> bytes:
+        """An entry, or where it is in no chain the one in a chain to which it is chained. The branches, which take time to find where
+        much is in no chain, are found for that alone."""
+        return self.outside.branches().before(last) if last in self.outside else last

@@ -41,8 +41,8 @@ class SqliteFile:
         self.path = path
         self._ticks = 0
         with faults():
-            self._file = sqlite3.connect(f"file:{quote(os.fsencode(path))}?mode={'rw' if writes else 'ro'}", uri=True,
-                                         timeout=LOCK_SECONDS, isolation_level=None)
+            self._file = sqlite3.connect(_uri(path, f"mode={'rw' if writes else 'ro'}"), uri=True, timeout=LOCK_SECONDS,
+                                         isolation_level=None)
         self._file.text_factory = as_text
         if bounded:
             self._file.set_progress_handler(self._ticked, STEPS_A_TICK)
@@ -170,6 +170,11 @@ def begins_as(path: pathlib.Path, application: int) -> bool:
 def application_without_log(path: pathlib.Path) -> int:
     """Which program's file the first bytes say that it is, without what was written last."""
     # SQLite itself opens it, which doesn't close what others in this process have open.
-    with contextlib.closing(sqlite3.connect(f"file:{quote(os.fsencode(path))}?mode=ro&immutable=1", uri=True)) as file:
+    with contextlib.closing(sqlite3.connect(_uri(path, "mode=ro&immutable=1"), uri=True)) as file:
         found: int = file.execute("PRAGMA application_id").fetchone()[0]
     return found
+
+
+def _uri(path: pathlib.Path, how: str) -> str:
+    """What SQLite opens a file by. The host, which is before an absolute path, is empty: the path may itself begin with two slashes."""
+    return f"file:{'//' if path.is_absolute() else ''}{quote(os.fsencode(path))}?{how}"

@@ -19,7 +19,7 @@ from share.sync.open_file import OpenFile
 from share.sync.session import Session
 from share.tests import test_numbers
 from share.tests.note import Note
-from share.tests.support import TOP, Case, change, python, type_at_the_end, wait_for, written
+from share.tests.support import TOP, Case, Person, change, python, type_at_the_end, wait_for, written
 from share.text.errors import Trouble
 
 # Types words under a name until a second is over; then prints how many.
@@ -266,6 +266,20 @@ class Damaged(Case):
         self.assertEqual(run.returncode, 0, run.stderr)
         self.assertRegex(run.stdout, r"note\.2: .* in .*note\.2\.note")
         self.assertNotIn("Traceback", run.stderr)
+
+
+class Places(Case):
+    """Folders that a note's file may be in."""
+
+    def test_a_path_that_begins_with_two_slashes(self) -> None:
+        person = Person(pathlib.Path(f"/{self.folder / 'data'}"))
+        note = self.opened(person, url=f"/{self.file_log()}")
+        written(note, "one ")
+        with contextlib.closing(person.disk()) as disk:
+            self.assertTrue(str(disk.path).startswith("//"))
+            disk.check()
+        note.session.close()
+        self.assertEqual(person.text(), b"one ")
 
 
 class Failing(Case):

@@ -12,6 +12,7 @@ from functools import partial
 from itertools import chain as chained
 from itertools import permutations
 from typing import Any, NamedTuple
+from unittest import mock
 
 from hypothesis import HealthCheck, given, settings
 from hypothesis import strategies as st
@@ -692,6 +693,17 @@ class WhatStandsForWhat(unittest.TestCase):
         again = entry_of(FORM, self.claims[2], [inserting(3, 1, 2, None, 0, self.letters)], self.third)
         said = [self.copies(1, of=of, by=by) for of, by in ((whole, self.second), (again, self.third))]
         self.assertEqual(self.told_as_left_out(whole, again, *said), [])
+
+    def test_of_what_is_in_chains_nobody_looks_at_what_is_in_none(self) -> None:
+        judge = Judge([*self.claims, self.holds, self.lost])
+        with mock.patch("share.admission.outside.Branches", side_effect=AssertionError):
+            self.assertEqual(judge.front_up_to(self.first.name, 1, self.holds.hash), 1)
+            self.assertEqual(judge.message_in(self.holds.hash, 1), self.holds.messages[0])
+            self.assertTrue(judge.is_chained(self.claims[0].hash, self.holds.hash))
+            self.assertFalse(judge.is_chained(self.lost.hash, self.holds.hash))
+        self.assertEqual(judge.front_up_to(self.first.name, 1, self.lost.hash), 0)
+        self.assertEqual(judge.message_in(self.lost.hash, 1), self.lost.messages[0])
+        self.assertTrue(judge.is_chained(self.claims[0].hash, self.lost.hash))
 
     def test_no_chain_goes_through_a_word(self) -> None:
         word = FORM.copies(Copied(self.first.name, 1, self.second.name, 2, ((1, 1, 1),), NO_HASH), self.second, 2, self.lost.hash)
