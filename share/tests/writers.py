@@ -44,13 +44,14 @@ NEOVIM = """
   vim.opt.runtimepath:prepend('%s')
   vim.o.cmdheight, vim.o.laststatus = 3, 2
   vim.cmd('runtime plugin/vialshoal.lua | Vialshoal note')
-  function state()
+  function save_state(path)
     local note = require('vialshoal').note()
     local lines = vim.api.nvim_buf_get_lines(note.buffer, 0, -1, false)
-    return vim.json.encode({
+    local state = {
       text = require('vialshoal.text').join(lines, note.has_end),
       quiet = #note.changes == 0 and not note.is_unsure and note.made == note.answered,
-      types = note.is_open and vim.bo[note.buffer].modifiable, session = tostring(note.job and vim.fn.jobpid(note.job)) })
+      types = note.is_open and vim.bo[note.buffer].modifiable, session = tostring(note.job and vim.fn.jobpid(note.job)) }
+    return vim.fn.writefile({ vim.json.encode(state) }, path)
   end"""
 # Has Neovim take commands. Esc with a key right after it would be Alt with that key.
 NORMAL = "C-\\", "C-n"
@@ -360,7 +361,10 @@ class Neovim(InTerminal):
         super().start()
 
     def state(self) -> State:
-        return State(**json.loads(self.called("nvim", "--server", str(self._socket), "--remote-expr", "luaeval('state()')")))
+        # Of an answer longer than a screen Neovim shows no more than both ends, so it goes into a file.
+        path = self._socket.with_suffix(".json")
+        self.called("nvim", "--server", str(self._socket), "--remote-expr", f"luaeval('save_state(_A)', '{path}')")
+        return State(**json.loads(path.read_text(encoding="utf-8")))
 
     def go_to(self, line: int) -> None:
         self.press(*NORMAL)
