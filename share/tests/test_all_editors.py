@@ -165,6 +165,27 @@ class FileLog:
         os.rename(self._away, self._shared)
 
 
+def begun(case: Case, url: str, text: str) -> str:
+    """Begins a note of ada's with a text; its link."""
+    first = case.person("ada").open(url=url)
+    written(first, text.replace("\n", "\r"))
+    first.session.close()
+    return case.person("ada").link()
+
+
+class LongText(Case):
+    """A note that is longer than what the commands print that ask Emacs and Neovim."""
+
+    def test_each_editor_has_the_whole_of_it(self) -> None:
+        text = "".join(f"t{number:04}.\n" for number in range(1, 1_500))
+        link = begun(self, self.redis().url, text)
+        with ThreadPoolExecutor() as threads:
+            writers = [*threads.map(lambda kind: kind(self, "ada", link), EDITORS)]
+        for writer in writers:
+            self.assertEqual(writer.seen().text, text, writer.tag)
+            writer.close()
+
+
 class AllEditors(Case):
     """Two people, each with two editors."""
 
@@ -172,10 +193,7 @@ class AllEditors(Case):
         super().setUp()
         self.chance = random.Random(SEED)
         self.log: RedisServer | FileLog = self.redis() if SEED % 3 else FileLog(self)
-        first = self.person("ada").open(url=self.log.url)
-        written(first, "begin.\r")
-        first.session.close()
-        link = self.person("ada").link()
+        link = begun(self, self.log.url, "begin.\n")
         self.words: list[Word] = []
         # The words that were being typed as something was killed: parts of them may be there.
         self.broken: set[str] = set()

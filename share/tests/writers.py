@@ -33,24 +33,25 @@ CALL_SECONDS = 60
 EMACS = """(progn
   (setq server-socket-dir "%s" vialshoal-command (list "%s"))
   (server-start)
-  (defun state () (with-current-buffer "*note note*" (save-restriction (widen)
-    (json-serialize (list
+  (defun save-state (path) (with-current-buffer "*note note*" (save-restriction (widen)
+    (write-region (json-serialize (list
       :text (buffer-substring-no-properties (point-min) (point-max))
       :quiet (if (and (null vialshoal--changes) (= vialshoal--made vialshoal--answered)) t :false)
       :types (if (and vialshoal--is-open (not buffer-read-only)) t :false)
-      :session (format "%%s" (process-id vialshoal--process)))))))
+      :session (format "%%s" (process-id vialshoal--process)))) nil path nil 0))))
   (vialshoal-open "note"))"""
 NEOVIM = """
   vim.opt.runtimepath:prepend('%s')
   vim.o.cmdheight, vim.o.laststatus = 3, 2
   vim.cmd('runtime plugin/vialshoal.lua | Vialshoal note')
-  function state()
+  function save_state(path)
     local note = require('vialshoal').note()
     local lines = vim.api.nvim_buf_get_lines(note.buffer, 0, -1, false)
-    return vim.json.encode({
+    local state = {
       text = require('vialshoal.text').join(lines, note.has_end),
       quiet = #note.changes == 0 and not note.is_unsure and note.made == note.answered,
-      types = note.is_open and vim.bo[note.buffer].modifiable, session = tostring(note.job and vim.fn.jobpid(note.job)) })
+      types = note.is_open and vim.bo[note.buffer].modifiable, session = tostring(note.job and vim.fn.jobpid(note.job)) }
+    return vim.fn.writefile({ vim.json.encode(state) }, path)
   end"""
 # Has Neovim take commands. Esc with a key right after it would be Alt with that key.
 NORMAL = "C-\\", "C-n"
@@ -264,6 +265,11 @@ class InTerminal(Writer):
     def processes(self) -> list[int]:
         return [self._process]
 
+    def saved(self, path: pathlib.Path, *words: str) -> State:
+        """What it has, which a command has it write into a file: of a long answer a command prints a part only."""
+        self.called(*words)
+        return State(**json.loads(path.read_text(encoding="utf-8")))
+
     def looks(self) -> str:
         return f"{self.terminal.lines()}, {super().looks()}"
 
@@ -326,8 +332,8 @@ class Emacs(InTerminal):
         wait_for((self._socket / "server").exists, "Emacs to listen", PATIENCE)
 
     def state(self) -> State:
-        # A string of Lisp is one of JSON where it has no line end.
-        return State(**json.loads(json.loads(self.called("emacsclient", "-s", str(self._socket / "server"), "--eval", "(state)"))))
+        path = self._socket.with_suffix(".json")
+        return self.saved(path, "emacsclient", "-s", str(self._socket / "server"), "--eval", f'(progn (save-state "{path}") t)')
 
     def go_to(self, line: int) -> None:
         self.press("M-g", "g")
@@ -360,7 +366,8 @@ class Neovim(InTerminal):
         super().start()
 
     def state(self) -> State:
-        return State(**json.loads(self.called("nvim", "--server", str(self._socket), "--remote-expr", "luaeval('state()')")))
+        path = self._socket.with_suffix(".json")
+        return self.saved(path, "nvim", "--server", str(self._socket), "--remote-expr", f"luaeval('save_state(_A)', '{path}')")
 
     def go_to(self, line: int) -> None:
         self.press(*NORMAL)
