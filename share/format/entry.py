@@ -159,6 +159,11 @@ class Entry(NamedTuple):
         return operations_one_by_one(self.kind, self.spelled)
 
     @property
+    def runs(self) -> tuple[Operation, ...]:
+        """The same, as admission calls it."""
+        return self.operations
+
+    @property
     def copied(self) -> Copied:
         """What an entry of copies says; ValueError where it isn't spelled rightly."""
         size = len(self.author)
@@ -276,8 +281,8 @@ class Form(ABC):
 
     def open_many(self, raws: Sequence[bytes], hashes: Sequence[bytes] = (),
                   check: "Callable[[Entry], object] | None" = None) -> list["Entry | Bad"]:
-        """What each of these bytes are, whose hashes may be known. What has the right form is checked in their order, as `check_entry`
-        does, or something else that finds the same wrong."""
+        """What each of these bytes are, whose hashes may be known. What has the right form is checked in their order, by `check_entry`
+        or by what finds the same wrong."""
         return [_as_checked(one, check or check_entry) for one in self._formed([*zip(raws, hashes or map(digest, raws), strict=True)])]
 
     def _formed(self, raws: Sequence[tuple[bytes, bytes]]) -> list["Entry | Bad"]:
