@@ -174,10 +174,10 @@ def begun(case: Case, url: str, text: str) -> str:
 
 
 class LongText(Case):
-    """A note that is longer than a screen."""
+    """A note that is longer than what a command prints of it."""
 
     def test_each_editor_has_the_whole_of_it(self) -> None:
-        text = "".join(f"t{number:04}.\n" for number in range(1, 400))
+        text = "".join(f"t{number:04}.\n" for number in range(1, 1_500))
         link = begun(self, self.redis().url, text)
         with ThreadPoolExecutor() as threads:
             writers = [*threads.map(lambda kind: kind(self, "ada", link), EDITORS)]

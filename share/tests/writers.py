@@ -33,12 +33,12 @@ CALL_SECONDS = 60
 EMACS = """(progn
   (setq server-socket-dir "%s" vialshoal-command (list "%s"))
   (server-start)
-  (defun state () (with-current-buffer "*note note*" (save-restriction (widen)
-    (json-serialize (list
+  (defun save-state (path) (with-current-buffer "*note note*" (save-restriction (widen)
+    (write-region (json-serialize (list
       :text (buffer-substring-no-properties (point-min) (point-max))
       :quiet (if (and (null vialshoal--changes) (= vialshoal--made vialshoal--answered)) t :false)
       :types (if (and vialshoal--is-open (not buffer-read-only)) t :false)
-      :session (format "%%s" (process-id vialshoal--process)))))))
+      :session (format "%%s" (process-id vialshoal--process)))) nil path nil 0))))
   (vialshoal-open "note"))"""
 NEOVIM = """
   vim.opt.runtimepath:prepend('%s')
@@ -265,6 +265,12 @@ class InTerminal(Writer):
     def processes(self) -> list[int]:
         return [self._process]
 
+    def saved(self, path: pathlib.Path, *words: str) -> State:
+        """What it has, which a command has it write into a file: of a long answer Neovim shows only both ends, and of one of
+        an Emacs that is killed meanwhile a part is printed."""
+        self.called(*words)
+        return State(**json.loads(path.read_text(encoding="utf-8")))
+
     def looks(self) -> str:
         return f"{self.terminal.lines()}, {super().looks()}"
 
@@ -327,8 +333,8 @@ class Emacs(InTerminal):
         wait_for((self._socket / "server").exists, "Emacs to listen", PATIENCE)
 
     def state(self) -> State:
-        # A string of Lisp is one of JSON where it has no line end.
-        return State(**json.loads(json.loads(self.called("emacsclient", "-s", str(self._socket / "server"), "--eval", "(state)"))))
+        path = self._socket.with_suffix(".json")
+        return self.saved(path, "emacsclient", "-s", str(self._socket / "server"), "--eval", f'(progn (save-state "{path}") t)')
 
     def go_to(self, line: int) -> None:
         self.press("M-g", "g")
@@ -361,10 +367,8 @@ class Neovim(InTerminal):
         super().start()
 
     def state(self) -> State:
-        # Of an answer longer than a screen Neovim shows no more than both ends, so it goes into a file.
         path = self._socket.with_suffix(".json")
-        self.called("nvim", "--server", str(self._socket), "--remote-expr", f"luaeval('save_state(_A)', '{path}')")
-        return State(**json.loads(path.read_text(encoding="utf-8")))
+        return self.saved(path, "nvim", "--server", str(self._socket), "--remote-expr", f"luaeval('save_state(_A)', '{path}')")
 
     def go_to(self, line: int) -> None:
         self.press(*NORMAL)
