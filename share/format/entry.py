@@ -159,11 +159,6 @@ class Entry(NamedTuple):
         return operations_one_by_one(self.kind, self.spelled)
 
     @property
-    def runs(self) -> tuple[Operation, ...]:
-        """The same, as admission calls it."""
-        return self.operations
-
-    @property
     def copied(self) -> Copied:
         """What an entry of copies says; ValueError where it isn't spelled rightly."""
         size = len(self.author)

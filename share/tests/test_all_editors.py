@@ -174,7 +174,7 @@ def begun(case: Case, url: str, text: str) -> str:
 
 
 class LongText(Case):
-    """A note that is longer than what the commands print that ask Emacs and Neovim."""
+    """A note that is longer than what a command prints of it."""
 
     def test_each_editor_has_the_whole_of_it(self) -> None:
         text = "".join(f"t{number:04}.\n" for number in range(1, 1_500))

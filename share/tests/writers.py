@@ -266,7 +266,8 @@ class InTerminal(Writer):
         return [self._process]
 
     def saved(self, path: pathlib.Path, *words: str) -> State:
-        """What it has, which a command has it write into a file: of a long answer a command prints a part only."""
+        """What it has, which a command has it write into a file: of a long answer Neovim shows only both ends, and of one of
+        an Emacs that is killed meanwhile a part is printed."""
         self.called(*words)
         return State(**json.loads(path.read_text(encoding="utf-8")))
 
