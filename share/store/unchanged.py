@@ -60,6 +60,14 @@ class Ahead:
             if commits:
                 self._end, self._sum = end, total
 
+    def begins_rightly(self) -> bool:
+        """Whether the log begins as it was seen, or as SQLite begins one anew."""
+        head = self._read(0, LOG_HEAD.size)
+        if head == self._head:
+            return True
+        order = ORDERS.get(LOG_HEAD.unpack(head)[0]) if len(head) == LOG_HEAD.size else None
+        return order is not None and _summed(head[:SUMMED_HEAD], (0, 0), order) == LOG_HEAD.unpack(head)[6:]
+
     def is_as_noted(self) -> bool:
         """Whether what was seen is there still."""
         return zlib.crc32(self._read(0, self._end)) == self._sum
@@ -142,7 +150,8 @@ class FileWatch:
             try:
                 yield
             finally:
-                if is_known:
+                # Another program may have written meanwhile: what then begins wrongly is not taken over, and so is looked at.
+                if is_known and self._ahead.begins_rightly():
                     self._ahead.note()
                     self._state = self._now()
 

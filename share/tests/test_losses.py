@@ -5,9 +5,12 @@ import os
 import pathlib
 import shutil
 import signal
+import sqlite3
 import subprocess
-from collections.abc import Callable
+from collections.abc import Callable, Iterator
+from unittest import mock
 
+from share.store.unchanged import FileWatch
 from share.tests.editors import Editor, Engines
 from share.tests.servers import RedisServer
 from share.tests.support import Case, alive, change, damage, raws_of, type_at_the_end, wait_for, written
@@ -167,6 +170,40 @@ class OwnFile(Case):
                 again = person.open()
                 self.assertEqual(again.text, first.text)
                 again.session.close()
+
+    def test_a_log_beside_it_that_is_written_over_within_an_own_write(self) -> None:
+        person = self.person()
+        note = person.open()
+        note.type("one ")
+        real = FileWatch.written
+
+        @contextlib.contextmanager
+        def spoiled(watch: FileWatch) -> Iterator[None]:
+            with real(watch):
+                yield
+                write_over(beside(person.path(), "-wal"), 0, bytes(32))
+
+        with mock.patch.object(FileWatch, "written", spoiled):
+            note.type("two ")
+        note.type("three ")
+        self.assertIn("written anew", " ".join(note.session.notices()))
+        self.assertEqual(person.text(), b"one two three ")
+        note.session.close()
+
+    def test_a_log_beside_it_that_begins_anew_within_an_own_write(self) -> None:
+        path = self.folder / "file"
+        with contextlib.closing(sqlite3.connect(path, isolation_level=None)) as file:
+            file.execute("PRAGMA journal_mode = WAL")
+            file.execute("CREATE TABLE words (word)")
+            watch = FileWatch(path)
+            for number in range(3):
+                head = beside(path, "-wal").read_bytes()[:32]
+                with watch.written():
+                    file.execute("INSERT INTO words VALUES (?)", (number,))
+                    self.assertEqual(file.execute("PRAGMA wal_checkpoint(RESTART)").fetchone()[0], 0)
+                    file.execute("INSERT INTO words VALUES (?)", (number,))
+                self.assertNotEqual(beside(path, "-wal").read_bytes()[:32], head)
+                self.assertIsNone(watch.unknown())
 
 
 def beside(path: pathlib.Path, end: str) -> pathlib.Path:
