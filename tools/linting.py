@@ -17,7 +17,7 @@ PACKAGE_LINT = Path("/usr/share/emacs/site-lisp/elpa-src")
 # The commands, the Python modules whose types are looked at, and the files; each with the package of Debian's that has it.
 COMMANDS = {"mypy": "mypy", "flake8": "flake8", "tsc": "node-typescript", "luacheck": "lua-check", "emacs": "emacs-nox"}
 MODULES = {"nacl": "python3-nacl", "hypothesis": "python3-hypothesis", "wcwidth": "python3-wcwidth", "regex": "python3-regex",
-           "aiohttp": "python3-aiohttp", "selenium": "python3-selenium"}
+           "aiohttp": "python3-aiohttp", "cryptography": "python3-cryptography", "selenium": "python3-selenium"}
 FILES = {"/usr/share/nodejs/@types/codemirror/index.d.ts": "libjs-codemirror"}
 # The folders that have Python, each with the tests in it.
 PYTHON = ("share", "tools", "editors", "bench", "bin")

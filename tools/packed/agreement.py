@@ -14,6 +14,7 @@ from collections.abc import Callable, Iterator, Sequence
 from functools import partial
 from pathlib import Path
 
+from tools.packed import changed
 from tools.packed.chunks import pack as chunks_of
 from tools.packed.cursor import Refused
 from tools.packed.events import NO_CODES, TEXTS, Draw, Pasted, Script
@@ -204,7 +205,9 @@ def main(words: Sequence[str]) -> int:
     tally, failed = Tally(), 0
     with folder_in_memory("agreement-") as room:
         runs = Program(command, Path(room))
-        plays: dict[str, Callable[[], str]] = {"what is pasted": partial(play_pasted, runs, tally)} if not given.seeds else {}
+        plays: dict[str, Callable[[], str]] = {}
+        if not given.seeds:
+            plays = {"what is pasted": partial(play_pasted, runs, tally), "changed messages": partial(changed.play, runs, tally)}
         plays |= {f"seed {seed}": partial(play, runs, seed, given.others, tally) for seed in given.seeds or SEEDS}
         for name, one in plays.items():
             if wrong := one():

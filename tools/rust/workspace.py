@@ -20,7 +20,7 @@ RUST = TOP / "rust"
 WANTED = ("site_cli", "vialshoal_c")
 # How the names of crates begin that have tests alone, and those of them that test what was written anew.
 TESTS = "test_"
-TESTS_OF_PLACES = ("test_command_line", "test_folder_shelf")
+TESTS_OF_PLACES = ("test_folder_shelf",)
 LIBRARY = "vialshoal_c"
 PROGRAM = "site_cli"
 # What was written by hand and has unsafe code.

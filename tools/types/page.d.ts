@@ -3,7 +3,7 @@ import "codemirror";
 
 declare module "codemirror" {
   interface EditorConfiguration {
-    search?: { bottom: boolean };
+    specialCharPlaceholder?: (sign: string) => HTMLElement;
   }
   interface CommandActions {
     bold(cm: Editor): void;

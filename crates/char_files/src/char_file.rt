@@ -1,4 +1,4 @@
-ghost use Rattle.std.specs.Prelude.{◌≡◌, ◌<◌, ◌≤◌, ◌+◌, [], ◌++◌, ◌↔◌, ◌⊎◌, length, slice_index};
+ghost use Rattle.std.specs.Prelude.{◌≡◌, ◌<◌, ◌≤◌, ◌+◌, [], ◌++◌, ◌↔◌, ◌⊎◌, length, slice_index, slice_range};
 ghost use Rattle.std.specs.Prelude.{IfOk, IfErr, IsOk, OnOk, OnErr, IsErrOf, IsTrue};
 
 use crate::MAX_FILE;
@@ -8,8 +8,7 @@ use std::marker::Model;
 
 /// The bytes that one site inserted in one text, in the order in which it did: at most 2^24.
 ///
-/// Bytes are appended and never overwritten, as in the files of Oberon's texts (Project Oberon, chapter 5); a
-/// file for each site, and the bound, are this project's own.
+/// Bytes are appended and never overwritten, as in the files of Oberon's texts (Project Oberon, chapter 5).
 #[derive(Debug, Drop)]
 pub struct CharFile {
     bytes: Vec<u8>,
@@ -54,6 +53,15 @@ impl CharFile {
         ensures { result ≡ slice_index self.now.bytes off }
     {
         self.bytes[off as usize]
+    }
+
+    /// The bytes from one offset to another.
+    pub fn bytes(&self, beg: u32, end: u32) -> &[u8]
+        requires rising { beg ≤ end }
+        requires in_file { end ≤ length self.now.bytes }
+        ensures { result.now ≡ slice_range self.now.bytes beg end }
+    {
+        &self.bytes[beg as usize..end as usize]
     }
 
     // Whether n more bytes pass the limit.

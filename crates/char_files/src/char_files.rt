@@ -1,4 +1,4 @@
-ghost use Rattle.std.specs.Prelude.{◌≡◌, ◌<◌, ◌≤◌, ◌+◌, [], ◌++◌, ◌↔◌, ◌⊎◌, length, slice_index};
+ghost use Rattle.std.specs.Prelude.{◌≡◌, ◌<◌, ◌≤◌, ◌+◌, [], ◌++◌, ◌↔◌, ◌⊎◌, length, slice_index, slice_range};
 ghost use Rattle.std.specs.Prelude.{IfOk, IfErr, IsOk, OnOk, OnErr, IsErrOf};
 ghost use Rattle.char_files.specs.CharFiles.{bytes_of, room_of, OthersStay, SameBytes};
 
@@ -11,7 +11,7 @@ use looks::Refusal;
 use std::alloc::Global;
 use std::marker::Model;
 
-/// The files of all sites that inserted bytes in a text, each at most 2^24 bytes long. This project's own.
+/// The files of all sites that inserted bytes in a text, each at most 2^24 bytes long.
 #[derive(Drop)]
 pub struct CharFiles {
     files: SiteMap<CharFile>,
@@ -56,6 +56,18 @@ impl CharFiles {
         match self.files.get(name.site()) {
             Some(file) => file.byte(name.off()),
             None => unreachable!(),
+        }
+    }
+
+    /// The bytes of a site's file from one offset to another.
+    pub fn bytes(&self, site: SiteNo, beg: u32, end: u32) -> &[u8]
+        requires rising { beg ≤ end }
+        requires in_file { end ≤ length (bytes_of self.now site) }
+        ensures { result.now ≡ slice_range (bytes_of self.now site) beg end }
+    {
+        match self.files.get(site) {
+            Some(file) => file.bytes(beg, end),
+            None => &[],
         }
     }
 

@@ -28,6 +28,5 @@ pub use site_no::SiteNo;
 pub use source::{Plain, Source};
 pub use text_no::TextNo;
 
-/// The most bytes that a site's file of one text may have, and the most characters of a stretch: 2^24. This
-/// project's own.
+/// The most bytes that a site's file of one text may have, and the most characters of a stretch: 2^24.
 pub const MAX_FILE: u64 = 1 << 24;

@@ -8,7 +8,7 @@ use std::marker::Model;
 /// The lasting name of a character (its identity, or dot): the site that inserted it, and its offset in that
 /// site's file of one text.
 ///
-/// Offsets count from 0, over all bytes that the site ever inserted in the text. This project's own.
+/// Offsets count from 0, over all bytes that the site ever inserted in the text.
 #[derive(Clone, Copy, Debug, PartialEq, Eq, Hash, PartialOrd, Ord)]
 pub struct Name {
     site: SiteNo,
@@ -58,7 +58,7 @@ impl Name {
     }
 }
 
-/// What a character can hang on: the root of a text's tree, or a character. This project's own.
+/// What a character can hang on: the root of a text's tree, or a character.
 #[derive(Clone, Copy, Debug, PartialEq, Eq, Hash)]
 pub enum Anchor {
     Root,

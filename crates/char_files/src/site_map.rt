@@ -12,7 +12,7 @@ use std::alloc::Global;
 use std::marker::Model;
 
 /// Values by the sites' numbers. Mostly the one that is asked for is the one that was put or lent last, so that is looked at before
-/// any search. This project's own.
+/// any search.
 #[derive(Drop)]
 pub struct SiteMap<V> {
     values: IndexMap<u16, V>,

@@ -2,7 +2,7 @@ ghost use Rattle.std.specs.Prelude.{◌≡◌, ◌<◌, ◌↔◌, IsSome, IfSom
 
 use std::marker::Model;
 
-/// A site's number, 1 to 65535. A site is where texts are edited; 0 is no site. This project's own.
+/// A site's number, 1 to 65535. A site is where texts are edited; 0 is no site.
 #[derive(Clone, Copy, Debug, PartialEq, Eq, Hash, PartialOrd, Ord)]
 pub struct SiteNo {
     number: u16,

@@ -7,7 +7,7 @@ use looks::Looks;
 
 /// Characters with their looks, read by position. No call takes memory.
 ///
-/// This project's own, for the readers of Project Oberon, chapter 5.
+/// It is for the readers of Project Oberon, chapter 5.
 pub trait Source {
     ghost use Rattle.std.specs.Prelude.{List};
     ghost use Rattle.char_files.specs.Stretch.{Item};
@@ -51,7 +51,7 @@ impl Source for Buffer {
     }
 }
 
-/// Bytes as a source: each is a character in the default looks. This project's own.
+/// Bytes as a source: each is a character in the default looks.
 #[derive(Clone, Copy, Debug)]
 pub struct Plain<'a>(pub &'a [u8]);
 

@@ -2,8 +2,7 @@ ghost use Rattle.std.specs.Prelude.{◌≡◌, ◌<◌, ◌↔◌, IsSome, IfSom
 
 use std::marker::Model;
 
-/// A text's number, 1 to 65535. Texts of different numbers have nothing to do with one another. This
-/// project's own.
+/// A text's number, 1 to 65535. Texts of different numbers have nothing to do with one another.
 #[derive(Clone, Copy, Debug, PartialEq, Eq, Hash, PartialOrd, Ord)]
 pub struct TextNo {
     number: u16,

@@ -5,8 +5,8 @@ use Rattle.std.proofs.lemmas.Bool.{and_parts, and_from, ltb-true, lt-ltb, leb-tr
 use Rattle.byte_fields.proofs.Readers.{Took, Reads, step, bind_some, some_is, passed}
 use Rattle.char_files.specs.declared.TheConstants.{MAX_FILE}
 use Rattle.operations.specs.declared.op.TheConstants.{MAX_STAMP}
-use Rattle.packed_fields.specs.Numbers.{sevens}
-use Rattle.packed_fields.proofs.Sevens.{sevens_reads}
+use Rattle.packed.specs.Numbers.{sevens}
+use Rattle.packed.proofs.Sevens.{sevens_reads}
 use Rattle.chunks.specs.declared.reading.Begin.{Begin}
 use Rattle.chunks.specs.Parts.{begin_fields, IsBegin, begin_of, begin_at}
 

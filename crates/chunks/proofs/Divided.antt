@@ -6,7 +6,7 @@ use Rattle.std.proofs.lemmas.Bool.{cases_Bool, leb-true, le-leb, cond-true, cond
 use Rattle.std.proofs.lemmas.List.{append-nil}
 use Rattle.byte_fields.specs.Fields.{number_spelling}
 use Rattle.byte_fields.proofs.Readers.{wide16}
-use Rattle.packed_fields.specs.Numbers.{sevens}
+use Rattle.packed.specs.Numbers.{sevens}
 use Rattle.packed.specs.declared.expected.Expected.{Expected}
 use Rattle.packed.specs.Told.{Told, nothing_begun, expected}
 use Rattle.packed.specs.Spelling.{is_last, time_lead, edit_spelling, packed_next}

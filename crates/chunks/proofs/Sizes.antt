@@ -12,8 +12,8 @@ use Rattle.char_files.specs.declared.name.Anchor.TheVariants.{Root, At}
 use Rattle.operations.specs.NameSet.{Range, IsRange, IsNamed}
 use Rattle.operations.specs.Operation.{OpKind, insert, delete, restore, change_looks}
 use Rattle.operations.specs.Spelling.{IsKind, looks_spelling, selected_spelling, font_spelling, offset_spelling}
-use Rattle.packed_fields.specs.Numbers.{sevens, sevens_within}
-use Rattle.packed_fields.specs.Sets.{gap_before, range_after, ranges_after, packed_set}
+use Rattle.packed.specs.Numbers.{sevens, sevens_within}
+use Rattle.packed.specs.Sets.{gap_before, range_after, ranges_after, packed_set}
 use Rattle.packed.specs.declared.expected.Expected.{Expected}
 use Rattle.packed.specs.Spelling.{is_code, looks_lead, place_lead, bytes_spelling, delete_spelling, edit_spelling}
 

@@ -5,7 +5,7 @@ use Rattle.std.specs.Int.{w16}
 use Rattle.byte_fields.specs.Fields.{number_spelling}
 use Rattle.char_files.specs.declared.TheConstants.{MAX_FILE}
 use Rattle.operations.specs.Operation.{Operation}
-use Rattle.packed_fields.specs.Numbers.{sevens}
+use Rattle.packed.specs.Numbers.{sevens}
 use Rattle.packed.specs.Told.{Told, nothing_begun, has_begun, begun_at, expected, told_on}
 use Rattle.packed.specs.Spelling.{packed_next}
 use Rattle.packed.specs.Reading.{CanBeNext}

@@ -4,7 +4,7 @@ use Rattle.byte_fields.specs.Fields.{◌>>=◌}
 use Rattle.char_files.specs.declared.TheConstants.{MAX_FILE}
 use Rattle.operations.specs.declared.op.TheConstants.{MAX_STAMP}
 use Rattle.operations.specs.Operation.{Operation}
-use Rattle.packed_fields.specs.Numbers.{sevens, sevens_at}
+use Rattle.packed.specs.Numbers.{sevens, sevens_at}
 use Rattle.packed.specs.Told.{Told, nothing_begun, has_begun, begun_at, expected, CaretsAreInFiles}
 use Rattle.chunks.specs.declared.reading.Begin.{Begin}
 use Rattle.chunks.specs.Chunks.{Placed, operations_of, added, told_by, added_after, CanCome, CanAllCome}

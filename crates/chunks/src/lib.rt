@@ -13,5 +13,5 @@ pub use limits::the_limits;
 pub use reading::{Chunk, read_chunk};
 pub use writing::ChunkWriter;
 
-/// The most bytes of a chunk. This project's own.
+/// The most bytes of a chunk.
 pub const MAX_CHUNK: u64 = 16_000;

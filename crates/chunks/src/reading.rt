@@ -14,11 +14,10 @@ use byte_fields::text_at;
 use char_files::{MAX_FILE, SiteNo, TextNo};
 use looks::Refusal;
 use operations::{MAX_STAMP, Op};
-use packed::History;
-use packed_fields::number_at;
+use packed::{History, number_at};
 use std::alloc::Global;
 
-/// What a chunk has. This project's own.
+/// What a chunk has.
 #[derive(Drop)]
 pub struct Chunk {
     /// The text that its operations are on.
@@ -258,7 +257,7 @@ fn chunk_on(alloc: Global, text: TextNo, bytes: &[u8]) -> Result<Chunk, Refusal>
 /// The text and the operations of a chunk. Nothing else is asked of them here: whether one is ready is a replica's to judge.
 ///
 /// Refused `Malformed` where the bytes are no chunk. Where they don't begin as one, or are too many, this is told before memory
-/// is asked for; where an operation is at fault, `OutOfMemory` may come in the place of it, as of all else. This project's own.
+/// is asked for; where an operation is at fault, `OutOfMemory` may come in the place of it, as of all else.
 pub fn read_chunk(alloc: Global, bytes: &[u8]) -> Result<Chunk, Refusal>
     ensures ok { IfOk result (λ chunk. (ps : List Placed) × (operations_of ps ≡ chunk.operations.items)
         × IsChunkOf chunk.text ps bytes.now) }

@@ -13,12 +13,11 @@ use byte_fields::put_u16;
 use char_files::TextNo;
 use looks::Refusal;
 use operations::Op;
-use packed::History;
-use packed_fields::put_number;
+use packed::{History, put_number};
 use std::alloc::{AllocError, Global};
 use std::marker::Model;
 
-/// A chunk that is being written. A contract sees what it tells, and its bytes. This project's own.
+/// A chunk that is being written. A contract sees what it tells, and its bytes.
 #[derive(Drop)]
 pub struct ChunkWriter {
     history: History,

@@ -1,8 +1,7 @@
 ghost use Rattle.std.specs.Prelude.{◌≡◌, ◌≢◌, None, IfSome, length, ◌<◌};
 ghost use Rattle.command_words.specs.Commands.{has_parameter, name_of, row_of};
 
-/// A command that a text can call by its word. The forms are those of Project Oberon, chapter 4; the table is
-/// this project's own.
+/// A command that a text can call by its word. The forms are those of Project Oberon, chapter 4.
 #[derive(Clone, Copy, Debug, PartialEq, Eq)]
 pub enum Command {
     /// Opens a viewer on a text in the system track.

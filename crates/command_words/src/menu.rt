@@ -3,13 +3,13 @@ ghost use Rattle.command_words.specs.Commands.{menu_of};
 
 use arrayvec::ArrayVec;
 
-/// The most bytes that a menu's text may have. This project's own.
+/// The most bytes that a menu's text may have.
 pub const MAX_MENU: usize = 64;
 
 /// The text of the menu of this viewer on this text, each by its number, as it stands before the menu's row
 /// cuts it: what a click in that row looks at. It takes no memory.
 ///
-/// This project's own, after the menus of Project Oberon, chapter 4.
+/// It is after the menus of Project Oberon, chapter 4.
 pub fn menu_text(viewer: u32, text: u16) -> ArrayVec<u8, MAX_MENU>
     ensures { result.items ≡ menu_of viewer text }
 {

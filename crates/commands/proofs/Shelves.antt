@@ -6,7 +6,7 @@ use Rattle.looks.specs.declared.refusal.Refusal.{Refusal}
 use Rattle.looks.specs.declared.refusal.Refusal.TheVariants.{BadFile, NoCaret, OutOfMemory, ReadFault, WriteFault}
 use Rattle.char_files.specs.Stretch.{Item}
 use Rattle.text_file.specs.Files.{IsFileOf, IsNoFile, formatted}
-use Rattle.text_file.specs.declared.TheConstants.{MAX_TEXT as MAX_STORED}
+use Rattle.text_file.specs.declared.TheConstants.{MAX_STORED}
 use Rattle.command_words.specs.declared.command.Command.{Command}
 use Rattle.reader_scanner.specs.declared.token.TokenValue.{TokenValue}
 use Rattle.shelf.specs.Files.{Counts, Files, HasFile, IsThere, OthersStay, SameFiles}

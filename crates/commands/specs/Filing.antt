@@ -4,7 +4,7 @@ use Rattle.looks.specs.declared.refusal.Refusal.{Refusal}
 use Rattle.looks.specs.declared.refusal.Refusal.TheVariants.{BadFile, OutOfMemory, ReadFault, WriteFault, WrongText}
 use Rattle.char_files.specs.Stretch.{Item}
 use Rattle.text_file.specs.Files.{IsFileOf, IsNoFile, formatted}
-use Rattle.text_file.specs.declared.TheConstants.{MAX_TEXT as MAX_STORED}
+use Rattle.text_file.specs.declared.TheConstants.{MAX_STORED}
 use Rattle.shelf.specs.Files.{Counts, HasFile, IsThere, OthersStay, Write, with_write}
 use Rattle.texts.specs.Taking.{HasTakenAll}
 use Rattle.texts.specs.TextState.{TextState, all_told, empty_text, shown_items}

@@ -1,4 +1,4 @@
-/// What a command did. This project's own.
+/// What a command did.
 #[derive(Clone, Copy, Debug, PartialEq, Eq)]
 pub enum Answer {
     /// It added so many messages to the Outbox.

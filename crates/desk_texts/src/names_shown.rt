@@ -18,7 +18,7 @@ use texts::Replica;
 
 // Names that follow one another, shown one after the other, and the position of the first of them.
 #[derive(Drop)]
-struct Stretch {
+struct NameRow {
     pos: u64,
     names: NameRange,
 }
@@ -40,7 +40,7 @@ fn is_next(names: NameRange, name: Name) -> bool
 }
 
 // Appends the line of a stretch. After an `Err` of this and of the others that append, some of it may stand there.
-fn put_stretch(out: &mut Vec<u8>, stretch: &Stretch) -> Result<(), AllocError>
+fn put_stretch(out: &mut Vec<u8>, stretch: &NameRow) -> Result<(), AllocError>
     ensures { OnOk result (out.new.items
         ≡ out.old.items ++ name_line (record { pos = stretch.now.pos; names = stretch.now.names })) }
 {
@@ -54,7 +54,7 @@ fn put_stretch(out: &mut Vec<u8>, stretch: &Stretch) -> Result<(), AllocError>
 }
 
 // Goes on to the name that is shown next: the stretch has one more, or its line is put and another begins.
-fn go_on(out: &mut Vec<u8>, stretch: &mut Stretch, name: Name) -> Result<(), AllocError>
+fn go_on(out: &mut Vec<u8>, stretch: &mut NameRow, name: Name) -> Result<(), AllocError>
     requires { stretch.old.pos + stretch.old.names.len < 2 ^ 64 }
     ensures end { OnOk result (stretch.new.pos + stretch.new.names.len ≡ stretch.old.pos + stretch.old.names.len + 1) }
     ensures lines { OnOk result ((names : List CharName)
@@ -68,7 +68,7 @@ fn go_on(out: &mut Vec<u8>, stretch: &mut Stretch, name: Name) -> Result<(), All
         return Ok(());
     }
     put_stretch(out, stretch)?;
-    *stretch = Stretch {
+    *stretch = NameRow {
         pos: stretch.pos + u64::from(len),
         names: alone(name),
     };
@@ -85,7 +85,7 @@ fn put_names(out: &mut Vec<u8>, replica: &Replica, beg: u64, end: u64) -> Result
     let Some(first) = chars.next() else {
         return Ok(());
     };
-    let mut stretch = Stretch {
+    let mut stretch = NameRow {
         pos: beg,
         names: alone(first.name),
     };

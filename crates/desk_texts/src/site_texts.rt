@@ -30,7 +30,7 @@ use std::marker::Model;
 use text_chunks::{UnpackRefusal, Unpacked, unpack};
 use texts::{ByNames, EditRefusal, MergeRefusal, Outbox, Replica, Settled, Took};
 
-/// One site's texts, 1 to 16, each empty until it is first changed. This project's own.
+/// One site's texts, 1 to 16, each empty until it is first changed.
 #[derive(Drop)]
 pub struct Texts {
     site: SiteNo,

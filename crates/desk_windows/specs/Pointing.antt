@@ -15,7 +15,7 @@ use Rattle.desk_windows.specs.declared.pointing.Clicked.{Clicked}
 use Rattle.desk_windows.specs.declared.pointing.CellTarget.{CellTarget}
 use Rattle.desk_windows.specs.declared.pointing.CellTarget.TheVariants.{Menu, Text}
 use Rattle.desk_windows.specs.declared.pointing.Spot.{Spot}
-use Rattle.desk_windows.specs.declared.marks.Stretch.{Stretch}
+use Rattle.desk_windows.specs.declared.marks.MarkedStretch.{MarkedStretch}
 
 -- the viewer shows this text of the desk
 pub record ShowsThis (d : SiteTexts) (w : WindowsSeen) (v number : ℕ) (t : TextState) : Type 0 where
@@ -86,7 +86,7 @@ IsCaretSpot d w (Some spot) = (c : Caret) × (shown : Window × TextState) × (w
     × (spot.pos ≡ place_in shown.1 c.anchor) × ShowsThis d w spot.viewer spot.text shown.1
 
 -- what is marked; none where nothing is
-abbrev pub IsMarked : SiteTexts → WindowsSeen → Option Stretch → Type 0
+abbrev pub IsMarked : SiteTexts → WindowsSeen → Option MarkedStretch → Type 0
 IsMarked d w None = marked d (screened w) ≡ None
 IsMarked d w (Some stretch) = (at : Marked) × (marked d (screened w) ≡ Some at) × (stretch.viewer ≡ at.viewer)
     × (stretch.text ≡ at.window.text) × (stretch.beg ≡ at.beg) × (stretch.end ≡ at.end) × IsTextOf d at.window.text at.text

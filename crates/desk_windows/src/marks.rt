@@ -18,9 +18,9 @@ use looks::Refusal;
 use std::alloc::AllocError;
 use text_frames::Caret;
 
-/// What is marked of the text that a viewer shows. This project's own.
+/// What is marked of the text that a viewer shows.
 #[derive(Clone, Copy)]
-pub struct Stretch {
+pub struct MarkedStretch {
     pub viewer: u32,
     pub text: TextNo,
     pub beg: u64,
@@ -69,7 +69,7 @@ impl Windows {
     }
 
     /// What is marked; `None` where nothing is shown of what is selected.
-    pub fn marked(&self, texts: &Texts) -> Option<Stretch>
+    pub fn marked(&self, texts: &Texts) -> Option<MarkedStretch>
         requires { AreOf texts.now self.now }
         ensures stretch { IsMarked texts.now self.now result }
         ensures on_desk { IfSome result (λ stretch. stretch.text ≤ MAX_TEXT) }
@@ -83,7 +83,7 @@ impl Windows {
         let Some((beg, end)) = selection.range(texts.replica(window.text)) else {
             return None;
         };
-        Some(Stretch {
+        Some(MarkedStretch {
             viewer: selection.viewer,
             text: window.text,
             beg,

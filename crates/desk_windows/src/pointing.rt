@@ -16,14 +16,14 @@ use text_frames::{Caret, Selection};
 use texts::Replica;
 use viewers::Area;
 
-/// Where a cell of a viewer stands: at a position of its menu's text, or of the text that it shows. This project's own.
+/// Where a cell of a viewer stands: at a position of its menu's text, or of the text that it shows.
 #[derive(Clone, Copy)]
 pub enum CellTarget {
     Menu(u64),
     Text(u64),
 }
 
-/// What a click meets: a viewer, the number of its text, and where the cell stands in it. This project's own.
+/// What a click meets: a viewer, the number of its text, and where the cell stands in it.
 #[derive(Clone, Copy)]
 pub struct Clicked {
     pub viewer: u32,

@@ -15,7 +15,7 @@ use std::marker::Model;
 use text_frames::Frame;
 use texts::Replica;
 
-/// What a viewer shows: a text of the desk, by a frame. This project's own.
+/// What a viewer shows: a text of the desk, by a frame.
 #[derive(Drop)]
 pub struct Window {
     pub(crate) text: TextNo,

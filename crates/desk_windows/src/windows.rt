@@ -22,7 +22,7 @@ use std::marker::Model;
 use text_frames::{Caret, Frame, Selection};
 use viewers::{MAX_HEIGHT, MAX_WIDTH, MIN_HEIGHT, MIN_WIDTH, Screen, Track};
 
-/// The windows of a site's viewers over its texts, its caret, and what is selected. This project's own.
+/// The windows of a site's viewers over its texts, its caret, and what is selected.
 #[derive(Drop)]
 pub struct Windows {
     pub(crate) viewers: Screen<Window>,

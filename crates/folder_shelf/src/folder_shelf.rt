@@ -13,7 +13,7 @@ use looks::Refusal;
 use shelf::{Shelf, is_file_name};
 use std::alloc::Global;
 
-/// The files of a folder. This project's own.
+/// The files of a folder.
 ///
 /// Others may write there between two calls, so the shelf reports no files; what a call finds and leaves, the folder's
 /// history says, where the folder tells one.

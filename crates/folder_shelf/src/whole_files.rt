@@ -13,7 +13,7 @@ use std::alloc::{AllocError, Global};
 use std::io;
 use std::io::ErrorKind;
 
-/// The most bytes of a file that is read or written. This project's own.
+/// The most bytes of a file that is read or written.
 pub const MAX_FILE_LEN: usize = 1 << 30;
 
 // How the names of files begin that aren't whole yet, after which comes a number: longer than a file's name in a

@@ -3,8 +3,8 @@ use Rattle.std.specs.Prelude.{◌≡◌, ◌⊎◌, ℕ, List}
 use Rattle.operations.specs.Operation.{Operation}
 use Rattle.texts.specs.SiteFiles.{IsSiteFileOf, site_bytes}
 use Rattle.texts.specs.declared.TheConstants.{MAX_KEPT}
-use Rattle.packed_file.specs.PackedFiles.{IsPackedFileOf, packed_bytes}
-use Rattle.packed_file.specs.declared.TheConstants.{MAX_PACKED}
+use Rattle.kept_file.specs.PackedFiles.{IsPackedFileOf, packed_bytes}
+use Rattle.kept_file.specs.declared.TheConstants.{MAX_PACKED}
 use Rattle.kept_file.specs.declared.form.KeptForm.{KeptForm}
 use Rattle.kept_file.specs.declared.form.KeptForm.TheVariants.{Messages, Packed}
 

@@ -1,1 +1,5 @@
 pub mod KeptFiles
+pub mod PackedFiles
+pub mod PackedParts
+pub mod Parts
+pub mod SiteParts

@@ -1,21 +1,21 @@
 ghost use Rattle.std.specs.Prelude.{◌≡◌, ◌<◌, ◌++◌, ◌↔◌, ◌⊎◌, length, take, IfErr, IfOk, IsErrOf, IsTrue, OnErr, OnOk};
 ghost use Rattle.texts.specs.Taking.{HasTakenAll};
 ghost use Rattle.texts.specs.TextState.{empty_text};
-ghost use Rattle.site_file.specs.Parts.{IsCutAsFile};
-ghost use Rattle.packed_file.specs.PackedFiles.{BeginsAsPackedFile, tag};
+ghost use Rattle.kept_file.specs.SiteParts.{IsCutAsFile};
+ghost use Rattle.kept_file.specs.PackedFiles.{BeginsAsPackedFile, tag};
 ghost use Rattle.kept_file.specs.KeptFiles.{IsKeptFileOf, IsNoKeptFile, kept_bytes, most_kept};
 
 use crate::form::KeptForm;
+use crate::packed_file::{load_packed, store_packed};
+use crate::site_file::{load_site, store_site};
 use looks::Refusal;
-use packed_file::{load_packed, store_packed};
-use site_file::{load_site, store_site};
 use std::alloc::Global;
 use texts::Replica;
 
 /// Appends a text's file in this form: all that it has taken in, in the order of its taking.
 ///
 /// Refused `BadFile` where this is more than such a file tells, else `OutOfMemory` where memory is; the vector's bytes are
-/// then as they were. What waits, and what was cut last, isn't kept. This project's own.
+/// then as they were. What waits, and what was cut last, isn't kept.
 pub fn store_kept(form: KeptForm, replica: &Replica, file: &mut Vec<u8>) -> Result<(), Refusal>
     ensures ok { OnOk result (file.new.items
         ≡ file.old.items ++ kept_bytes form replica.now.text replica.now.site replica.now.operations) }
@@ -43,7 +43,7 @@ fn is_packed(bytes: &[u8]) -> bool
 /// waits for it, and nothing was cut last. The first four bytes tell the form.
 ///
 /// Refused `BadFile` where no text of a site has this file; `OutOfMemory` may come in the place of that where it is begun as one.
-/// The time, and the memory, are those of taking the operations in. This project's own.
+/// The time, and the memory, are those of taking the operations in.
 pub fn load_kept(alloc: Global, bytes: &[u8]) -> Result<Replica, Refusal>
     // What is loaded has this file, and nothing else was done to it.
     ensures ok { IfOk result (λ r. IsKeptFileOf r.text r.site r.operations bytes.now

@@ -5,7 +5,7 @@ ghost use Rattle.line_drawing.specs.Rows.{sign_of, cells_of};
 pub const LINE_END: u8 = 0x0D;
 
 /// What a byte shows as in its cell: 20H to 7EH as themselves, a tab as one blank, every other byte as a
-/// question mark. This project's own.
+/// question mark.
 pub fn sign(byte: u8) -> u8
     ensures { result ≡ sign_of byte }
 {

@@ -2,7 +2,7 @@ ghost use Rattle.std.specs.Prelude.{◌≡◌, ◌↔◌, IsTrue};
 ghost use Rattle.std.specs.List.{AllPass};
 ghost use Rattle.list_changes.specs.Quiet.{is_quiet};
 
-/// What a change does to a stretch of a list. This project's own.
+/// What a change does to a stretch of a list.
 #[derive(Clone, Copy, Debug, PartialEq, Eq)]
 pub enum ChangeKind {
     /// Elements are put in. The stretch is theirs in the list after the change.
@@ -14,7 +14,7 @@ pub enum ChangeKind {
 }
 
 /// A change of a list: what is done, and the stretch from `beg` up to `end`, positions of the list's elements
-/// counted from 0. Of an insertion it lies in the new list, else in the old one. This project's own.
+/// counted from 0. Of an insertion it lies in the new list, else in the old one.
 #[derive(Clone, Copy, Debug, PartialEq, Eq)]
 pub struct Change {
     /// What is done to the stretch.

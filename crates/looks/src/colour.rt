@@ -2,12 +2,12 @@ ghost use Rattle.std.specs.Prelude.{◌≡◌, ◌≤◌, ◌↔◌, IsSome, IfS
 
 use std::marker::Model;
 
-/// The greatest number of a colour. This project's own.
+/// The greatest number of a colour.
 pub const MAX_COLOUR: u8 = 15;
 
 /// A colour, 0 to 15. Which colour a number stands for is the display's business.
 ///
-/// Oberon's texts have colours (Project Oberon, chapter 5); the bound is this project's own.
+/// Oberon's texts have colours (Project Oberon, chapter 5).
 #[derive(Clone, Copy, Debug, PartialEq, Eq, Hash, PartialOrd, Ord)]
 pub struct Colour {
     number: u8,

@@ -4,13 +4,12 @@ ghost use Rattle.looks.specs.FontName.{IsFontName, is_font_byte};
 use arrayvec::ArrayVec;
 use std::marker::Model;
 
-/// The most bytes that a font's name may have. This project's own.
+/// The most bytes that a font's name may have.
 pub const MAX_FONT_NAME: usize = 31;
 
 /// The name of a font: 1 to 31 letters, digits and full stops, the first a letter.
 ///
-/// Oberon names fonts by files, as `Oberon10.Scn.Fnt` (Project Oberon, chapter 5); the bounds are this
-/// project's own.
+/// Oberon names fonts by files, as `Oberon10.Scn.Fnt` (Project Oberon, chapter 5).
 #[derive(Debug, Drop, PartialEq, Eq)]
 pub struct FontName {
     bytes: ArrayVec<u8, MAX_FONT_NAME>,

@@ -9,8 +9,7 @@ use std::io::{self, ErrorKind};
 /// The number of `Refusal::OutOfMemory`, for where it is printed of an outcome that means no other refusal.
 pub const OUT_OF_MEMORY: u8 = Refusal::OutOfMemory as u8;
 
-/// Why a call was refused. After a refusal the object is unchanged, unless the call says otherwise. This
-/// project's own.
+/// Why a call was refused. After a refusal the object is unchanged, unless the call says otherwise.
 #[derive(Clone, Copy, Debug, PartialEq, Eq, Hash)]
 pub enum Refusal {
     /// The bytes spell no message.

@@ -4,7 +4,6 @@ ghost use Rattle.looks.specs.Key.{is_below};
 use crate::key::Key;
 
 /// A value with the key of the change that set it (a last-writer-wins register, by keys and not by arrival).
-/// This project's own.
 #[derive(Clone, Copy, Debug, PartialEq, Eq, Drop)]
 pub struct Register<T> {
     pub key: Key,

@@ -11,7 +11,7 @@ use Rattle.char_files.specs.declared.name.Anchor.{Anchor}
 use Rattle.operations.specs.Operation.{Operation}
 use Rattle.shelf.specs.Files.{Files}
 use Rattle.text_file.specs.Files.{IsFileOf, IsNoFile, formatted}
-use Rattle.text_file.specs.declared.TheConstants.{MAX_TEXT as MAX_STORED}
+use Rattle.text_file.specs.declared.TheConstants.{MAX_STORED}
 use Rattle.texts.specs.Edit.{Edit, anchor_before, insertion, recalling}
 use Rattle.texts.specs.Taking.{HasTakenAll}
 use Rattle.texts.specs.TextState.{TextState, empty_text, shown_items, shown_of, with_room}

@@ -7,5 +7,5 @@ mod limits;
 pub use asked::{Arrangement, Cell, Fronts, Query, View};
 pub use limits::the_limits;
 
-/// The greatest number of a text on a desk; the least is 1. This project's own.
+/// The greatest number of a text on a desk; the least is 1.
 pub const MAX_TEXT: u16 = 16;

@@ -22,7 +22,7 @@ use Rattle.command_words.specs.declared.calls.Call.{Call}
 use Rattle.command_words.specs.declared.command.Command.{Command}
 use Rattle.command_words.specs.declared.command.Command.TheVariants as command
 use Rattle.text_file.specs.Files.{IsFileOf, IsNoFile, formatted}
-use Rattle.text_file.specs.declared.TheConstants.{MAX_TEXT as MAX_STORED}
+use Rattle.text_file.specs.declared.TheConstants.{MAX_STORED}
 use Rattle.operations.specs.Operation.{Operation}
 use Rattle.operations.specs.Spelling.{spelling}
 use Rattle.texts.specs.Edit.{Edit, after, insertion, is_in_text, looks_change, plan, recalling}

@@ -12,7 +12,7 @@ use Rattle.set_laws.specs.Fronts.{file_len}
 use Rattle.set_laws.specs.Sets.{AreIdentified, HaveEqualFronts}
 use Rattle.shelf.specs.Files.{Files}
 use Rattle.text_file.specs.Files.{IsFileOf, IsNoFile}
-use Rattle.text_file.specs.declared.TheConstants.{MAX_TEXT as MAX_STORED}
+use Rattle.text_file.specs.declared.TheConstants.{MAX_STORED}
 use Rattle.texts.specs.Edit.{Edit, insertion, recalling, shown_with}
 use Rattle.texts.specs.Text.{IsAnchor, IsText}
 use Rattle.texts.specs.TextState.{TextState, shown_items, shown_of}

@@ -13,5 +13,5 @@ mod stretch;
 pub use limits::the_limits;
 pub use log::Log;
 
-/// The most operations of a log, so that the place of each has 32 bits. This project's own.
+/// The most operations of a log, so that the place of each has 32 bits.
 pub const MAX_OPS: usize = 1 << 32;

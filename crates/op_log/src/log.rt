@@ -20,7 +20,7 @@ use operations::{Kind, MAX_INSERT, MAX_STAMP, Op, Typing};
 use std::alloc::Global;
 use std::marker::Model;
 
-/// The operations that a replica has taken in, each found by its identity at once. This project's own.
+/// The operations that a replica has taken in, each found by its identity at once.
 ///
 /// Of each site they are those from 1 up to its front, each once.
 #[derive(Drop)]

@@ -10,7 +10,7 @@ use looks::Refusal;
 use operations::{Kind, NameSet, Op};
 use std::alloc::Global;
 
-/// A Delete of one character. This project's own.
+/// A Delete of one character.
 #[derive(Clone, Copy, Drop)]
 pub(crate) struct OneDelete {
     pub(crate) stamp: u64,

@@ -24,7 +24,7 @@ use std::marker::Model;
 // The most looks of a list, so that the number of each has 32 bits.
 const MAX_LOOKS: usize = u32::MAX as usize;
 
-/// Operations in order: letters that were typed one after the other take a byte each. This project's own.
+/// Operations in order: letters that were typed one after the other take a byte each.
 #[derive(Drop)]
 pub(crate) struct OpList {
     stretches: Vec<Stretch>,

@@ -16,7 +16,7 @@ use operations::{Kind, Op, Typing};
 use std::alloc::Global;
 
 /// Letters that a site typed one after the other: each operation inserts one byte that hangs on the one before, under the next
-/// stamp and number, in the same looks. This project's own.
+/// stamp and number, in the same looks.
 #[derive(Clone, Copy, Drop)]
 pub(crate) struct TypedRun {
     // Of the first one; those of the others follow from it.

@@ -24,10 +24,10 @@ const VERSION: u8 = 1;
 // The version of a Restore's message, which a reader of version 1 refuses.
 const RESTORE_VERSION: u8 = 2;
 
-/// The most bytes that one Insert may have. This project's own.
+/// The most bytes that one Insert may have.
 pub const MAX_INSERT: usize = 4096;
 
-/// What an operation does. This project's own.
+/// What an operation does.
 #[derive(Debug, Drop)]
 pub enum Kind {
     /// Puts bytes of one set of looks into the text.

@@ -13,10 +13,10 @@ use looks::Refusal;
 use std::alloc::Global;
 use std::marker::Model;
 
-/// The most ranges that a set of names may have. This project's own.
+/// The most ranges that a set of names may have.
 pub const MAX_RANGES: usize = 1024;
 
-/// Neighbouring names of one site, one at least. This project's own.
+/// Neighbouring names of one site, one at least.
 #[derive(Clone, Copy, Debug, PartialEq, Eq)]
 pub struct NameRange {
     site: SiteNo,
@@ -237,7 +237,7 @@ fn insert_name(ranges: &mut Vec<NameRange>, at: usize, name: Name) -> Result<(),
     add(ranges, at, one)
 }
 
-/// A set of names of characters: its maximal ranges, rising, at most 1,024 of them. This project's own.
+/// A set of names of characters: its maximal ranges, rising, at most 1,024 of them.
 #[derive(Debug, Drop)]
 pub struct NameSet {
     ranges: Vec<NameRange>,

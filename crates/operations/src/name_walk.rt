@@ -11,7 +11,7 @@ use std::marker::Model;
 
 // The function is `named`; a type `Named` beside it would differ in case alone, which the toolchain refuses.
 
-/// The names that an operation mentions, one after the other, without memory. This project's own.
+/// The names that an operation mentions, one after the other, without memory.
 #[derive(Drop)]
 pub struct NameWalk<'a> {
     // What is left of the range at hand.

@@ -9,10 +9,10 @@ use char_files::{SiteNo, TextNo};
 use looks::{Key, Refusal};
 use std::marker::Model;
 
-/// The greatest stamp: 2^48 - 1. This project's own.
+/// The greatest stamp: 2^48 - 1.
 pub const MAX_STAMP: u64 = (1 << 48) - 1;
 
-/// An operation that has a message: what one edit did, for every site to do alike. This project's own.
+/// An operation that has a message: what one edit did, for every site to do alike.
 #[derive(Debug, Drop)]
 pub struct Op {
     text: TextNo,

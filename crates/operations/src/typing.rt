@@ -10,7 +10,7 @@ use looks::{Looks, Refusal};
 use std::alloc::Global;
 
 /// Where a site types letters one after the other: each is an Insert of one byte that hangs on the one before, under the next
-/// number and the next stamp, in the same looks. This project's own.
+/// number and the next stamp, in the same looks.
 #[derive(Drop)]
 pub struct Typing {
     pub text: TextNo,

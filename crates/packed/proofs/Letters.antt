@@ -18,7 +18,7 @@ use Rattle.operations.specs.declared.typing.Typing.{Typing}
 use Rattle.operations.specs.Letters.{after_letter, letter, letters}
 use Rattle.operations.specs.Operation.{Operation}
 use Rattle.operations.specs.Spelling.{HasSpelling, looks_spelling}
-use Rattle.packed_fields.specs.Numbers.{sevens, step_spelling}
+use Rattle.packed.specs.Numbers.{sevens, step_spelling}
 use Rattle.packed.specs.declared.expected.Expected.{Expected}
 use Rattle.packed.specs.Told.{Told, after, expected, noted, told_on, told_after}
 use Rattle.packed.specs.Spelling.{is_code, time_lead, looks_lead, place_lead, bytes_spelling, edit_spelling, packed_next, packed_after}

@@ -1,8 +1,14 @@
 pub mod Letters
+pub mod OneName
 pub mod PackedLists
+pub mod Parts
 pub mod ReadEdits
 pub mod ReadNext
 pub mod ReadParts
 pub mod ReadPlace
+pub mod ReadSets
+pub mod Sevens
 pub mod Starts
+pub mod Steps
 pub mod Told
+pub mod WriteSets

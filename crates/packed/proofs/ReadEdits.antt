@@ -16,13 +16,13 @@ use Rattle.operations.specs.NameSet.{Range, IsNamed, of_name}
 use Rattle.operations.specs.Operation.{OpKind, insert, delete, restore, change_looks, Begins}
 use Rattle.operations.specs.Spelling.{selected_spelling, IsKind, IsCause}
 use Rattle.operations.proofs.ReadLooks.{sel_reads, selected_looks_reads}
-use Rattle.packed_fields.specs.Sets.{packed_set, is_one}
+use Rattle.packed.specs.Sets.{packed_set, is_one}
 use Rattle.packed.specs.declared.expected.Expected.{Expected}
 use Rattle.packed.specs.Told.{IsInFile}
 use Rattle.packed.specs.Spelling.{is_code, looks_lead, place_lead, bytes_spelling, delete_spelling, edit_spelling}
 use Rattle.packed.specs.Reading.{typed_at, place_at, bytes_at, one_from, insert_from, here_at, placed_at}
 use Rattle.packed.specs.Reading.{delete_at, restore_at, change_at, edit_at}
-use Rattle.packed_fields.proofs.ReadSets.{packed_set_reads}
+use Rattle.packed.proofs.ReadSets.{packed_set_reads}
 use Rattle.packed.proofs.Starts.{Starts, AfterTime, after_time, starts_less, bytes_start, one_starts, place_starts, looks_start, letter_is}
 use Rattle.packed.proofs.ReadParts.{either, same_as_itself, typed_taken, typed_again, typed_not}
 use Rattle.packed.proofs.ReadPlace.{IsName, IsPlace, place_taken, place_again, bytes_taken, bytes_again}

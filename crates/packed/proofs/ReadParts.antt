@@ -11,10 +11,10 @@ use Rattle.char_files.specs.Runs.{same_looks}
 use Rattle.char_files.proofs.MaximalRuns.{same_looks_decides}
 use Rattle.operations.specs.Spelling.{looks_spelling}
 use Rattle.operations.proofs.ReadLooks.{looks_reads}
-use Rattle.packed_fields.specs.Numbers.{sevens}
+use Rattle.packed.specs.Numbers.{sevens}
 use Rattle.packed.specs.Spelling.{is_last, time_lead, looks_lead}
 use Rattle.packed.specs.Reading.{site_at, same_site, other_site_at, later_at, time_at, other_looks_at, typed_at}
-use Rattle.packed_fields.proofs.Sevens.{sevens_reads}
+use Rattle.packed.proofs.Sevens.{sevens_reads}
 use Rattle.packed.proofs.Starts.{past_ne, Starts, AfterTime}
 
 -- of two ways that one was taken that found something

@@ -10,13 +10,13 @@ use Rattle.char_files.specs.CharName.{CharName}
 use Rattle.char_files.specs.declared.TheConstants.{MAX_FILE}
 use Rattle.char_files.specs.declared.name.Anchor.{Anchor}
 use Rattle.char_files.specs.declared.name.Anchor.TheVariants.{Root, At}
-use Rattle.packed_fields.specs.Numbers.{sevens, step_spelling}
+use Rattle.packed.specs.Numbers.{sevens, step_spelling}
 use Rattle.packed.specs.Told.{IsInFile}
 use Rattle.packed.specs.Spelling.{is_code, place_lead, bytes_spelling}
 use Rattle.packed.specs.Reading.{named, near_at, root_from, is_of, name_from, far_at, step_from, place_at}
 use Rattle.packed.specs.Reading.{long_at, code_at, bytes_at}
-use Rattle.packed_fields.proofs.Sevens.{sevens_reads}
-use Rattle.packed_fields.proofs.Steps.{step_reads}
+use Rattle.packed.proofs.Sevens.{sevens_reads}
+use Rattle.packed.proofs.Steps.{step_reads}
 use Rattle.packed.proofs.Starts.{past_ne, Starts, letter_is}
 use Rattle.packed.proofs.ReadParts.{either, Whatever}
 

@@ -8,7 +8,7 @@ use Rattle.char_files.specs.declared.name.Anchor.TheVariants.{Root, At}
 use Rattle.looks.specs.declared.looks.Looks.{Looks}
 use Rattle.char_files.specs.Runs.{same_looks}
 use Rattle.operations.specs.Spelling.{looks_spelling}
-use Rattle.packed_fields.specs.Numbers.{sevens, step_spelling}
+use Rattle.packed.specs.Numbers.{sevens, step_spelling}
 use Rattle.packed.specs.Spelling.{is_code, looks_lead, place_lead, bytes_spelling}
 
 -- not one of 1 to n

@@ -13,8 +13,8 @@ use Rattle.operations.specs.NameSet.{of_name}
 use Rattle.operations.specs.Operation.{Operation, OpKind, insert, delete, restore, change_looks}
 use Rattle.operations.specs.Spelling.{HasSpelling}
 use Rattle.operations.specs.Reading.{looks_at, selected_at, sel_at}
-use Rattle.packed_fields.specs.Numbers.{sevens_at, step_at}
-use Rattle.packed_fields.specs.Sets.{packed_set_at, is_one}
+use Rattle.packed.specs.Numbers.{sevens_at, step_at}
+use Rattle.packed.specs.Sets.{packed_set_at, is_one}
 use Rattle.packed.specs.declared.expected.Expected.{Expected}
 use Rattle.packed.specs.Told.{Told, expected, IsNext}
 use Rattle.packed.specs.Spelling.{is_code, is_last, packed_next}

@@ -9,8 +9,8 @@ use Rattle.char_files.specs.declared.name.Anchor.TheVariants.{Root, At}
 use Rattle.operations.specs.NameSet.{Range}
 use Rattle.operations.specs.Operation.{Operation, OpKind, insert, delete, restore, change_looks}
 use Rattle.operations.specs.Spelling.{looks_spelling, selected_spelling}
-use Rattle.packed_fields.specs.Numbers.{sevens, step_spelling}
-use Rattle.packed_fields.specs.Sets.{packed_set}
+use Rattle.packed.specs.Numbers.{sevens, step_spelling}
+use Rattle.packed.specs.Sets.{packed_set}
 use Rattle.packed.specs.declared.expected.Expected.{Expected}
 use Rattle.packed.specs.Told.{Told, nothing_told, expected, told_on}
 

@@ -8,7 +8,7 @@ use char_files::{Anchor, Name, SiteNo};
 use looks::Looks;
 use operations::{Kind, NameSet, Op};
 
-/// What a site's operations lead one to expect of its next one. This project's own.
+/// What a site's operations lead one to expect of its next one.
 #[derive(Debug, Drop)]
 pub struct Expected {
     /// The seq of the site's last operation, 0 at first.

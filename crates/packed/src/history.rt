@@ -21,7 +21,7 @@ use operations::Op;
 use std::alloc::{AllocError, Global};
 use std::marker::Model;
 
-/// What a text's operations so far tell of the next one, by which that one is packed and read. This project's own.
+/// What a text's operations so far tell of the next one, by which that one is packed and read.
 #[derive(Drop)]
 pub struct History {
     // Whether the operations are those of a chunk.

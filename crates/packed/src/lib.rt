@@ -6,9 +6,12 @@ mod codes;
 mod expected;
 mod history;
 mod laws;
+mod numbers;
 mod reading;
+mod sets;
 mod writing;
 
 pub use expected::Expected;
 pub use history::History;
 pub use laws::{lemma_one_packing, lemma_own_operations_tell};
+pub use numbers::{number_at, put_number};

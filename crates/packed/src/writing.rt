@@ -6,8 +6,8 @@ ghost use Rattle.operations.specs.Spelling.{selected_spelling};
 ghost use Rattle.looks.specs.Sel.{bits_of};
 ghost use Rattle.char_files.specs.declared.name.Anchor.TheVariants.{Root, At};
 ghost use Rattle.operations.specs.declared.kind.TheConstants.{MAX_INSERT};
-ghost use Rattle.packed_fields.specs.Numbers.{sevens};
-ghost use Rattle.packed_fields.specs.Sets.{packed_set};
+ghost use Rattle.packed.specs.Numbers.{sevens};
+ghost use Rattle.packed.specs.Sets.{packed_set};
 ghost use Rattle.packed.specs.Spelling.{is_last, time_lead, looks_lead, place_lead, bytes_spelling};
 ghost use Rattle.packed.specs.Spelling.{delete_spelling, edit_spelling};
 
@@ -16,10 +16,11 @@ use crate::codes::{
     STEP, is_code,
 };
 use crate::expected::{Expected, name_at};
+use crate::numbers::{put_number, put_step};
+use crate::sets::put_set;
 use char_files::{Anchor, Name, SiteNo};
 use looks::{Looks, Sel};
 use operations::{Kind, NameSet, Op, put_selected};
-use packed_fields::{put_number, put_set, put_step};
 use std::alloc::AllocError;
 
 // Whether the last operation was of this site.

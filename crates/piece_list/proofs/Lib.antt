@@ -14,6 +14,7 @@ pub mod Found
 pub mod Gap
 pub mod HiddenNames
 pub mod Joined
+pub mod Keyed
 pub mod Noted
 pub mod NotedRun
 pub mod Order

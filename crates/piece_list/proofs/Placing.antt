@@ -21,7 +21,7 @@ use Rattle.piece_list.specs.Held.{AreEntered, IsSpotOf, IsSplit}
 use Rattle.piece_list.specs.Laws.{Avoid, BeginNotAbove}
 use Rattle.piece_list.specs.Placed.{IsPlaced}
 use Rattle.piece_list.specs.Placing.{compared, IsAnchorSpot, IsParted, HasPart, IsPartedAt, IsSplitAt, IsSplitThere}
-use Rattle.piece_list.specs.Placing.{AreOrAreJoined, IsCounted, IsNext, IsSkip, IsInsertedInGap, last_look}
+use Rattle.piece_list.specs.Placing.{AreOrAreJoined, IsCounted, IsCountedBetween, IsNext, IsSkip, IsInsertedInGap, last_look}
 use Rattle.piece_list.specs.Spelled.{spelled, names_of_atoms, HasName, ArePieces}
 use Rattle.piece_list.specs.Tables.{Tables, table_of, tag_at}
 use Rattle.tree_order.proofs.RunNames.{names_have}
@@ -38,23 +38,26 @@ Items = List (ℕ × Piece)
 
 -- counts
 
-pub counted_none : (from n : ℕ) → n ≡ 0 → IsCounted from n from
-counted_none from n e = (omega arith, omega arith)
+counted_none : (from n : ℕ) → IsCountedBetween from 0 n from
+counted_none from n = (omega arith, omega arith)
 
-counted_more : (from n steps m more : ℕ) → IsCounted from n steps → IsCounted steps m more
-    → IsCounted from (n + m) more
-counted_more from n steps m more a b = (omega arith, omega arith)
+counted_more : (from n steps m more : ℕ) → IsCountedBetween from 0 n steps → IsCounted steps m more
+    → IsCountedBetween from m (n + m) more
+counted_more from n steps m more a b = (omega (arith, a.0, b.0), omega (arith, a.1, b.1))
+
+counted_on : (from n k steps m : ℕ) → IsCountedBetween from k n steps → n ≤ m → IsCountedBetween from 0 m steps
+counted_on from n k steps m a le = (omega (arith, a.0, le), omega (arith, a.1))
 
 -- the walk
 
--- so far whole pieces of greater key are skipped, and a key is looked at for each
+-- so far whole pieces of greater key are skipped, and no more keys are looked at
 pub record IsWalked (key : Key) (before after : Items) (last : Option ℕ) (from steps : ℕ) : Type 0 where
   pub skipped : Items
   pub rest : Items
   pub whole : after ≡ skipped ++ rest
   pub greater : All (λ m. is_below key m.1.key ≡ true) skipped
   pub part : (items : Items) → items ≡ before ++ after → IsParted items last (before ++ skipped) rest
-  pub counts : IsCounted from (length skipped) steps
+  pub counts : IsCountedBetween from 0 (length skipped) steps
 
 abbrev pub Walked : Items → Key → Option ℕ → Option ℕ → ℕ → ℕ → Type 0
 Walked items key first last from steps =
@@ -71,7 +74,7 @@ walk_begins items key first from before after (is, last) = record {
     e ∙ ap (λ (l : Items). l ++ after) (sym (append-nil before)),
     subst (λ (l : Items). last_tag l ≡ first) (sym (append-nil before)) last,
   );
-  counts = counted_none from 0 refl;
+  counts = counted_none from 0;
 }
 
 pub walk_part : (items : Items) (key : Key) (first last : Option ℕ) (from steps : ℕ) → HasPart items first
@@ -104,11 +107,63 @@ walk_goes_on items key first last next from steps more walked is_next looks befo
         e ∙ ap (λ (l : Items). before ++ l) whole ∙ sym (append_assoc before (w.skipped ++ m ∷ []) rest),
         ap last_tag regroup ∙ last_tag-push (before ++ w.skipped) m,
       );
-      counts = subst (λ (n : ℕ). IsCounted from n more) (sym (length-append w.skipped (m ∷ [])))
+      counts = counted_on from (length w.skipped + 1) 1 more (length (w.skipped ++ m ∷ []))
           (counted_more from (length w.skipped) steps 1 more w.counts
           (subst (λ (n : ℕ). IsCounted steps n more) (ap last_look is)
-          (looks (before ++ w.skipped) w.rest (w.part items parted.0))));
+          (looks (before ++ w.skipped) w.rest (w.part items parted.0))))
+          (omega (arith, length-append w.skipped (m ∷ [])));
     }
+
+-- after the piece of this number, pieces of greater key are passed, of which the last has the other number
+pub record ArePassed (items : Items) (key : Key) (next last : ℕ) : Type 0 where
+  pub front : Items
+  pub passed : Items
+  pub rest : Items
+  pub part : IsParted items (Some next) front (passed ++ rest)
+  pub greater : All (λ m. is_below key m.1.key ≡ true) passed
+  pub last_is : last_tag (front ++ passed) ≡ Some last
+
+pub walk_passes : (items : Items) (key : Key) (first : Option ℕ) (next last from steps : ℕ) → AreTags items
+    → Walked items key first (Some next) from steps → ArePassed items key next last
+    → Walked items key first (Some last) from steps
+walk_passes items key first next last from steps are walked p before after parted =
+    let P : ℕ × Piece → Type 0 = λ (m : ℕ × Piece). is_below key m.1.key ≡ true in
+    let w : IsWalked key before after (Some next) from steps = walked before after parted in
+    let (front, rest) = one_part items are (Some next) (before ++ w.skipped) w.rest p.front (p.passed ++ p.rest)
+    (w.part items parted.0) p.part in
+    let whole : after ≡ (w.skipped ++ p.passed) ++ p.rest =
+    w.whole ∙ ap (λ (l : Items). w.skipped ++ l) rest ∙ sym (append_assoc w.skipped p.passed p.rest) in
+    record {
+      skipped = w.skipped ++ p.passed;
+      rest = p.rest;
+      whole = whole;
+      greater = All-append P w.skipped p.passed w.greater p.greater;
+      part = λ all e. (
+        e ∙ ap (λ (l : Items). before ++ l) whole ∙ sym (append_assoc before (w.skipped ++ p.passed) p.rest),
+        ap last_tag (sym (append_assoc before w.skipped p.passed))
+            ∙ ap (λ (l : Items). last_tag (l ++ p.passed)) front ∙ p.last_is,
+      );
+      counts = counted_on from (length w.skipped) 0 steps (length (w.skipped ++ p.passed)) w.counts
+          (omega (arith, length-append w.skipped p.passed));
+    }
+
+pub pass_shrinks : (items : Items) (key : Key) (next last : ℕ) → AreTags items → ArePassed items key next last
+    → count_after (Some last) items ≤ count_after (Some next) items
+pass_shrinks items key next last are p =
+    let whole : items ≡ (p.front ++ p.passed) ++ p.rest = p.part.0 ∙ sym (append_assoc p.front p.passed p.rest) in
+    omega (
+      arith,
+      count_part items are (Some next) p.front (p.passed ++ p.rest) p.part,
+      count_part items are (Some last) (p.front ++ p.passed) p.rest (whole, p.last_is),
+      length-append p.passed p.rest,
+    )
+
+-- the next piece is one of the list
+pub next_has_tag : (items : Items) (key : Key) (last : Option ℕ) (next : ℕ) → HasPart items last → IsNext items key last next
+    → HasTag items next
+next_has_tag items key last next (before, after, parted) is_next =
+    let (p, rest, is, above) = is_next before after parted in
+    (p, (before, rest, parted.0 ∙ ap (λ (l : Items). before ++ l) is))
 
 pub walk_shrinks : (items : Items) (key : Key) (last : Option ℕ) (next : ℕ) → AreTags items
     → HasPart items last → IsNext items key last next → count_after (Some next) items < count_after last items

@@ -1,5 +1,5 @@
 -- What is held together after one piece is changed, and what that makes of the pieces.
-use Rattle.std.proofs.Common.{◌≡◌, ℕ, ◌+◌, ◌-◌, ◌≤◌, ◌<◌, ◌^◌, [], ◌∷◌, map, sym, ap, subst, ◌∙◌, arith}
+use Rattle.std.proofs.Common.{◌≡◌, ℕ, ◌+◌, ◌-◌, ◌≤◌, ◌<◌, ◌^◌, List, [], ◌∷◌, map, sym, ap, subst, ◌∙◌, arith}
 use Rattle.operations.specs.NameSet.{Range}
 use Rattle.piece_raw.specs.Ring.{HasTag, with_value}
 use Rattle.rank_index.specs.Ranked.{weight_of}
@@ -16,11 +16,12 @@ use Rattle.piece_list.proofs.ChangedPiece.{IsTurn, same_names, edges_after, ente
 use Rattle.piece_list.proofs.Splitting.{as_many, written_tags}
 use Rattle.piece_list.proofs.SplitList.{is_piece}
 use Rattle.piece_list.proofs.Edges.{edge_after, edge_of}
+use Rattle.piece_list.proofs.Keyed.{changed_key, keyed_with}
 use Rattle.piece_list.proofs.Positions.{Items, own, small_count}
 use Rattle.piece_list.proofs.Weighed.{Weights, has_weight, set_fits, set_weighed, total_is_shown}
 
 -- what a change of one piece makes, of the pieces and of what is held beside them
-pub record IsTurned (setting : Setting) (items : Items) (tables : Tables) (weights : Weights) (tag : ℕ) (p w : Piece)
+pub record IsTurned (setting : Setting) (items : Items) (tables : Tables) (weights : Weights) (keys : List ℕ) (tag : ℕ) (p w : Piece)
     (name : CharName) : Type 0 where
   pub turn : IsTurn items tag p w name
   pub is_weighed : HasTag weights tag
@@ -32,10 +33,10 @@ pub record IsTurned (setting : Setting) (items : Items) (tables : Tables) (weigh
       (changed_char setting)) (spelled items)
   pub same : AreTheSame items (with_value tag w items)
   pub held : (weight : ℕ) → weight ≡ own w w.len
-      → AreHeld (with_value tag w items) tables (with_value tag weight weights)
+      → AreHeld (with_value tag w items) tables (with_value tag weight weights) keys
 
-module _ (setting : Setting) (items : Items) (tables : Tables) (weights : Weights) (tag : ℕ) (p w : Piece)
-    (name : CharName) (held : AreHeld items tables weights) (t : IsTurn items tag p w name)
+module _ (setting : Setting) (items : Items) (tables : Tables) (weights : Weights) (keys : List ℕ) (tag : ℕ) (p w : Piece)
+    (name : CharName) (held : AreHeld items tables weights keys) (t : IsTurn items tag p w name)
     (is_w : w ≡ changed_piece setting p) (below : IsPieceBelow (key_of setting) p)
   where
     abbrev new : Items
@@ -93,14 +94,15 @@ module _ (setting : Setting) (items : Items) (tables : Tables) (weights : Weight
           (record { piece = s; within = 0 }) d is;
     }
 
-    held_after : (weight : ℕ) → weight ≡ own w w.len → AreHeld new tables (with_value tag weight weights)
+    held_after : (weight : ℕ) → weight ≡ own w w.len → AreHeld new tables (with_value tag weight weights) keys
     held_after weight by = record {
       numbered = written_tags tag w items held.numbered;
       entered = entered_after setting items tables tag p w held.numbered held.entered t.member is_w;
       indexed = set_weighed items weights tag weight p w held.indexed t.member by;
+      keyed = keyed_with items keys tag p w held.keyed t.member (ap (λ (q : Piece). q.key) is_w ∙ changed_key setting p);
     }
 
-    pub is_turned : IsTurned setting items tables weights tag p w name
+    pub is_turned : IsTurned setting items tables weights keys tag p w name
     is_turned = record {
       turn = t;
       is_weighed = is_weighed;

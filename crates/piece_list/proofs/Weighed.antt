@@ -21,7 +21,7 @@ use Rattle.piece_list.proofs.Shown.{count_both, count_cons}
 abbrev pub Weights : Type 0
 Weights = List (ℕ × ℕ)
 
-abbrev weigh : ℕ × Piece → ℕ × ℕ
+abbrev pub weigh : ℕ × Piece → ℕ × ℕ
 weigh m = (m.0, shown_weight m.1)
 
 -- all weights together are what is shown
@@ -52,7 +52,7 @@ part_has_weight items index None same part = tt
 part_has_weight items index (Some tag) same part = has_weight items index tag same (part_has_tag items tag part)
 
 -- a list's parts are those of what it is mapped from
-parted : {X Y : Type 0} (f : X → Y) (items : List X) (fronts bs : List Y) → map f items ≡ fronts ++ bs
+pub parted : {X Y : Type 0} (f : X → Y) (items : List X) (fronts bs : List Y) → map f items ≡ fronts ++ bs
     → (xs : List X) × (ys : List X) × (items ≡ xs ++ ys) × (map f xs ≡ fronts) × (map f ys ≡ bs)
 parted f items [] bs e = ([], items, refl, refl, e)
 parted f [] (a ∷ fronts) bs e = absurd cc
@@ -74,6 +74,16 @@ first_of (m ∷ ys) tag weight later e =
     let head : (m.0, shown_weight m.1) ≡ (tag, weight) = cc in
     let same : m.0 ≡ tag = ap (λ (n : ℕ × ℕ). n.0) head in
     (m.1, ys, ap (λ (t : ℕ). (t, m.1) ∷ ys) same, sym (ap (λ (n : ℕ × ℕ). n.1) head))
+
+-- and the others
+pub first_piece : (items : Items) (tag weight : ℕ) (later : Weights) → map weigh items ≡ (tag, weight) ∷ later
+    → (p : Piece) × (ys : Items) × (items ≡ (tag, p) ∷ ys) × (map weigh ys ≡ later)
+first_piece [] tag weight later e = absurd cc
+first_piece (m ∷ ys) tag weight later e =
+    let head : (m.0, shown_weight m.1) ≡ (tag, weight) = cc in
+    let rest : map weigh ys ≡ later = cc in
+    let same : m.0 ≡ tag = ap (λ (n : ℕ × ℕ). n.0) head in
+    (m.1, ys, ap (λ (t : ℕ). (t, m.1) ∷ ys) same, rest)
 
 -- a member of the index is a piece, with so much shown before it
 pub record IsPieceAt (items : Items) (tag weight before : ℕ) : Type 0 where

@@ -7,6 +7,7 @@ use Rattle.piece_list.specs.Piece.{Piece}
 use Rattle.piece_list.specs.declared.spot.Spot.{Spot}
 use Rattle.piece_list.specs.Pieces.{range_of, front_of, rest_of}
 use Rattle.piece_list.specs.Spelled.{spelled, ArePieces, HasName}
+use Rattle.piece_list.specs.Numbers.{AreKeyed}
 use Rattle.piece_list.specs.Tables.{Tables, tag_at}
 use Rattle.piece_list.specs.Values.{Values}
 
@@ -49,11 +50,12 @@ pub record HeldPieces : Type 0 where
   pub tables : Tables
   pub room : ℕ
 
--- no number is used twice, the tables have the pieces' names, and the index has what each piece shows
-pub record AreHeld (items : List (ℕ × Piece)) (tables : Tables) (weights : List (ℕ × ℕ)) : Type 0 where
+-- no number is used twice, the tables have the pieces' names, and the index has what each piece shows, and its key
+pub record AreHeld (items : List (ℕ × Piece)) (tables : Tables) (weights : List (ℕ × ℕ)) (keys : List ℕ) : Type 0 where
   pub numbered : AreTags items
   pub entered : AreEntered items tables
   pub indexed : weights ≡ weighed items
+  pub keyed : AreKeyed items keys
 
 -- there is a piece of this number, with more characters than so many
 abbrev pub HasSpot : List (ℕ × Piece) → Spot → Type 0

@@ -2,6 +2,7 @@ pub mod Changing
 pub mod Held
 pub mod Laws
 pub mod Noted
+pub mod Numbers
 pub mod Piece
 pub mod Pieces
 pub mod Placed

@@ -70,13 +70,18 @@ IsNext items key last next = (before after : List (ℕ × Piece)) → IsParted i
 abbrev pub IsCounted : (from n steps : ℕ) → Type 0
 IsCounted from n steps = (steps ≤ from + n) × (min (from + n) (2 ^ 64 - 1) ≤ steps)
 
+-- a count went on by so many at least and by so many at most, as far as a u64 reaches
+abbrev pub IsCountedBetween : (from least most steps : ℕ) → Type 0
+IsCountedBetween from least most steps = (steps ≤ from + most) × (min (from + least) (2 ^ 64 - 1) ≤ steps)
+
 -- to see that the first of the pieces isn't skipped takes one look at its key; where there is none, no look
 abbrev pub last_look : List (ℕ × Piece) → ℕ
 last_look [] = 0
 last_look (m ∷ rest) = 1
 
 -- after those before, of the pieces that follow, whole pieces of greater key are skipped, and no further one
--- is of greater key; the last piece then has this number, and each look at a key was counted
+-- is of greater key; the last piece then has this number, and the next one's key was looked at, and those of no more than the
+-- skipped ones
 pub record IsSkip (key : Key) (before after : List (ℕ × Piece)) (last : Option ℕ) (from steps : ℕ) : Type 0 where
   pub skipped : List (ℕ × Piece)
   pub rest : List (ℕ × Piece)
@@ -84,14 +89,14 @@ pub record IsSkip (key : Key) (before after : List (ℕ × Piece)) (last : Optio
   pub greater : All (λ m. is_below key m.1.key ≡ true) skipped
   pub stops : BeginNotAbove key rest
   pub last_is : last_tag (before ++ skipped) ≡ last
-  pub counts : IsCounted from (length skipped + last_look rest) steps
+  pub counts : IsCountedBetween from (last_look rest) (length skipped + last_look rest) steps
 
 -- new is these pieces, of which the one of this number may be one with the piece before it
 abbrev pub AreOrAreJoined : (tag : ℕ) → (parts new : List (ℕ × Piece)) → Type 0
 AreOrAreJoined tag parts new = (new ≡ parts) ⊎ ((first : ℕ) × (n : ℕ) × IsSplit first n tag new parts)
 
 -- new is old, split after the anchor where that is needed, with this piece in its gap; the steps are the comparisons that find the
--- anchor, and one look at the key of each piece skipped and of the next one
+-- anchor, and a look at the key of the piece after those skipped, and of no more than those
 pub record IsInsertedInGap (cause : Anchor) (p : Piece) (old new : List (ℕ × Piece)) (steps : ℕ) : Type 0 where
   pub before : List (ℕ × Piece)
   pub skipped : List (ℕ × Piece)
@@ -101,4 +106,4 @@ pub record IsInsertedInGap (cause : Anchor) (p : Piece) (old new : List (ℕ × 
   pub split : IsSplitThere old before (skipped ++ after)
   pub spells : spelled (before ++ skipped ++ after) ≡ spelled old
   pub insert : AreOrAreJoined tag (before ++ skipped ++ (tag, p) ∷ after) new
-  pub counts : IsCounted (compared cause) (length skipped + last_look after) steps
+  pub counts : IsCountedBetween (compared cause) (last_look after) (length skipped + last_look after) steps

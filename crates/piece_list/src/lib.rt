@@ -3,6 +3,7 @@
 
 mod limits;
 mod list;
+mod numbers;
 mod piece;
 mod record;
 mod ring;

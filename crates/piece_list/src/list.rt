@@ -26,7 +26,7 @@ pub use walking::Walk;
 
 /// All characters of a text in order, hidden ones too, as a list of pieces (Project Oberon, chapter 5).
 ///
-/// A piece is found by the name of one of its characters at once; that is this project's own.
+/// A piece is found by the name of one of its characters at once.
 #[derive(Drop)]
 pub struct PieceList {
     pieces: Pieces,

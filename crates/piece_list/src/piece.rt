@@ -12,13 +12,13 @@ use looks::{Key, Looks};
 use piece_raw::Members;
 use std::marker::Model;
 
-/// The most characters of a piece. This project's own.
+/// The most characters of a piece.
 pub const MAX_PIECE: u32 = 4096;
 
 /// Neighbouring characters of a site's file that one Insert typed, or a row of Inserts of one character each whose stamps rise by one,
 /// and that all changes since then took alike.
 ///
-/// Oberon's texts are lists of such pieces (Project Oberon, chapter 5); keys and registers are this project's own.
+/// Oberon's texts are lists of such pieces (Project Oberon, chapter 5), without keys and registers.
 #[derive(Drop)]
 pub(crate) struct PieceRef<'a> {
     record: &'a PieceRecord,
@@ -134,7 +134,7 @@ impl<'a> PieceRef<'a> {
     }
 }
 
-/// Pieces in order, each with its number. This project's own.
+/// Pieces in order, each with its number.
 #[derive(Drop)]
 pub(crate) struct PieceRefs<'a> {
     records: Members<'a, PieceRecord>,

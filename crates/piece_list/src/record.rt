@@ -5,8 +5,7 @@ use crate::run::Run;
 use char_files::SiteNo;
 use looks::Key;
 
-/// A piece as it is kept, in 40 bytes: what its registers hold stands in tables, and the piece has the numbers of the entries. This
-/// project's own.
+/// A piece as it is kept, in 40 bytes: what its registers hold stands in tables, and the piece has the numbers of the entries.
 #[derive(Clone, Copy, Drop)]
 pub(crate) struct PieceRecord {
     // The key of the first character's Insert.

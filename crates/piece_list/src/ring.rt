@@ -21,7 +21,7 @@ use piece_raw::Ring;
 use std::alloc::Global;
 use std::marker::Model;
 
-/// Pieces in order, each under its number, kept as records whose registers' values stand in tables. This project's own.
+/// Pieces in order, each under its number, kept as records whose registers' values stand in tables.
 #[derive(Drop)]
 pub(crate) struct PieceRing {
     records: Ring<PieceRecord>,
@@ -48,7 +48,7 @@ impl Model for PieceRing {
         × (r.room ≤ r.values.room) × (length r.records.items + r.room ≤ MAX_PIECES) };
 }
 
-/// The most pieces of a text, so that no number of one is 2^32 - 1, which stands for none. This project's own.
+/// The most pieces of a text, so that no number of one is 2^32 - 1, which stands for none.
 pub(crate) const MAX_PIECES: usize = u32::MAX as usize;
 
 // Sets the cursor on the record of this number, before the first one for `None`.

@@ -5,7 +5,7 @@ use char_files::SiteNo;
 use looks::{Key, Looks};
 
 /// Neighbouring names of one site's file in one set of looks: what an Insert brings to a text, or a stretch of what is shown, which a
-/// row of Inserts may have typed. This project's own.
+/// row of Inserts may have typed.
 #[derive(Debug, Drop, PartialEq, Eq)]
 pub struct Run {
     pub site: SiteNo,

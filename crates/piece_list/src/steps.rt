@@ -10,7 +10,7 @@ use looks::Key;
 use std::marker::Model;
 
 /// How often a name was compared with a piece, or a piece's key was looked at. Finding and placing do both here, and
-/// each adds one, up to the greatest `u64`. This project's own.
+/// each adds one, up to the greatest `u64`.
 #[derive(Drop)]
 pub(crate) struct Steps {
     count: u64,

@@ -18,9 +18,9 @@ use std::marker::Model;
 const MAX_ENTRIES: usize = u32::MAX as usize;
 
 // How far back looks are sought that a run may share.
-const NEAR: usize = 8;
+const FAR_BACK: usize = 8;
 
-/// The values that pieces' registers hold, each entered once for all pieces that have it. Nothing is taken out. This project's own.
+/// The values that pieces' registers hold, each entered once for all pieces that have it. Nothing is taken out.
 #[derive(Drop)]
 pub(crate) struct ValueTables {
     // The looks that runs were inserted with.
@@ -51,7 +51,7 @@ fn near(entered: &[Looks], looks: &Looks) -> Option<usize>
     ensures { IfSome result (λ at. slice_get entered.now at ≡ Just looks.now) }
 {
     let mut at = entered.len();
-    let first = at.saturating_sub(NEAR);
+    let first = at.saturating_sub(FAR_BACK);
     while first < at {
         at -= 1;
         if entered[at] == *looks {

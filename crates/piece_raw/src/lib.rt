@@ -13,5 +13,5 @@ pub use limits::the_limits;
 pub use members::Members;
 pub use ring::Ring;
 
-/// The most members of a ring, so that a tag has 32 bits: the table isn't grown past it. This project's own.
+/// The most members of a ring, so that a tag has 32 bits: the table isn't grown past it.
 pub const MAX_TAGS: usize = 1 << 32;

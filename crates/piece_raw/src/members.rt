@@ -8,7 +8,7 @@ use crate::nodes::{Member, Nodes};
 use std::marker::Model;
 
 /// The members that are left of a ring, in order, each with its tag. It goes from node to node, and reads the table for
-/// the first one alone. This project's own.
+/// the first one alone.
 #[derive(Drop)]
 pub struct Members<'a, T> {
     nodes: &'a Nodes<T>,

@@ -15,8 +15,8 @@ use std::marker::Model;
 
 /// A ring of members closed by a trailer, linked both ways, with one cursor.
 ///
-/// A text's list of pieces has this form (Project Oberon, chapter 5). The tags are this project's own: a
-/// member keeps its tag for good, tags count from 0, and none is used twice.
+/// A text's list of pieces has this form (Project Oberon, chapter 5). A member keeps its tag
+/// for good, tags count from 0, and none is used twice.
 pub struct Ring<T> {
     nodes: Nodes<T>,
     spare: Vec<Spare<T>>,

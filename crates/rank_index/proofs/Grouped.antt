@@ -131,7 +131,7 @@ pub in_group : (groups : List ℕ) (chunks : List ChunkSeen) (slot : ℕ) (c : C
     → weight_of c.members ≤ get_or groups (slot / GROUP) 0
 in_group groups chunks slot c lt is are =
     let g : ℕ = slot / GROUP in
-    let none : ChunkSeen = record { members = []; home = 0 } in
+    let none : ChunkSeen = record { members = []; home = 0; least = 0 } in
     let next : GROUP * (g + 1) ≡ GROUP * g + GROUP = omega arith in
     omega (
       arith,

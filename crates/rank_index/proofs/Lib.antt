@@ -7,6 +7,8 @@ pub mod Homes
 pub mod Inserted
 pub mod Pieces
 pub mod InSlots
+pub mod Keyed
+pub mod Lows
 pub mod Reweighed
 pub mod Stretches
 pub mod Tagged

@@ -115,7 +115,7 @@ module _ (chunks : List ChunkSeen) (slot tag : ℕ) (c : ChunkSeen) (read : IsRe
 pub weighs_here : (chunks : List ChunkSeen) (slot tag : ℕ) (c : ChunkSeen) → IsReadFor chunks slot tag c → (w : ℕ)
     → AreTags (members_of chunks) → Weighs chunks c tag w
 weighs_here chunks slot tag c read w are =
-    let d : ChunkSeen = record { members = with_value tag w c.members; home = c.home } in
+    let d : ChunkSeen = record { members = with_value tag w c.members; home = c.home; least = c.least } in
     let (rest, was, changed) = weight_at chunks slot c read.within read.is in
     record {
       rest = rest;

@@ -84,7 +84,7 @@ found_after chunks n pos left tag within at found =
 
 -- where a member stands in a chunk tells where it stands in the whole
 module _ (before : List ChunkSeen) (c : ChunkSeen) (after : List ChunkSeen) where
-  placed : (us vs : Members) (m : ℕ × ℕ) → c.members ≡ us ++ m ∷ vs
+  pub placed : (us vs : Members) (m : ℕ × ℕ) → c.members ≡ us ++ m ∷ vs
       → members_of (before ++ c ∷ after) ≡ (members_of before ++ us) ++ m ∷ (vs ++ members_of after)
   placed us vs m e =
       members_of-seam before c after

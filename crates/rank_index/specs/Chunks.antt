@@ -5,10 +5,12 @@ use Rattle.std.specs.List.{flat_map}
 use Rattle.rank_index.specs.declared.chunk.TheConstants.{MOST, HALF}
 use Rattle.piece_raw.specs.Ring.{HasTag, AreTags}
 
--- the members of a chunk in order, and the number under which they are entered as being in it
+-- the members of a chunk in order, the number under which they are entered as being in it, and which key it tells as the
+-- least of theirs
 pub record ChunkSeen : Type 0 where
   pub members : List (ℕ × ℕ)
   pub home : ℕ
+  pub least : ℕ
 
 -- the members of all chunks, one chunk after the other
 abbrev pub members_of : List ChunkSeen → List (ℕ × ℕ)

@@ -1,4 +1,5 @@
 pub mod Chunks
 pub mod Groups
+pub mod Keyed
 pub mod Slots
 pub mod Ranked

@@ -1,13 +1,14 @@
 -- What a contract sees of an index.
 use Rattle.std.specs.Prelude.{◌≡◌, ℕ, ◌+◌, ◌<◌, List, ◌∷◌, ◌++◌, map, sum}
 
--- the members in order, each its tag and its weight; and how many insertions take no memory
+-- the members in order, each its tag and its weight; their keys by tag; and how many insertions take no memory
 pub record Ranked : Type 0 where
   pub items : List (ℕ × ℕ)
+  pub keys : List ℕ
   pub room : ℕ
 
-abbrev pub ranked : List (ℕ × ℕ) → ℕ → Ranked
-ranked items room = record { items = items; room = room }
+abbrev pub ranked : List (ℕ × ℕ) → List ℕ → ℕ → Ranked
+ranked items keys room = record { items = items; keys = keys; room = room }
 
 -- the sum of the members' weights
 abbrev pub weight_of : List (ℕ × ℕ) → ℕ

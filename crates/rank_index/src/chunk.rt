@@ -1,14 +1,16 @@
 //! A stretch of the list that is looked through as a whole.
 
-ghost use Rattle.std.specs.Prelude.{◌≡◌, ◌+◌, ◌<◌, ◌≤◌, ◌^◌, ◌↔◌, ◌==◌, [], ◌∷◌, ◌++◌, length, take};
+ghost use Rattle.std.specs.Prelude.{◌≡◌, ℕ, ◌+◌, ◌-◌, ◌<◌, ◌≤◌, ◌^◌, ◌↔◌, ◌==◌, List, [], ◌∷◌, ◌++◌, length, min, take, drop};
 ghost use Rattle.std.specs.Prelude.{IfOk, IfSome, IsSome, IsTrue};
 ghost use Rattle.looks.specs.Refusal.{RefusedForMemoryAlone};
 ghost use Rattle.piece_raw.specs.Ring.{HasTag, IsPushed, last_tag, with_value, tags};
 ghost use Rattle.piece_raw.specs.declared.TheConstants.{MAX_TAGS};
 ghost use Rattle.std.specs.List.{IsDistinct};
+ghost use Rattle.rank_index.specs.Keyed.{least_of, AreAbove, IsPassed, last_from};
 ghost use Rattle.rank_index.specs.Slots.{IsSlot};
 ghost use Rattle.rank_index.specs.Ranked.{weight_of, IsRank, IsFound};
 
+use crate::keys::{last_of, least_in, pass};
 use looks::Refusal;
 use std::alloc::Global;
 use std::marker::Model;
@@ -19,13 +21,15 @@ pub(crate) const MOST: usize = 128;
 // Half of it.
 pub(crate) const HALF: usize = 64;
 
-// Up to `MOST` neighbouring members, with the sum of their weights.
+// Up to `MOST` neighbouring members, with the sum of their weights and the least of their keys.
 #[derive(Drop)]
 pub(crate) struct Chunk {
     // A tag and a weight in eight bytes: a look along a chunk takes as long as its members are in memory.
     members: Vec<(u32, u32)>,
     sum: u64,
     home: usize,
+    // What it was told last: the least key of its members.
+    least: u64,
 }
 
 impl Model for Chunk {
@@ -36,7 +40,7 @@ impl Model for Chunk {
 
     ghost Value = { ChunkSeen };
 
-    ghost view = { λ c. record { members = c.members.items; home = c.home } };
+    ghost view = { λ c. record { members = c.members.items; home = c.home; least = c.least } };
 
     ghost invariant = { λ c. (c.sum ≡ weight_of c.members.items) × (weight_of c.members.items < 2 ^ 64)
         × (vec_len c.members ≤ MOST) × (MOST ≤ vec_capacity c.members) };
@@ -60,13 +64,14 @@ fn slot_in(members: &[(u32, u32)], tag: u64) -> Option<usize>
 impl Chunk {
     // No members, and memory for all that come. Its home is 0 until it is given another one.
     pub(crate) fn new(alloc: Global) -> Result<Chunk, Refusal>
-        ensures ok { IfOk result (λ c. c ≡ record { members = []; home = 0 }) }
+        ensures ok { IfOk result (λ c. c ≡ record { members = []; home = 0; least = 2 ^ 64 - 1 }) }
         ensures errors { RefusedForMemoryAlone result }
     {
         Ok(Chunk {
             members: Vec::with_capacity(alloc, MOST)?,
             sum: 0,
             home: 0,
+            least: u64::MAX,
         })
     }
 
@@ -81,8 +86,18 @@ impl Chunk {
     pub(crate) fn move_to(&mut self, home: usize)
         ensures members { self.new.members ≡ self.old.members }
         ensures home { self.new.home ≡ home }
+        ensures least { self.new.least ≡ self.old.least }
     {
         self.home = home;
+    }
+
+    // Finds the least key anew.
+    fn find_least(&mut self, keys: &[u64])
+        ensures members { self.new.members ≡ self.old.members }
+        ensures home { self.new.home ≡ self.old.home }
+        ensures least { self.new.least ≡ least_of keys.now self.new.members }
+    {
+        self.least = least_in(keys, &self.members);
     }
 
     pub(crate) fn sum(&self) -> u64
@@ -160,15 +175,17 @@ impl Chunk {
     }
 
     // Puts a member directly after that of a tag, at the front for `None`.
-    pub(crate) fn insert_after(&mut self, after: Option<u64>, tag: u64, weight: u32)
+    pub(crate) fn insert_after(&mut self, after: Option<u64>, tag: u64, weight: u32, key: u64)
         requires after { IfSome after (HasTag self.old.members) }
         requires tag { tag < MAX_TAGS }
         requires room { length self.old.members < MOST }
         requires total { weight_of self.old.members + weight < 2 ^ 64 }
         ensures inserted { IsPushed self.old.members after tag weight self.new.members }
         ensures home { self.new.home ≡ self.old.home }
+        ensures least { self.new.least ≡ min self.old.least key }
     {
         let slot = self.slot_after(after);
+        self.least = self.least.min(key);
         match self.members.insert(slot, (tag as u32, weight)) {
             Ok(()) => self.sum += u64::from(weight),
             Err(_) => unreachable!(),
@@ -182,6 +199,7 @@ impl Chunk {
         requires total { weight_of (with_value tag weight self.old.members) < 2 ^ 64 }
         ensures members { self.new.members ≡ with_value tag weight self.old.members }
         ensures home { self.new.home ≡ self.old.home }
+        ensures least { self.new.least ≡ self.old.least }
     {
         match self.slot_of(tag) {
             Some(slot) => {
@@ -193,29 +211,78 @@ impl Chunk {
         }
     }
 
+    // The least key of its members.
+    pub(crate) fn least(&self) -> u64
+        ensures { result ≡ self.now.least }
+    {
+        self.least
+    }
+
+    // Passes its members up to the first whose key isn't greater, after a member of this tag. It answers the tag of the last that was
+    // passed, and whether there is such a first one.
+    pub(crate) fn pass_from(&self, tag: u64, keys: &[u64], key: u64) -> (u64, bool)
+        requires least { self.now.least ≡ least_of keys.now self.now.members }
+        ensures stops { IsTrue result.1 → (more : List (ℕ × ℕ)) → IsPassed keys.now key (self.now.members ++ more) tag result.0 }
+        ensures all { ¬ IsTrue result.1 → AreAbove keys.now key self.now.members × (result.0 ≡ last_from tag self.now.members) }
+    {
+        let members = self.members();
+        if key < self.least() {
+            return (last_of(members, members.len(), tag), false);
+        }
+        pass(keys, members, key, tag)
+    }
+
+    // The same of its members after that of this tag.
+    pub(crate) fn pass_after(&self, tag: u64, keys: &[u64], key: u64) -> (u64, bool)
+        requires here { HasTag self.now.members tag }
+        ensures { (before : List (ℕ × ℕ)) × (weight : ℕ) × (follow : List (ℕ × ℕ))
+            × (self.now.members ≡ before ++ (tag, weight) ∷ follow)
+            × (IsTrue result.1 → (more : List (ℕ × ℕ)) → IsPassed keys.now key (follow ++ more) tag result.0)
+            × (¬ IsTrue result.1 → AreAbove keys.now key follow × (result.0 ≡ last_from tag follow)) }
+    {
+        let members = self.members();
+        match self.slot_of(tag) {
+            Some(slot) => pass(keys, &members[slot + 1..], key, tag),
+            None => unreachable!(),
+        }
+    }
+
+    // The tag of its last member, this one where it has none.
+    pub(crate) fn last_tag(&self, tag: u64) -> u64
+        ensures { result ≡ last_from tag self.now.members }
+    {
+        let members = self.members();
+        last_of(members, members.len(), tag)
+    }
+
     // Puts a member at the end.
     fn push(&mut self, member: (u32, u32))
         requires room { length self.old.members < MOST }
         requires total { weight_of self.old.members + member.1 < 2 ^ 64 }
         ensures members { self.new.members ≡ self.old.members ++ member ∷ [] }
         ensures home { self.new.home ≡ self.old.home }
+        ensures least { self.new.least ≡ self.old.least }
     {
         self.members.push_reserved(member);
         self.sum += u64::from(member.1);
     }
 
-    // Gives its second half to a chunk that has no members.
-    pub(crate) fn halve(&mut self, rest: &mut Chunk)
+    // Gives its second half to a chunk that has no members. Each has the least of its own keys then.
+    pub(crate) fn halve(&mut self, rest: &mut Chunk, keys: &[u64])
         requires full { length self.old.members ≡ MOST }
         requires empty { rest.old.members ≡ [] }
         ensures parts { self.old.members ≡ self.new.members ++ rest.new.members }
         ensures halves { (length self.new.members ≡ HALF) × (length rest.new.members ≡ HALF) }
         ensures homes { (self.new.home ≡ self.old.home) × (rest.new.home ≡ rest.old.home) }
+        ensures least { self.new.least ≡ least_of keys.now self.new.members }
+        ensures rest_least { rest.new.least ≡ least_of keys.now rest.new.members }
     {
         for member in &self.members[HALF..] {
             rest.push(*member);
         }
         self.members.truncate(HALF);
         self.sum -= rest.sum();
+        self.find_least(keys);
+        rest.find_least(keys);
     }
 }

@@ -1,8 +1,8 @@
-//! Sums of neighbouring chunks, which a search goes along before it goes along chunks.
+//! Sums and least keys of neighbouring chunks, which a search goes along before it goes along chunks.
 
 ghost use Rattle.std.specs.Prelude.{◌≡◌, ◌+◌, ◌<◌, ◌≤◌, ◌^◌, length, vec_capacity};
 ghost use Rattle.rank_index.specs.Chunks.{members_of};
-ghost use Rattle.rank_index.specs.Groups.{AreGroups, weight_to};
+ghost use Rattle.rank_index.specs.Groups.{AreGroups, AreLows, least_among, weight_to};
 ghost use Rattle.rank_index.specs.Ranked.{weight_of};
 
 use crate::chunk::Chunk;
@@ -83,4 +83,42 @@ pub(crate) fn group_at(groups: &[u64], chunks: &[Chunk], pos: u64) -> (usize, u6
         left -= groups[k];
     }
     unreachable!()
+}
+
+// The least key of the members of these chunks.
+fn least_in(chunks: &[Chunk]) -> u64
+    ensures { result ≡ least_among chunks.now }
+{
+    let mut least = u64::MAX;
+    for chunk in chunks {
+        least = least.min(chunk.least());
+    }
+    least
+}
+
+// Finds the least keys of all groups anew.
+fn find_lows(lows: &mut Vec<u64>, chunks: &[Chunk])
+    requires room { length chunks.now ≤ vec_capacity lows.old }
+    ensures lows { AreLows lows.new.items chunks.now }
+    ensures room { vec_capacity lows.old ≤ vec_capacity lows.new }
+{
+    lows.clear();
+    let mut done = 0;
+    while done < chunks.len() {
+        let next = done + GROUP.min(chunks.len() - done);
+        lows.push_reserved(least_in(&chunks[done..next]));
+        done = next;
+    }
+}
+
+// The same where there are more chunks than before. Where there are not, the least keys stand.
+pub(crate) fn find_lows_if_grown(lows: &mut Vec<u64>, chunks: &[Chunk], before: usize)
+    requires same { length chunks.now ≤ before → AreLows lows.old.items chunks.now }
+    requires room { length chunks.now ≤ vec_capacity lows.old }
+    ensures lows { AreLows lows.new.items chunks.now }
+    ensures room { vec_capacity lows.old ≤ vec_capacity lows.new }
+{
+    if before < chunks.len() {
+        find_lows(lows, chunks);
+    }
 }

@@ -1,35 +1,42 @@
-ghost use Rattle.std.specs.Prelude.{◌≡◌, ℕ, ◌+◌, ◌*◌, ◌<◌, ◌≤◌, ◌^◌, [], length, max, IfOk, IfSome, OnOk, slice_get};
+ghost use Rattle.std.specs.Prelude.{◌≡◌, ℕ, ◌+◌, ◌*◌, ◌<◌, ◌≤◌, ◌^◌, [], ◌∷◌, ◌++◌, drop, length, max, IfOk, IfSome, OnOk, slice_get};
 ghost use Rattle.std.specs.Prelude.{vec_len, vec_capacity};
 ghost use Rattle.looks.specs.Refusal.{RefusedForMemoryAlone};
 ghost use Rattle.piece_raw.specs.Ring.{HasTag, IsPushed, AreTags, with_value};
 ghost use Rattle.piece_raw.specs.declared.TheConstants.{MAX_TAGS};
-ghost use Rattle.rank_index.specs.Chunks.{ChunkSeen, members_of, AreEntered, AreHomes, AreTied, AreEmpty};
+ghost use Rattle.rank_index.specs.Chunks.{ChunkSeen, members_of, AreEntered, AreHomes, AreTied, AreEmpty, AreHalfFull};
 ghost use Rattle.rank_index.specs.Chunks.{AreSlotsTo, AreInSlots, HomesDiffer, IsSlotOf, IsSlotAfter, HasRoom, IsHalved};
+ghost use Rattle.rank_index.specs.Groups.{AreLows};
+ghost use Rattle.rank_index.specs.Keyed.{AreLeast, IsPassed, IsPassedIn};
 ghost use Rattle.rank_index.specs.Ranked.{weight_of, IsRank, IsFound};
 
 use crate::chunk::{Chunk, HALF, MOST};
-use crate::groups::{GROUP, group_at, regroup_if_grown, weight_before};
+use crate::groups::{GROUP, find_lows_if_grown, group_at, regroup_if_grown, weight_before};
 use looks::Refusal;
 use std::alloc::Global;
 use std::marker::Model;
 
-/// A list of members, each a tag and a weight, that tells how much weight stands before a member, and which
-/// member holds a position in the sum of all weights. Tags count from 0 in the order of insertion.
+/// A list of members, each a tag, a weight and a key, that tells how much weight stands before a member, which
+/// member holds a position in the sum of all weights, and how far after a member all keys are greater than one.
+/// Tags count from 0 in the order of insertion.
 ///
-/// This project's own: chunks of neighbours with their sums, the sums of groups of chunks, and a table from a tag
-/// to its chunk.
+/// It has chunks of neighbours with their sums and least keys, the sums of groups of chunks, and a
+/// table from a tag to its chunk.
 #[derive(Drop)]
 pub struct RankIndex {
     // In order; at least one.
     chunks: Vec<Chunk>,
     // By tag, the home of the member's chunk.
     homes: Vec<usize>,
+    // By tag, the member's key.
+    keys: Vec<u64>,
     // By home, the slot of the chunk in the list of all.
     slots: Vec<usize>,
     // Chunks without members.
     spare: Vec<Chunk>,
     // Of each group of neighbouring chunks, the sum.
     groups: Vec<u64>,
+    // And the least key.
+    lows: Vec<u64>,
     total: u64,
     alloc: Global,
 }
@@ -38,14 +45,15 @@ impl Model for RankIndex {
     ghost use Rattle.std.specs.Prelude.{◌≡◌, ◌+◌, ◌-◌, ◌<◌, ◌≤◌, ◌^◌, min, vec_len, vec_capacity};
     ghost use Rattle.piece_raw.specs.declared.TheConstants.{MAX_TAGS};
     ghost use Rattle.rank_index.specs.Chunks.{members_of, AreInSlots, AreTied, AreEmpty, room_of};
-    ghost use Rattle.rank_index.specs.Groups.{AreGroups};
+    ghost use Rattle.rank_index.specs.Groups.{AreGroups, AreLows};
+    ghost use Rattle.rank_index.specs.Keyed.{AreLeast};
     ghost use Rattle.rank_index.specs.Ranked.{Ranked, ranked, weight_of};
 
     ghost Value = { Ranked };
 
-    ghost view = { λ r. ranked (members_of r.chunks.items)
-        (room_of (min (vec_capacity r.homes) MAX_TAGS - vec_len r.homes) (vec_len r.chunks + vec_len r.spare)
-        (vec_len r.homes)) };
+    ghost view = { λ r. ranked (members_of r.chunks.items) r.keys.items
+        (room_of (min (min (vec_capacity r.homes) (vec_capacity r.keys)) MAX_TAGS - vec_len r.homes)
+        (vec_len r.chunks + vec_len r.spare) (vec_len r.homes)) };
 
     ghost invariant = { λ r. AreTied r.homes.items r.chunks.items
         × AreEmpty r.spare.items
@@ -55,7 +63,11 @@ impl Model for RankIndex {
         × AreInSlots r.slots.items r.chunks.items
         × (vec_len r.chunks + vec_len r.spare ≤ vec_capacity r.slots)
         × AreGroups r.groups.items r.chunks.items
-        × (vec_len r.chunks + vec_len r.spare ≤ vec_capacity r.groups) };
+        × (vec_len r.chunks + vec_len r.spare ≤ vec_capacity r.groups)
+        × (vec_len r.keys ≡ vec_len r.homes)
+        × AreLeast r.keys.items r.chunks.items
+        × AreLows r.lows.items r.chunks.items
+        × (vec_len r.chunks + vec_len r.spare ≤ vec_capacity r.lows) };
 }
 
 // The slot of the chunk that has the member of this tag, as the tables tell it: the chunks aren't read.
@@ -83,6 +95,34 @@ fn found_in(chunks: &[Chunk], pos: u64) -> (u64, u64)
         left -= chunk.sum();
     }
     unreachable!()
+}
+
+// Passes the members of the chunks from this slot on, up to the first whose key isn't greater, after a member of this tag: whole
+// groups, whole chunks, and then members. It answers the tag of the last that was passed.
+fn pass_on(chunks: &[Chunk], lows: &[u64], from: usize, tag: u64, keys: &[u64], key: u64) -> u64
+    requires from { 0 < from }
+    requires least { AreLeast keys.now chunks.now }
+    requires lows { AreLows lows.now chunks.now }
+    requires halves { AreHalfFull chunks.now }
+    ensures { IsPassed keys.now key (members_of (drop from chunks.now)) tag result }
+{
+    let mut last = tag;
+    let mut at = from;
+    while at < chunks.len() {
+        let low = lows[at / GROUP];
+        if at % GROUP == 0 && key < low {
+            at += GROUP.min(chunks.len() - at);
+            last = chunks[at - 1].last_tag(last);
+        } else {
+            let (to, stops) = chunks[at].pass_from(last, keys, key);
+            if stops {
+                return to;
+            }
+            last = to;
+            at += 1;
+        }
+    }
+    last
 }
 
 // Enters the members of the chunk as being in it.
@@ -117,6 +157,7 @@ fn halve(
     spare: &mut Vec<Chunk>,
     slots: &mut Vec<usize>,
     homes: &mut [usize],
+    keys: &[u64],
     slot: usize,
 )
     requires full { (c : ChunkSeen) × (slice_get chunks.old.items slot ≡ Some c) × (length c.members ≡ MOST) }
@@ -126,6 +167,7 @@ fn halve(
     requires placed { AreInSlots slots.old.items chunks.old.items }
     requires room { vec_len chunks.old + vec_len spare.old ≤ vec_capacity chunks.old }
     requires slots_room { vec_len chunks.old + vec_len spare.old ≤ vec_capacity slots.old }
+    requires least { AreLeast keys.now chunks.old.items }
     ensures halved { IsHalved slot chunks.old.items chunks.new.items }
     ensures empty { AreEmpty spare.new.items }
     ensures tied { AreTied homes.new chunks.new.items }
@@ -133,12 +175,13 @@ fn halve(
     ensures count { vec_len chunks.new + vec_len spare.new ≡ vec_len chunks.old + vec_len spare.old }
     ensures room { vec_capacity chunks.old ≤ vec_capacity chunks.new }
     ensures slots_room { vec_capacity slots.old ≤ vec_capacity slots.new }
+    ensures least { AreLeast keys.now chunks.new.items }
 {
     match spare.pop() {
         Some(mut rest) => {
             let home = slots.len();
             rest.move_to(home);
-            chunks[slot].halve(&mut rest);
+            chunks[slot].halve(&mut rest, keys);
             enter(homes, &rest);
             match chunks.insert(slot + 1, rest) {
                 Ok(()) => {}
@@ -157,6 +200,7 @@ fn slot_after(
     spare: &mut Vec<Chunk>,
     slots: &mut Vec<usize>,
     homes: &mut [usize],
+    keys: &[u64],
     after: Option<u64>,
 ) -> usize
     requires after { IfSome after (HasTag (members_of chunks.old.items)) }
@@ -166,6 +210,7 @@ fn slot_after(
     requires placed { AreInSlots slots.old.items chunks.old.items }
     requires chunks_room { vec_len chunks.old + vec_len spare.old ≤ vec_capacity chunks.old }
     requires slots_room { vec_len chunks.old + vec_len spare.old ≤ vec_capacity slots.old }
+    requires least { AreLeast keys.now chunks.old.items }
     ensures slot { IsSlotAfter chunks.new.items result after }
     ensures room { HasRoom chunks.new.items result }
     ensures members { members_of chunks.new.items ≡ members_of chunks.old.items }
@@ -175,6 +220,7 @@ fn slot_after(
     ensures count { vec_len chunks.new + vec_len spare.new ≡ vec_len chunks.old + vec_len spare.old }
     ensures chunks_room { vec_capacity chunks.old ≤ vec_capacity chunks.new }
     ensures slots_room { vec_capacity slots.old ≤ vec_capacity slots.new }
+    ensures least { AreLeast keys.now chunks.new.items }
     ensures same { vec_len chunks.new ≤ vec_len chunks.old → chunks.new.items ≡ chunks.old.items }
 {
     let slot = match after {
@@ -184,7 +230,7 @@ fn slot_after(
     if chunks[slot].members().len() < MOST {
         return slot;
     }
-    halve(chunks, spare, slots, homes, slot);
+    halve(chunks, spare, slots, homes, keys, slot);
     match after {
         Some(tag) if !chunks[slot].has(tag) => slot + 1,
         _ => slot,
@@ -233,12 +279,16 @@ impl RankIndex {
         slots.push(0)?;
         let mut groups = Vec::new(alloc);
         groups.push(0)?;
+        let mut lows = Vec::new(alloc);
+        lows.push(u64::MAX)?;
         Ok(RankIndex {
             chunks,
             homes: Vec::new(alloc),
+            keys: Vec::new(alloc),
             slots,
             spare: Vec::new(alloc),
             groups,
+            lows,
             total: 0,
             alloc,
         })
@@ -251,12 +301,15 @@ impl RankIndex {
         ensures ok { OnOk result (n ≤ self.new.room) }
         ensures errors { RefusedForMemoryAlone result }
         ensures items { self.new.items ≡ self.old.items }
+        ensures keys { self.new.keys ≡ self.old.keys }
         ensures room { self.old.room ≤ self.new.room }
     {
         self.homes.reserve(n)?;
+        self.keys.reserve(n)?;
         let wanted = (self.homes.len() + n) / HALF;
         // One for each chunk is more than enough.
         self.groups.reserve(wanted)?;
+        self.lows.reserve(wanted)?;
         fill_spare(
             &mut self.chunks,
             &mut self.spare,
@@ -276,12 +329,13 @@ impl RankIndex {
 
     /// Puts a member directly after that of another tag, at the front for `None`. A member has that tag, its own
     /// is the next one, and there is room; the sum of all weights stays below 2^64.
-    pub fn insert_after(&mut self, after: Option<u64>, tag: u64, weight: u32)
+    pub fn insert_after(&mut self, after: Option<u64>, tag: u64, weight: u32, key: u64)
         requires after { IfSome after (HasTag self.old.items) }
         requires tag { tag ≡ length self.old.items }
         requires room { 0 < self.old.room }
         requires total { weight_of self.old.items + weight < 2 ^ 64 }
         ensures inserted { IsPushed self.old.items after tag weight self.new.items }
+        ensures keyed { (self.new.keys ≡ self.old.keys ++ key ∷ []) × (length self.old.keys ≡ tag) }
         ensures room { self.old.room ≤ self.new.room + 1 }
     {
         let before = self.chunks.len();
@@ -290,14 +344,19 @@ impl RankIndex {
             &mut self.spare,
             &mut self.slots,
             &mut self.homes,
+            &self.keys,
             after,
         );
         regroup_if_grown(&mut self.groups, &self.chunks, before);
+        find_lows_if_grown(&mut self.lows, &self.chunks, before);
         let chunk = &mut self.chunks[slot];
-        chunk.insert_after(after, tag, weight);
+        chunk.insert_after(after, tag, weight, key);
         self.homes.push_reserved(chunk.home());
+        self.keys.push_reserved(key);
         let group = &mut self.groups[slot / GROUP];
         *group += u64::from(weight);
+        let low = &mut self.lows[slot / GROUP];
+        *low = (*low).min(key);
         self.total += u64::from(weight);
     }
 
@@ -306,6 +365,7 @@ impl RankIndex {
         requires here { HasTag self.old.items tag }
         requires total { weight_of (with_value tag weight self.old.items) < 2 ^ 64 }
         ensures items { self.new.items ≡ with_value tag weight self.old.items }
+        ensures keys { self.new.keys ≡ self.old.keys }
         ensures room { self.new.room ≡ self.old.room }
     {
         let slot = chunk_of(&self.chunks, &self.slots, &self.homes, tag);
@@ -335,5 +395,19 @@ impl RankIndex {
     {
         let (slot, left) = group_at(&self.groups, &self.chunks, pos);
         found_in(&self.chunks[slot..], left)
+    }
+
+    /// Passes the members that follow this one, up to the first whose key isn't greater than this one, and answers the tag of the
+    /// last that was passed; the member's own where there is none. A member has this tag.
+    pub fn pass(&self, tag: u64, key: u64) -> u64
+        requires here { HasTag self.now.items tag }
+        ensures passed { IsPassedIn self.now.keys key self.now.items tag result }
+    {
+        let slot = chunk_of(&self.chunks, &self.slots, &self.homes, tag);
+        let (last, stops) = self.chunks[slot].pass_after(tag, &self.keys, key);
+        if stops {
+            return last;
+        }
+        pass_on(&self.chunks, &self.lows, slot + 1, last, &self.keys, key)
     }
 }

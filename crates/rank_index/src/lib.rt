@@ -5,5 +5,6 @@
 mod chunk;
 mod groups;
 mod index;
+mod keys;
 
 pub use index::RankIndex;

@@ -224,8 +224,6 @@ fn lexeme_at<S: Source>(source: &S, beg: u64) -> Lexeme
 }
 
 /// Reads the tokens of a source one after the other (Project Oberon, chapter 5). It takes no memory.
-///
-/// The grammar is this project's own.
 #[derive(Drop)]
 pub struct Scanner<'a, S: Source> {
     source: &'a S,

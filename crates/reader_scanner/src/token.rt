@@ -4,10 +4,10 @@ ghost use Rattle.reader_scanner.specs.Class.{class_number, class_of};
 use arrayvec::ArrayVec;
 use std::marker::Model;
 
-/// The most bytes that a name has, and that stand between a string's quotes: 31. This project's own.
+/// The most bytes that a name has, and that stand between a string's quotes: 31.
 pub const MAX_TOKEN: usize = 31;
 
-/// The greatest size of a number: 2^31 - 1. This project's own.
+/// The greatest size of a number: 2^31 - 1.
 pub const MAX_INT: u32 = 2147483647;
 
 /// The bytes of a name or a string, at most 31.
@@ -53,8 +53,7 @@ impl TokenText {
     }
 }
 
-/// What a token says. The classes are some of Oberon's (Project Oberon, chapter 5); what spells them is this
-/// project's own.
+/// What a token says. The classes are some of Oberon's (Project Oberon, chapter 5).
 #[derive(Debug, Drop, PartialEq, Eq)]
 pub enum TokenValue {
     /// No token, or one that is too long or too large.

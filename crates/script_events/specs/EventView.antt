@@ -1,5 +1,6 @@
 -- Events as the code has them, seen as the machine's.
 use Rattle.std.specs.Prelude.{ℕ, ◌<◌, ◌≤◌, Option, length, option_map, unwrap_or}
+use Rattle.char_files.specs.Plain.{plain_items}
 use Rattle.texts.specs.Edit.{Edit as AskedEdit, deletion, looks_change, recalling, restoration}
 use Rattle.machine.specs.Events.{Delivery as AskedDelivery, Event as AskedEvent, arrange, ask, bytes as by_bytes, click, copy}
 use Rattle.machine.specs.Events.{edit, edit_by_names, keep, merge, print, insert_at_caret, query, reopen, sent, settle, take, unknown, unpack}
@@ -13,7 +14,7 @@ use Rattle.script_events.specs.declared.event.Edit.TheVariants.{TypeIn, Cut, Loo
 use Rattle.script_events.specs.declared.event.Event.{Event}
 use Rattle.script_events.specs.declared.event.Event.TheVariants.{AsksAt, Edits, EditsByNames, Saves, Takes, Settles, Merges, Queries}
 use Rattle.script_events.specs.declared.event.Event.TheVariants.{Arranges, Clicks, Keeps, Keys, Prints, Reopens, Unpacks}
-use Rattle.script_events.specs.Script.{plain_items, query_at, typing}
+use Rattle.script_events.specs.Script.{query_at, typing}
 
 -- an edit, with its bytes decoded
 abbrev pub edit_of : Edit → AskedEdit

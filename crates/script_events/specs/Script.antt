@@ -5,7 +5,7 @@ use Rattle.std.specs.List.{find, list_any}
 use Rattle.std.specs.Option.{option_map_or}
 use Rattle.hex.specs.Hex.{hex_digit_value}
 use Rattle.looks.specs.Looks.{plain_looks}
-use Rattle.char_files.specs.Stretch.{Item}
+use Rattle.char_files.specs.Plain.{plain_items}
 use Rattle.operations.specs.NameSet.{Range}
 use Rattle.shelf.specs.Names.{is_file_name}
 use Rattle.texts.specs.Edit.{Edit, insertion, deletion, looks_change, recalling, restoration}
@@ -201,10 +201,6 @@ select_arrangement rest = do
   row ← split_number col.1
   cell ← cell_in row.1
   Some (Select (record { col = col.0; row = row.0 }) cell)
-
--- bytes as characters of default looks
-abbrev pub plain_items : List ℕ → List Item
-plain_items bytes = map (λ b. (b, plain_looks)) bytes
 
 -- a file's name without a blank
 abbrev pub file_in : List ℕ → Option (List ℕ)

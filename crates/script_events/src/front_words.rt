@@ -11,7 +11,7 @@ use texts::Front;
 
 /// Fronts as a line of a script spells them: a site and a seq, as often as there are words, and no site twice.
 ///
-/// They are checked when they are parsed, and decoded when they are used. This project's own.
+/// They are checked when they are parsed, and decoded when they are used.
 #[derive(Debug, Drop)]
 pub struct FrontWords<'a> {
     words: Option<&'a [u8]>,

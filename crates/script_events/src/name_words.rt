@@ -12,7 +12,7 @@ use std::marker::Model;
 /// Names of characters as a line of a script spells them: a site, an offset and how many there are, as often as
 /// there are words, and once at least.
 ///
-/// They are checked when they are parsed, and decoded when they are used. This project's own.
+/// They are checked when they are parsed, and decoded when they are used.
 #[derive(Debug, Drop)]
 pub struct NameWords<'a> {
     words: &'a [u8],

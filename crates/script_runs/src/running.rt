@@ -17,7 +17,7 @@ use shelf::Shelf;
 use std::alloc::Global;
 use std::io::{Read, Write};
 
-/// The most lines of a script. This project's own.
+/// The most lines of a script.
 pub const MAX_LINES: usize = 1 << 20;
 
 // What was written is put out before the reader is asked for bytes that the input doesn't hold. A script that is

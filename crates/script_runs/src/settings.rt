@@ -2,7 +2,7 @@ ghost use Rattle.std.specs.Prelude.{◌≡◌, ◌<◌, ◌≤◌};
 ghost use Rattle.script_runs.specs.declared.settings.TheConstants.{MAX_FIRST, MAX_SITES, MIN_WIDTH, MAX_WIDTH};
 ghost use Rattle.script_runs.specs.declared.settings.TheConstants.{MIN_HEIGHT, MAX_HEIGHT};
 
-/// The most sites of a run. These limits are this project's own.
+/// The most sites of a run.
 pub const MAX_SITES: u16 = 8;
 
 /// The greatest number of a run's first site; the others follow it.
@@ -18,7 +18,7 @@ pub const MIN_HEIGHT: u16 = viewers::MIN_HEIGHT as u16;
 
 pub const MAX_HEIGHT: u16 = viewers::MAX_HEIGHT as u16;
 
-/// What a run is told beside its script. This project's own.
+/// What a run is told beside its script.
 #[derive(Clone, Copy, Debug, PartialEq, Eq)]
 pub struct Settings {
     /// The first site's number, 1 to 65528; the others follow it.

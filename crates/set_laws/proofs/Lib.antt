@@ -13,5 +13,6 @@ pub mod NextLetter
 pub mod OneMore
 pub mod Picking
 pub mod Refusals
+pub mod Rising
 pub mod SameSets
 pub mod Verdicts

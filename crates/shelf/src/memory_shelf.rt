@@ -8,7 +8,7 @@ use looks::Refusal;
 use std::alloc::{AllocError, Global};
 use std::collections::BTreeMap;
 
-/// A shelf over memory, which reports its files. This project's own, for tests.
+/// A shelf over memory, which reports its files, for tests.
 #[derive(Drop)]
 pub struct MemoryShelf {
     /// The files by their names.

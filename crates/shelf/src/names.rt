@@ -6,7 +6,7 @@ ghost use Rattle.shelf.specs.Names.{is_file_byte, is_file_name};
 
 use std::str;
 
-/// The most bytes that a file's name may have. This project's own.
+/// The most bytes that a file's name may have.
 pub const MAX_NAME_LEN: usize = 31;
 
 // Whether a file's name may have this byte.

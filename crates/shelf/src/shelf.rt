@@ -6,7 +6,7 @@ use std::alloc::Global;
 
 /// Files by their names. What one call reads and writes is whole: no file is open between calls.
 ///
-/// An absent file is a failure, as is any other error of what holds the files. This project's own.
+/// An absent file is a failure, as is any other error of what holds the files.
 pub trait Shelf {
     ghost use Rattle.std.specs.Prelude.{ℕ, List, Option};
     ghost use Rattle.shelf.specs.Files.{Files, Write};

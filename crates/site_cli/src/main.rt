@@ -2,7 +2,10 @@
 //! the answers to standard output. Its files are those of the current folder.
 #![tactic(auto)]
 
-use command_line::{error_status, read_settings};
+mod numbers;
+mod settings;
+
+use crate::settings::{error_status, read_settings};
 use folder_shelf::{FolderShelf, HostFolder};
 use script_io::{Input, Output};
 use script_runs::{run, status_of};

@@ -5,6 +5,7 @@ pub mod Nothing
 pub mod Noting
 pub mod Placed
 pub mod Ready
+pub mod RowChars
 pub mod Runs
 pub mod Spelling
 pub mod Stretch

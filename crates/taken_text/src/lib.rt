@@ -3,9 +3,11 @@
 
 mod letters;
 mod named;
+mod rows;
 mod shown;
 mod stretches;
 mod taken_text;
 
+pub use rows::{ShownRow, ShownRows};
 pub use shown::Shown;
 pub use taken_text::TakenText;

@@ -9,9 +9,11 @@ ghost use Rattle.operations.specs.declared.name_set.TheConstants.{MAX_RANGES};
 ghost use Rattle.piece_list.specs.RunSplits.{AreWithin};
 ghost use Rattle.tree_order.specs.Shown.{is_visible};
 ghost use Rattle.tree_order.specs.Tree.{IsChar};
+ghost use Rattle.taken_text.specs.Rows.{chars_of_rows};
 ghost use Rattle.taken_text.specs.Shown.{range_of_run};
 ghost use Rattle.taken_text.specs.Taken.{names_between, shown_of};
 
+use crate::rows::ShownRows;
 use crate::shown::Shown;
 use crate::taken_text::TakenText;
 use char_files::{Buffer, MAX_FILE};
@@ -35,16 +37,16 @@ fn ranges_of(alloc: Global, runs: Between<'_>) -> Result<Vec<NameRange>, Refusal
     Ok(ranges)
 }
 
-// These characters, outside the text. Refused `OutOfMemory` alone.
-fn taken_out(alloc: Global, chars: Shown<'_>) -> Result<Buffer, Refusal>
-    requires { length chars ≤ MAX_FILE }
-    ensures ok { IfOk result (λ buffer. buffer ≡ map (λ c. (c.byte, c.looks)) chars.entry) }
+// The characters of these rows, outside the text. Refused `OutOfMemory` alone.
+fn taken_out(alloc: Global, rows: ShownRows<'_>) -> Result<Buffer, Refusal>
+    requires { length (chars_of_rows rows) ≤ MAX_FILE }
+    ensures ok { IfOk result (λ buffer. buffer ≡ map (λ c. (c.byte, c.looks)) (chars_of_rows rows.entry)) }
     ensures errors { RefusedForMemoryAlone result }
-    ensures none { length chars.entry ≡ 0 → IsOk result }
+    ensures none { length (chars_of_rows rows.entry) ≡ 0 → IsOk result }
 {
     let mut buffer = Buffer::new(alloc);
-    for char in chars {
-        buffer.push(char.byte, char.looks)?;
+    for row in rows {
+        buffer.push_all(row.bytes(), row.looks())?;
     }
     Ok(buffer)
 }
@@ -56,6 +58,14 @@ impl TakenText {
         ensures { result ≡ slice_range (shown_of self.now) beg end }
     {
         Shown::of(self.pieces.walk_between(beg, end), &self.files)
+    }
+
+    /// The same as rows of neighbouring bytes, one after the other. It takes no memory.
+    pub fn rows_between(&self, beg: u64, end: u64) -> ShownRows<'_>
+        requires { beg ≤ end }
+        ensures { chars_of_rows result ≡ slice_range (shown_of self.now) beg end }
+    {
+        ShownRows::of(self.pieces.walk_between(beg, end), &self.files)
     }
 
     /// The names of the characters that are shown from `beg` to `end`, as a set.
@@ -89,7 +99,7 @@ impl TakenText {
         if MAX_FILE < end - beg {
             return Err(Refusal::FileSpent);
         }
-        taken_out(self.alloc, self.shown_between(beg, end))
+        taken_out(self.alloc, self.rows_between(beg, end))
     }
 
     /// Whether all characters of these names are shown.

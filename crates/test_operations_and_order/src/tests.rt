@@ -8,17 +8,13 @@ mod fixtures;
 mod good_sets;
 mod limits;
 mod looks_and_keys;
-mod malformed;
-mod messages;
 mod name_sets;
 mod name_walk;
 mod names_and_buffers;
 mod registers;
 mod set_laws;
 mod shown;
-mod spelled_looks;
 mod typing;
-mod written_and_read;
 
 // A failure that tells what isn't right.
 fn is(right: bool, what: &'static str) -> Result<(), Fail> {

@@ -12,7 +12,7 @@ use Rattle.operations.proofs.ReadMessages.{same_operation}
 use Rattle.chunks.specs.Chunks.{Placed, IsChunkOf, chunks, operations_of}
 use Rattle.chunks.specs.Laws.{AreChunksOf, ChunksTell, OneChunk, WhatIsBeyondCanCome}
 use Rattle.packed.specs.Laws.{IsHistory}
-use Rattle.packed_file.proofs.Following.{is_history}
+use Rattle.kept_file.proofs.Following.{is_history}
 use Rattle.texts.specs.Draining.{Drains, ends, stops, takes_in, throws_away}
 use Rattle.texts.specs.Fronts.{beyond, front_in, is_beyond}
 use Rattle.texts.specs.Take.{Becomes, Stays, Takes, TakesOp}

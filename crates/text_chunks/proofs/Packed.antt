@@ -12,8 +12,8 @@ use Rattle.packed.specs.Laws.{IsHistory}
 use Rattle.packed.specs.Reading.{CanBeNext}
 use Rattle.packed.specs.Told.{Told, IsNext, expected, nothing_begun, nothing_told, told, told_after, told_on}
 use Rattle.packed.proofs.PackedLists.{adds_at_the_end}
-use Rattle.packed_file.proofs.Following.{first_parts, is_next}
-use Rattle.packed_file.proofs.Packings.{follow_more}
+use Rattle.kept_file.proofs.Following.{first_parts, is_next}
+use Rattle.kept_file.proofs.Packings.{follow_more}
 use Rattle.chunks.specs.Chunks.{Placed, CanCome, CanAllCome, chunks, placed_from}
 use Rattle.chunks.specs.Laws.{beyond}
 use Rattle.chunks.specs.Parts.{placed}

@@ -1,6 +1,6 @@
 use looks::Refusal;
 
-/// What unpacking a chunk did. This project's own.
+/// What unpacking a chunk did.
 #[derive(Clone, Copy, Debug, PartialEq, Eq)]
 pub struct Unpacked {
     /// How many operations were taken in, those that had waited among them.
@@ -13,7 +13,7 @@ pub struct Unpacked {
     pub stopped: bool,
 }
 
-/// Why a chunk wasn't unpacked to its end. This project's own.
+/// Why a chunk wasn't unpacked to its end.
 #[derive(Clone, Copy, Debug, PartialEq, Eq)]
 pub enum UnpackRefusal {
     /// Nothing was changed.

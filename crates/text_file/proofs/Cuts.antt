@@ -7,7 +7,7 @@ use Rattle.std.proofs.lemmas.List.{take-append-drop, nil_from_length}
 use Rattle.looks.specs.declared.looks.Looks.{Looks}
 use Rattle.looks.specs.Looks.{IsLooks}
 use Rattle.char_files.specs.Stretch.{Stretch, Item, items_of, items_of_run, AreRuns}
-use Rattle.text_file.specs.declared.TheConstants.{MAX_TEXT}
+use Rattle.text_file.specs.declared.TheConstants.{MAX_STORED}
 use Rattle.text_file.specs.declared.loading.Head.{Head}
 use Rattle.text_file.specs.Files.{run_spelling}
 use Rattle.text_file.specs.Heads.{head_spelling, AreHeads, total_of, cut}
@@ -156,7 +156,7 @@ some_len [] some = absurd (some refl)
 some_len (b ∷ bytes) some = omega arith
 
 pub heads_valid : (last : Option Looks) (runs : List Stretch) → AreRuns runs → InLooks (items_of runs)
-    → length (chars_of runs) ≤ MAX_TEXT → FirstApart last runs → AreHeads last (map head_of runs)
+    → length (chars_of runs) ≤ MAX_STORED → FirstApart last runs → AreHeads last (map head_of runs)
 heads_valid last [] maximal looks few apart = tt
 heads_valid last (r ∷ runs) maximal looks few apart =
     let some : r.bytes ≢ [] = first_some r runs maximal in

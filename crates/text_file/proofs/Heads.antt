@@ -8,7 +8,7 @@ use Rattle.looks.specs.declared.looks.Looks.{Looks}
 use Rattle.operations.specs.Reading.{LooksAreDetermined}
 use Rattle.byte_fields.specs.Fields.{number_spelling}
 use Rattle.operations.specs.Spelling.{looks_spelling}
-use Rattle.text_file.specs.declared.TheConstants.{MAX_TEXT}
+use Rattle.text_file.specs.declared.TheConstants.{MAX_STORED}
 use Rattle.text_file.specs.declared.loading.Head.{Head}
 use Rattle.text_file.specs.Heads.{head_spelling, IsHead, AreHeads, total_of, IsRead}
 use Rattle.text_file.proofs.Numbers.{number_told, number_len, number_long}
@@ -109,11 +109,11 @@ pub record SoFar (bytes : List ℕ) (n left : ℕ) (last : Option Looks) (rest :
   pub done : List Head
   pub valid : AreHeads None done
   pub counted : length done ≡ n
-  pub summed : total_of done + left ≡ MAX_TEXT
+  pub summed : total_of done + left ≡ MAX_STORED
   pub last_is : last_or None done ≡ last
   pub parts : bytes ≡ flat_map head_spelling done ++ rest
 
-pub none_yet : (bytes : List ℕ) → SoFar bytes 0 MAX_TEXT None bytes
+pub none_yet : (bytes : List ℕ) → SoFar bytes 0 MAX_STORED None bytes
 none_yet bytes =
     record { done = []; valid = tt; counted = refl; summed = omega arith; last_is = refl; parts = refl }
 
@@ -134,8 +134,8 @@ one_more bytes n left last rest h after s is apart fits e = record {
 
 pub all_read : (bytes : List ℕ) (n left count : ℕ) (last : Option Looks) (rest : List ℕ)
     → SoFar bytes n left last rest → n ≡ count
-    → (heads : List Head) × AreHeads None heads × (length heads ≡ count) × (total_of heads ≡ MAX_TEXT - left)
-    × (MAX_TEXT - left ≤ MAX_TEXT) × (bytes ≡ flat_map head_spelling heads ++ rest)
+    → (heads : List Head) × AreHeads None heads × (length heads ≡ count) × (total_of heads ≡ MAX_STORED - left)
+    × (MAX_STORED - left ≤ MAX_STORED) × (bytes ≡ flat_map head_spelling heads ++ rest)
 all_read bytes n left count last rest s e =
     (s.done, s.valid, s.counted ∙ e, omega (arith, s.summed), omega arith, s.parts)
 
@@ -148,7 +148,7 @@ NoneNext last left bytes =
 pub none_more : (told : LooksAreDetermined) (bytes : List ℕ) (n left count : ℕ) (last : Option Looks)
     (rest : List ℕ) → SoFar bytes n left last rest → n < count → NoneNext last left rest
     → (heads : List Head) (more : List ℕ) → AreHeads None heads → length heads ≡ count
-    → total_of heads ≤ MAX_TEXT → bytes ≡ flat_map head_spelling heads ++ more → ⊥
+    → total_of heads ≤ MAX_STORED → bytes ≡ flat_map head_spelling heads ++ more → ⊥
 none_more told bytes n left count last rest s lt none heads more valid counted few e =
     let found =
     heads_told told None None s.done heads rest more s.valid valid (omega (arith, s.counted, counted))
@@ -214,7 +214,7 @@ module _ (told : LooksAreDetermined) (bytes : List ℕ) (count : ℕ) (rest : Li
     (first : bytes ≡ number_spelling w32 count ++ rest) where
   -- no runs can be read after the count
   pub no_heads : ((heads : List Head) (more : List ℕ) → AreHeads None heads → length heads ≡ count
-      → total_of heads ≤ MAX_TEXT → rest ≡ flat_map head_spelling heads ++ more → ⊥)
+      → total_of heads ≤ MAX_STORED → rest ≡ flat_map head_spelling heads ++ more → ⊥)
       → (heads : List Head) (chars : List ℕ) → IsRead heads chars bytes → ⊥
   no_heads none heads chars r =
       let told_count = count_told heads chars bytes count rest r fits first in

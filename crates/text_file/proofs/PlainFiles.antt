@@ -9,7 +9,7 @@ use Rattle.looks.specs.Looks.{plain_looks}
 use Rattle.char_files.specs.declared.TheConstants.{MAX_FILE}
 use Rattle.char_files.specs.Plain.{plain_items}
 use Rattle.char_files.specs.Stretch.{Item}
-use Rattle.text_file.specs.declared.TheConstants.{MAX_TEXT}
+use Rattle.text_file.specs.declared.TheConstants.{MAX_STORED}
 use Rattle.text_file.specs.Files.{as_line_end, without_newline, plain_bytes}
 
 -- line ends become shorter
@@ -69,7 +69,7 @@ pub none_pushed : (text : List Item) (chars : List ℕ) → text ≡ [] → text
 none_pushed text chars e = ap (λ (t : List Item). t ++ plain_items chars) e
 
 pub room_for_one : (text : List Item) (b : ℕ) (rest after all : List ℕ) → rest ≡ b ∷ after
-    → text ++ plain_items rest ≡ plain_items all → length all ≤ MAX_TEXT → length text < MAX_FILE
+    → text ++ plain_items rest ≡ plain_items all → length all ≤ MAX_STORED → length text < MAX_FILE
 room_for_one text b rest after all e so_far few =
     omega (
       arith,

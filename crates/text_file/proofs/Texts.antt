@@ -15,7 +15,7 @@ use Rattle.char_files.specs.Runs.{maximal_runs, RunsAreMaximal, NoOtherRuns}
 use Rattle.char_files.specs.Stretch.{Stretch, Item, items_of}
 use Rattle.operations.specs.Reading.{LooksAreDetermined}
 use Rattle.byte_fields.specs.Fields.{number_spelling}
-use Rattle.text_file.specs.declared.TheConstants.{MAX_TEXT}
+use Rattle.text_file.specs.declared.TheConstants.{MAX_STORED}
 use Rattle.text_file.specs.declared.loading.Head.{Head}
 use Rattle.text_file.specs.Files.{tag, run_spelling, formatted, HasFile, IsFormatted}
 use Rattle.text_file.specs.Files.{IsFileOf, IsNoFile, OneText, plain_bytes}
@@ -186,17 +186,17 @@ only_formatted file rest r one e is = only_loaded file r one (there r is)
 
 -- a plain file is refused exactly where it is too long
 pub plain_refused : (file : List ℕ) (r : Result (List Item) Refusal) → take 4 file ≢ tag
-    → IsErrOf r BadFile ↔ (MAX_TEXT < length (plain_bytes file)) → IsErrOf r BadFile ↔ IsNoFile file
+    → IsErrOf r BadFile ↔ (MAX_STORED < length (plain_bytes file)) → IsErrOf r BadFile ↔ IsNoFile file
 plain_refused file r untagged long = (
   λ e items f.
-      let lt : MAX_TEXT < length (plain_bytes file) = long.0 e in
+      let lt : MAX_STORED < length (plain_bytes file) = long.0 e in
       elim f [
         | inl formatted ↦ untagged (formatted_tagged items file formatted)
         | inr plain ↦
-            let few : length (plain_bytes file) ≤ MAX_TEXT = plain.few in
+            let few : length (plain_bytes file) ≤ MAX_STORED = plain.few in
             absurd (omega arith)
       ],
-  λ none. elim (cases_lt MAX_TEXT (length (plain_bytes file))) [
+  λ none. elim (cases_lt MAX_STORED (length (plain_bytes file))) [
     | inl lt ↦ long.1 lt
     | inr le ↦ absurd (none (plain_items (plain_bytes file)) (inr (record {
       untagged = untagged;

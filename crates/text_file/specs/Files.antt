@@ -9,7 +9,7 @@ use Rattle.char_files.specs.Runs.{maximal_runs}
 use Rattle.char_files.specs.Stretch.{Stretch, Item}
 use Rattle.byte_fields.specs.Fields.{number_spelling}
 use Rattle.operations.specs.Spelling.{looks_spelling}
-use Rattle.text_file.specs.declared.TheConstants.{MAX_TEXT}
+use Rattle.text_file.specs.declared.TheConstants.{MAX_STORED}
 
 -- what a formatted file begins with
 abbrev pub tag : List ℕ
@@ -27,7 +27,7 @@ formatted items =
 
 -- a text that has a file: at most 2^20 characters, each in looks that there are
 pub record HasFile (items : List Item) : Type 0 where
-  pub few : length items ≤ MAX_TEXT
+  pub few : length items ≤ MAX_STORED
   pub looks : AllByRecursion (λ c. IsLooks c.1) items
 
 -- a line end of another system, 0AH, becomes 0DH
@@ -55,7 +55,7 @@ pub record IsFormatted (items : List Item) (file : List ℕ) : Type 0 where
 -- a plain file, which doesn't begin with the tag, of these characters, in the default looks
 pub record IsPlain (items : List Item) (file : List ℕ) : Type 0 where
   pub untagged : take 4 file ≢ tag
-  pub few : length (plain_bytes file) ≤ MAX_TEXT
+  pub few : length (plain_bytes file) ≤ MAX_STORED
   pub spelled : items ≡ plain_items (plain_bytes file)
 
 -- a file of these characters

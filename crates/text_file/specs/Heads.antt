@@ -8,7 +8,7 @@ use Rattle.looks.specs.Looks.{IsLooks}
 use Rattle.char_files.specs.Stretch.{Stretch}
 use Rattle.byte_fields.specs.Fields.{number_spelling}
 use Rattle.operations.specs.Spelling.{looks_spelling}
-use Rattle.text_file.specs.declared.TheConstants.{MAX_TEXT}
+use Rattle.text_file.specs.declared.TheConstants.{MAX_STORED}
 use Rattle.text_file.specs.declared.loading.Head.{Head}
 
 -- a run's looks and its length
@@ -46,7 +46,7 @@ pub record AreSpelled (heads : List Head) (chars bytes : List ℕ) : Type 0 wher
 pub record IsRead (heads : List Head) (chars bytes : List ℕ) : Type 0 where
   pub valid : AreHeads None heads
   pub total : total_of heads ≡ length chars
-  pub few : length chars ≤ MAX_TEXT
+  pub few : length chars ≤ MAX_STORED
   pub parts :
       bytes
       ≡ number_spelling w32 (length heads)

@@ -13,5 +13,5 @@ pub use limits::the_limits;
 pub use loading::load;
 pub use storing::store;
 
-/// The most characters that a file's text may have: 2^20. This project's own.
-pub const MAX_TEXT: u64 = 1 << 20;
+/// The most characters that a file's text may have: 2^20.
+pub const MAX_STORED: u64 = 1 << 20;

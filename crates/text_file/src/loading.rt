@@ -9,7 +9,7 @@ ghost use Rattle.text_file.specs.Files.{tag, plain_bytes, IsFormatted, IsPlain, 
 ghost use Rattle.text_file.specs.Heads.{head_spelling, IsHead, AreHeads, total_of, cut, AreSpelled, IsRead};
 ghost use Rattle.text_file.specs.declared.loading.Head.{Head};
 
-use crate::MAX_TEXT;
+use crate::MAX_STORED;
 use crate::filling::push_all;
 use crate::plain::{plain_len, plain_text};
 use byte_fields::u32_at;
@@ -81,15 +81,15 @@ fn next_head<'a>(last: &Option<Looks>, left: u64, bytes: &'a [u8]) -> Option<(He
 // So many runs: how many characters they have, and the bytes after them.
 fn heads_at(count: u32, bytes: &[u8]) -> Option<(u64, &[u8])>
     ensures some { IfSome result (λ x. (heads : List Head) × AreHeads None heads × (length heads ≡ count)
-        × (total_of heads ≡ x.0) × (x.0 ≤ MAX_TEXT)
+        × (total_of heads ≡ x.0) × (x.0 ≤ MAX_STORED)
         × (bytes.now ≡ flat_map head_spelling heads ++ x.1.now)) }
     ensures none { IfNone result ((heads : List Head) (rest : List ℕ) → AreHeads None heads
-        → length heads ≡ count → total_of heads ≤ MAX_TEXT
+        → length heads ≡ count → total_of heads ≤ MAX_STORED
         → bytes.now ≡ flat_map head_spelling heads ++ rest → ⊥) }
 {
     operations::lemma_one_spelling();
     let mut rest = bytes;
-    let mut left = MAX_TEXT;
+    let mut left = MAX_STORED;
     let mut last = None;
     for _ in 0..count {
         let Some((head, after)) = next_head(&last, left, rest) else {
@@ -99,7 +99,7 @@ fn heads_at(count: u32, bytes: &[u8]) -> Option<(u64, &[u8])>
         last = Some(head.looks);
         rest = after;
     }
-    Some((MAX_TEXT - left, rest))
+    Some((MAX_STORED - left, rest))
 }
 
 // The parts of a formatted file, of which these bytes stand after the tag.
@@ -125,7 +125,7 @@ fn parts_of(bytes: &[u8]) -> Option<Parts<'_>>
 // The characters of these runs. Refused `OutOfMemory` alone.
 fn text_of(alloc: Global, heads: &[u8], chars: &[u8]) -> Result<Buffer, Refusal>
     requires spelled { (runs : List Head) × AreSpelled runs chars.now heads.now }
-    requires few { length chars.now ≤ MAX_TEXT }
+    requires few { length chars.now ≤ MAX_STORED }
     ensures ok { IfOk result (λ text. (runs : List Head) → AreSpelled runs chars.now heads.now
         → text ≡ items_of (cut runs chars.now)) }
     ensures errors { RefusedForMemoryAlone result }
@@ -161,10 +161,10 @@ fn load_formatted(alloc: Global, bytes: &[u8]) -> Result<Buffer, Refusal>
 fn load_plain(alloc: Global, bytes: &[u8]) -> Result<Buffer, Refusal>
     requires { take 4 bytes.now ≢ tag }
     ensures ok { IfOk result (λ items. IsPlain items bytes.now) }
-    ensures refused { IsErrOf result Refusal.BadFile ↔ (MAX_TEXT < length (plain_bytes bytes.now)) }
+    ensures refused { IsErrOf result Refusal.BadFile ↔ (MAX_STORED < length (plain_bytes bytes.now)) }
     ensures errors { IfErr result (λ e. (e ≡ Refusal.BadFile) ⊎ (e ≡ Refusal.OutOfMemory)) }
 {
-    if MAX_TEXT < plain_len(bytes) {
+    if MAX_STORED < plain_len(bytes) {
         return Err(Refusal::BadFile);
     }
     plain_text(alloc, bytes)
@@ -182,7 +182,7 @@ fn rest_of_tag(bytes: &[u8]) -> Option<&[u8]>
 ///
 /// Refused `BadFile` where no text has this file, which is told before memory is asked for: it begins with
 /// `OTF1` and is no formatted file, or its text would have more than 2^20 characters. Else refused `OutOfMemory`
-/// where memory is. This project's own.
+/// where memory is.
 pub fn load(alloc: Global, bytes: &[u8]) -> Result<Buffer, Refusal>
     // What is loaded has this file.
     ensures ok { IfOk result (λ items. IsFileOf items bytes.now) }

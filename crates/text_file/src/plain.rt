@@ -5,7 +5,7 @@ ghost use Rattle.looks.specs.Refusal.{RefusedForMemoryAlone};
 ghost use Rattle.char_files.specs.Plain.{plain_items};
 ghost use Rattle.text_file.specs.Files.{as_line_end, without_newline, plain_bytes};
 
-use crate::MAX_TEXT;
+use crate::MAX_STORED;
 use crate::filling::push_char;
 use char_files::Buffer;
 use looks::{Looks, Refusal};
@@ -59,7 +59,7 @@ pub(crate) fn plain_len(bytes: &[u8]) -> u64
 
 /// The characters of a plain file. Refused `OutOfMemory` alone.
 pub(crate) fn plain_text(alloc: Global, bytes: &[u8]) -> Result<Buffer, Refusal>
-    requires { length (plain_bytes bytes.now) ≤ MAX_TEXT }
+    requires { length (plain_bytes bytes.now) ≤ MAX_STORED }
     ensures ok { IfOk result (λ text. text ≡ plain_items (plain_bytes bytes.now)) }
     ensures errors { RefusedForMemoryAlone result }
 {

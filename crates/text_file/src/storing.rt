@@ -8,7 +8,7 @@ ghost use Rattle.char_files.specs.Stretch.{items_of};
 ghost use Rattle.byte_fields.specs.Fields.{number_spelling};
 ghost use Rattle.text_file.specs.Files.{run_spelling, formatted, HasFile, IsFileOf};
 
-use crate::MAX_TEXT;
+use crate::MAX_STORED;
 use crate::filling::push_char;
 use byte_fields::put_u32;
 use char_files::{Buffer, LooksRun, Source};
@@ -18,7 +18,7 @@ use std::alloc::{AllocError, Global};
 
 // The characters of a source, asked one by one. Refused `OutOfMemory` alone.
 fn copy_of<S: Source>(alloc: Global, source: &S) -> Result<Buffer, Refusal>
-    requires { length (S.items source.now) ≤ MAX_TEXT }
+    requires { length (S.items source.now) ≤ MAX_STORED }
     ensures ok { IfOk result (λ text. text ≡ S.items source.now) }
     ensures text { IfOk result (λ text. HasFile text) }
     ensures errors { RefusedForMemoryAlone result }
@@ -33,7 +33,7 @@ fn copy_of<S: Source>(alloc: Global, source: &S) -> Result<Buffer, Refusal>
 }
 
 fn put_run(out: &mut Vec<u8>, run: &LooksRun) -> Result<(), Refusal>
-    requires { length run.now.bytes ≤ MAX_TEXT }
+    requires { length run.now.bytes ≤ MAX_STORED }
     ensures ok { OnOk result (out.new.items ≡ out.old.items ++ run_spelling run.now) }
     ensures errors { RefusedForMemoryAlone result }
 {
@@ -43,7 +43,7 @@ fn put_run(out: &mut Vec<u8>, run: &LooksRun) -> Result<(), Refusal>
 }
 
 fn put_runs(out: &mut Vec<u8>, runs: &[LooksRun]) -> Result<(), Refusal>
-    requires { length (items_of runs.now) ≤ MAX_TEXT }
+    requires { length (items_of runs.now) ≤ MAX_STORED }
     ensures ok { OnOk result (out.new.items ≡ out.old.items ++ flat_map run_spelling runs.now) }
     ensures errors { RefusedForMemoryAlone result }
 {
@@ -64,7 +64,7 @@ fn put_chars(out: &mut Vec<u8>, runs: &[LooksRun]) -> Result<(), AllocError>
 
 // The formatted file of a text. Refused `OutOfMemory` alone.
 fn file_of(alloc: Global, text: &Buffer) -> Result<Vec<u8>, Refusal>
-    requires { length text.now ≤ MAX_TEXT }
+    requires { length text.now ≤ MAX_STORED }
     ensures ok { IfOk result (λ file. file.items ≡ formatted text.now) }
     ensures errors { RefusedForMemoryAlone result }
 {
@@ -81,16 +81,16 @@ fn file_of(alloc: Global, text: &Buffer) -> Result<Vec<u8>, Refusal>
 /// Appends the formatted file of the source's characters.
 ///
 /// Refused `BadFile` where they are more than 2^20, else `OutOfMemory` where memory is; the vector's bytes are
-/// then as they were. This project's own.
+/// then as they were.
 pub fn store<S: Source>(source: &S, file: &mut Vec<u8>) -> Result<(), Refusal>
     ensures ok { OnOk result (file.new.items ≡ file.old.items ++ formatted (S.items source.now)) }
     // What was stored loads as itself.
     ensures loads { OnOk result (IsFileOf (S.items source.now) (formatted (S.items source.now))) }
-    ensures long { IsErrOf result Refusal.BadFile ↔ (MAX_TEXT < length (S.items source.now)) }
+    ensures long { IsErrOf result Refusal.BadFile ↔ (MAX_STORED < length (S.items source.now)) }
     ensures errors { IfErr result (λ e. (e ≡ Refusal.BadFile) ⊎ (e ≡ Refusal.OutOfMemory)) }
     ensures err { OnErr result (file.new.items ≡ file.old.items) }
 {
-    if MAX_TEXT < source.len() {
+    if MAX_STORED < source.len() {
         return Err(Refusal::BadFile);
     }
     let alloc = *file.allocator();

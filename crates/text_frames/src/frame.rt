@@ -26,8 +26,8 @@ use std::marker::Model;
 use texts::Replica;
 use viewers::MAX_WIDTH;
 
-/// Rows of cells that show a text from the line of a character on (Project Oberon, chapter 5; that the line is told by a
-/// character, which stays where positions move, is this project's own).
+/// Rows of cells that show a text from the line of a character on (Project Oberon, chapter 5). The line is told by a
+/// character, which stays where positions move.
 #[derive(Drop)]
 pub struct Frame {
     anchor: Anchor,
@@ -150,7 +150,7 @@ impl Frame {
         self.reads
     }
 
-    /// How many characters were read for this frame since it was made; at 2^64-1 it stays there. This project's own.
+    /// How many characters were read for this frame since it was made; at 2^64-1 it stays there.
     pub fn all_reads(&self) -> u64
         ensures { result ≡ self.now.all_reads }
     {

@@ -14,5 +14,5 @@ pub use limits::the_limits;
 pub use marks::{Caret, Selection};
 use viewers::MAX_HEIGHT;
 
-/// The most rows of a frame, which stands below a row of the screen; the fewest is 1. This project's own.
+/// The most rows of a frame, which stands below a row of the screen; the fewest is 1.
 pub const MAX_ROWS: usize = MAX_HEIGHT - 1;

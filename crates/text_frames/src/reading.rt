@@ -13,7 +13,7 @@ use texts::{Replica, Shown};
 
 /// A text that is read, and how many characters of it were. It alone holds the text, and hands out its characters one by
 /// one, by `byte_at` and `next_byte`, each of which adds one, up to the greatest `u64`. Whatever draws is given this,
-/// and no replica. This project's own.
+/// and no replica.
 #[derive(Drop)]
 pub(crate) struct CountingReader<'a> {
     replica: &'a Replica,

@@ -4,7 +4,7 @@ ghost use Rattle.texts.specs.Named.{changes_shown, kind_by_names};
 
 use operations::{Kind, NameSet};
 
-/// What an edit by names does. This project's own.
+/// What an edit by names does.
 #[derive(Clone, Copy, Debug, PartialEq, Eq, Hash)]
 pub enum ByNames {
     /// Takes those that are shown of the characters that are named out of what is shown.

@@ -1,6 +1,6 @@
 use looks::Refusal;
 
-/// Why an edit was refused. This project's own.
+/// Why an edit was refused.
 #[derive(Clone, Copy, Debug, PartialEq, Eq, Hash)]
 pub enum EditRefusal {
     /// Nothing was changed and nothing sent.

@@ -1,4 +1,4 @@
-/// What becomes of an operation that is handed in. This project's own.
+/// What becomes of an operation that is handed in.
 #[derive(Clone, Copy, Debug, PartialEq, Eq)]
 pub enum Fate {
     /// It is of another text.

@@ -3,7 +3,7 @@ ghost use Rattle.texts.specs.Fronts.{front_in};
 
 use char_files::SiteNo;
 
-/// How far a site's operations go: the seq of the last of them that is meant, 0 for none. This project's own.
+/// How far a site's operations go: the seq of the last of them that is meant, 0 for none.
 #[derive(Clone, Copy, Debug, PartialEq, Eq)]
 pub struct Front {
     pub site: SiteNo,

@@ -1,6 +1,6 @@
 use looks::Refusal;
 
-/// Why a merge was refused. This project's own.
+/// Why a merge was refused.
 #[derive(Clone, Copy, Debug, PartialEq, Eq, Hash)]
 pub enum MergeRefusal {
     /// Nothing was changed.

@@ -9,7 +9,7 @@ use operations::{Op, encode};
 use std::alloc::Global;
 use std::marker::Model;
 
-/// The messages that were sent, in order. One Outbox may serve many texts. This project's own.
+/// The messages that were sent, in order. One Outbox may serve many texts.
 #[derive(Debug, Drop)]
 pub struct Outbox {
     // All messages, one directly after the other, and where each ends.

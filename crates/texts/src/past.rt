@@ -3,7 +3,7 @@ ghost use Rattle.std.specs.Prelude.{◌≡◌};
 use crate::replica::Replica;
 use std::marker::Model;
 
-/// A text as it was, up to some fronts. This project's own.
+/// A text as it was, up to some fronts.
 ///
 /// It is a copy of its own, and is only read: nothing is typed in it, and it takes nothing in, so that no identity is
 /// used a second time. `Replica::past` makes it.

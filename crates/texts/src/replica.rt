@@ -7,6 +7,7 @@ ghost use Rattle.texts.specs.Edit.{anchor_before};
 ghost use Rattle.texts.specs.Text.{IsAnchor, IsText};
 ghost use Rattle.texts.specs.TextState.{all_told, empty_text, shown_of};
 ghost use Rattle.taken_text.specs.Noted.{AreChangesSince};
+ghost use Rattle.taken_text.specs.Rows.{chars_of_rows};
 
 mod by_names;
 mod deleting;
@@ -26,10 +27,10 @@ use looks::{Looks, Refusal};
 use operations::{NameSet, Op};
 use std::alloc::Global;
 use std::marker::Model;
-use taken_text::{Shown, TakenText};
+use taken_text::{Shown, ShownRows, TakenText};
 use waiting_room::Room;
 
-/// One site's copy of a text. This project's own.
+/// One site's copy of a text.
 #[derive(Drop)]
 pub struct Replica {
     text: TextNo,
@@ -181,6 +182,15 @@ impl Replica {
         ensures { result ≡ slice_range (shown_of self.now) beg end }
     {
         self.taken.shown_between(beg, end)
+    }
+
+    /// The same as rows of neighbouring bytes, one after the other. It takes no memory.
+    pub fn rows_between(&self, beg: u64, end: u64) -> ShownRows<'_>
+        requires rising { beg ≤ end }
+        requires in_text { end ≤ length (shown_of self.now) }
+        ensures { chars_of_rows result ≡ slice_range (shown_of self.now) beg end }
+    {
+        self.taken.rows_between(beg, end)
     }
 
     /// What a character hangs on that is typed after the first `pos` characters shown: the last of them, or

@@ -1,4 +1,4 @@
-/// What draining the room did. This project's own.
+/// What draining the room did.
 #[derive(Clone, Copy, Debug, PartialEq, Eq)]
 pub struct Settled {
     /// How many operations that waited were taken in.

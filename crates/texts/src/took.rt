@@ -1,4 +1,4 @@
-/// What taking in a message did. This project's own.
+/// What taking in a message did.
 #[derive(Clone, Copy, Debug, PartialEq, Eq)]
 pub enum Took {
     /// Its operation was taken in, and then those that waited for it.

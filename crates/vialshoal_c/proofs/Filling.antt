@@ -48,9 +48,6 @@ module _ {A B : Type 0} (f : A → B) where
       ∙ ap (λ (ys : List B). map f all ++ ys) (is.rest ∙ ap (λ (n : ℕ). drop n old) whole)
 
 -- what is put into a room of a character, and of a change
-abbrev pub byte_of : Char → ℕ
-byte_of c = c.byte
-
 abbrev pub name_of : Char → CharName
 name_of c = record { site = c.name.site; offset = c.name.off }
 

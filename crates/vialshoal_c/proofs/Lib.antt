@@ -2,5 +2,6 @@ mod Filling
 mod Handing
 mod Names
 mod Places
+mod Putting
 mod Runs
 pub mod Values

@@ -4,7 +4,7 @@ use Rattle.std.specs.Prelude.{◌≡◌, ◌<◌, ◌≤◌, ◌⊎◌, ℕ, Lis
 use Rattle.looks.specs.Refusal.{number_of}
 use Rattle.looks.specs.declared.refusal.Refusal.TheVariants.{BadFile, OutOfMemory}
 use Rattle.text_file.specs.Files.{formatted}
-use Rattle.text_file.specs.declared.TheConstants.{MAX_TEXT}
+use Rattle.text_file.specs.declared.TheConstants.{MAX_STORED}
 use Rattle.texts.specs.Taking.{HasTakenAll}
 use Rattle.texts.specs.TextState.{TextState, empty_text, shown_items}
 use Rattle.kept_file.specs.KeptFiles.{IsKeptFileOf, IsNoKeptFile, kept_bytes, most_kept}
@@ -40,6 +40,6 @@ PutsFile form t old number need new =
 -- The formatted file of what the text shows is put into a room; or that is too much for a file; or memory was refused.
 abbrev pub PutsText : TextState → (old : List ℕ) → (number need : ℕ) → (new : List ℕ) → Type 0
 PutsText t old number need new =
-    ((length (shown_items t) ≤ MAX_TEXT) × Puts (formatted (shown_items t)) old number need new)
-    ⊎ (((MAX_TEXT < length (shown_items t)) × PutsNone (number_of BadFile) old number need new)
+    ((length (shown_items t) ≤ MAX_STORED) × Puts (formatted (shown_items t)) old number need new)
+    ⊎ (((MAX_STORED < length (shown_items t)) × PutsNone (number_of BadFile) old number need new)
     ⊎ PutsNone (number_of OutOfMemory) old number need new)

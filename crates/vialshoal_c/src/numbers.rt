@@ -42,6 +42,9 @@ pub const IS_DELETE: u32 = 2;
 /// Characters gave way to as many that differ in looks alone.
 pub const IS_REPLACE: u32 = 3;
 
+// The most messages whose memory is kept once they are let go: that of a great edit is freed.
+pub(crate) const KEPT_ROOM: usize = 16;
+
 /// A law: the numbers of misuse.
 pub fn the_numbers_of_misuse()
     ensures handles { (NOT_OPEN ≡ 101) × (ALREADY_OPEN ≡ 102) }

@@ -3,6 +3,7 @@ ghost use Rattle.looks.specs.Refusal.{RefusedForMemoryAlone};
 ghost use Rattle.texts.specs.TextState.{empty_text};
 ghost use Rattle.vialshoal_c.specs.SessionState.{session_of};
 
+use crate::numbers::KEPT_ROOM;
 use char_files::{SiteNo, TextNo};
 use list_changes::Change;
 use looks::Refusal;
@@ -51,10 +52,14 @@ impl Session {
         Ok(Box::new(alloc, Session::of(alloc, replica))?)
     }
 
-    /// Lets all messages go.
+    /// Lets all messages go. The memory of a few is kept for others.
     pub(crate) fn let_go(&mut self)
         ensures { self.new ≡ record self.old { sent = [] } }
     {
-        self.outbox = Outbox::new(self.alloc);
+        if self.outbox.len() <= KEPT_ROOM {
+            self.outbox.clear();
+        } else {
+            self.outbox = Outbox::new(self.alloc);
+        }
     }
 }

@@ -1,6 +1,7 @@
 //! What a replica shows, that of a session or of a text as it was.
 
-ghost use Rattle.std.specs.Prelude.{◌≡◌, ◌++◌, ◌<◌, ◌≤◌, ◌↔◌, length, drop, slice_get, IfSome, IsTrue};
+ghost use Rattle.std.specs.Prelude.{◌≡◌, ◌+◌, ◌++◌, ◌<◌, ◌≤◌, ◌↔◌, length, take, drop, slice_get, IfSome, IsTrue};
+ghost use Rattle.taken_text.specs.Rows.{chars_of_rows};
 ghost use Rattle.texts.specs.Edit.{is_range_in};
 ghost use Rattle.texts.specs.TextState.{shown_of};
 ghost use Rattle.vialshoal_c.specs.Asking.{Finds, FindsName, IsRun, PutsShown, TellsRun, bytes_of, names_of};
@@ -10,7 +11,7 @@ use crate::numbers::{NO_NAME, NO_NUMBER, OUT_OF_TEXT, TOO_SHORT};
 use crate::outputs::{CharName, LooksRun, Place};
 use char_files::{Anchor, Name, SiteNo};
 use looks::Looks;
-use texts::{Replica, Shown};
+use texts::{Replica, Shown, ShownRows};
 
 // Whether a range lies in the text.
 pub(crate) fn has_range(replica: &Replica, beg: u64, end: u64) -> bool
@@ -19,15 +20,25 @@ pub(crate) fn has_range(replica: &Replica, beg: u64, end: u64) -> bool
     beg <= end && end <= replica.shown_len()
 }
 
-// The bytes of characters, one after the other, at the beginning of a room.
-fn fill_with_bytes(chars: Shown<'_>, room: &mut [u8])
-    requires { length chars ≤ length room.old }
-    ensures { room.new ≡ bytes_of chars.entry ++ drop (length chars.entry) room.old }
+// Puts bytes into a room at a place.
+fn put_at(room: &mut [u8], at: usize, bytes: &[u8])
+    requires { at + length bytes.now ≤ length room.old }
+    ensures { room.new ≡ take at room.old ++ bytes.now ++ drop (at + length bytes.now) room.old }
+{
+    room[at..at + bytes.len()].copy_from_slice(bytes);
+}
+
+// The bytes of the characters of rows, one after the other, at the beginning of a room.
+fn fill_with_bytes(rows: ShownRows<'_>, room: &mut [u8])
+    requires { length (chars_of_rows rows) ≤ length room.old }
+    ensures { room.new
+        ≡ bytes_of (chars_of_rows rows.entry) ++ drop (length (chars_of_rows rows.entry)) room.old }
 {
     let mut at = 0;
-    for char in chars {
-        room[at] = char.byte;
-        at += 1;
+    for row in rows {
+        let bytes = row.bytes();
+        put_at(room, at, bytes);
+        at += bytes.len();
     }
 }
 
@@ -60,7 +71,7 @@ pub(crate) fn put_shown_bytes(replica: &Replica, beg: u64, end: u64, room: &mut 
             need,
         };
     }
-    fill_with_bytes(replica.shown_between(beg, end), room);
+    fill_with_bytes(replica.rows_between(beg, end), room);
     Put { number: 0, need }
 }
 

@@ -24,7 +24,7 @@ pub enum Track {
     System,
 }
 
-/// The cells of a viewer: its first column and row, and how many of each. This project's own.
+/// The cells of a viewer: its first column and row, and how many of each.
 #[derive(Clone, Copy, Debug, PartialEq, Eq)]
 pub struct Area {
     pub col: usize,

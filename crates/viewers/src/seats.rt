@@ -4,7 +4,7 @@ ghost use Rattle.viewers.specs.Tracks.{row_for, rows, seat_at, tallest, top, vie
 
 use arrayvec::ArrayVec;
 
-/// The fewest columns of a screen. This project's own, as all limits here.
+/// The fewest columns of a screen.
 pub const MIN_WIDTH: usize = 20;
 
 /// The most columns of a screen.
@@ -22,7 +22,7 @@ pub const MAX_SEATS: usize = 50;
 /// The most viewers of a screen: those of two tracks.
 pub const MAX_VIEWERS: usize = 100;
 
-/// A viewer's number, and how many rows it has. This project's own.
+/// A viewer's number, and how many rows it has.
 #[derive(Clone, Copy, Debug, Default, PartialEq, Eq)]
 pub struct Seat {
     pub number: u32,

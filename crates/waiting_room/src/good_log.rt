@@ -6,7 +6,7 @@ use char_files::{Name, SiteNo};
 use op_log::Log;
 use std::marker::Model;
 
-/// A log whose operations are a good set. This project's own.
+/// A log whose operations are a good set.
 #[derive(Drop)]
 pub struct GoodLog<'a> {
     log: &'a Log,

@@ -8,7 +8,7 @@ ghost use Rattle.set_laws.specs.Sets.{AreIdentified};
 use char_files::{Name, SiteNo};
 
 /// What a replica has taken in, as far as the verdict on another operation asks for it. It is seen as the
-/// list of these operations. No call takes memory. This project's own.
+/// list of these operations. No call takes memory.
 pub trait Held {
     ghost use Rattle.std.specs.Prelude.{List};
     ghost use Rattle.operations.specs.Operation.{Operation};

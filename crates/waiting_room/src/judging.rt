@@ -1,17 +1,19 @@
 ghost use Rattle.std.specs.Prelude.{◌≡◌, ℕ, ◌<◌, ◌↔◌, IsTrue};
 ghost use Rattle.char_files.specs.CharName.{CharName};
+ghost use Rattle.operations.specs.NameSet.{IsAmong};
 ghost use Rattle.operations.specs.Operation.{Operation, Mentions, Begins};
 ghost use Rattle.set_laws.specs.Fronts.{IsHere};
 ghost use Rattle.set_laws.specs.Verdict.{IsNew, FollowsOn, FitsFile, HasForeignNames, IsAboveCauses, HasVerdict};
-ghost use Rattle.waiting_room.specs.Judged.{verdict_of, HasOwnNamesBelow, HasLowerInsert, IsAboveInserts};
-ghost use Rattle.waiting_room.specs.Judged.{IsAbovePredecessor};
+ghost use Rattle.waiting_room.specs.Judged.{verdict_of, HasOwnNamesBelow, HasLowerInsert, HaveLowerInserts};
+ghost use Rattle.waiting_room.specs.Judged.{IsAboveInserts, IsAbovePredecessor};
 
 use crate::held::Held;
 use crate::mentions::mentions_past;
-use char_files::Name;
-use operations::{Op, named};
+use crate::missing::{is_here, last_name, missing_name};
+use char_files::{Anchor, Name};
+use operations::{Kind, NameSet, Op};
 
-/// What becomes of an operation that is handed in. This project's own.
+/// What becomes of an operation that is handed in.
 #[derive(Clone, Copy, Debug, PartialEq, Eq)]
 pub enum Verdict {
     /// It waits for its predecessor, or for the Insert of another site's name.
@@ -25,8 +27,8 @@ pub enum Verdict {
     Ready,
 }
 
-// Whether the operation's predecessor is held, if it needs one.
-fn follows_on<H: Held>(op: &Op, held: &H) -> bool
+/// Whether the operation's predecessor is held, if it needs one.
+pub(crate) fn follows_on<H: Held>(op: &Op, held: &H) -> bool
     requires { IsNew (H.ops held.now) op.now }
     ensures { IsTrue result ↔ FollowsOn (H.ops held.now) op.now }
 {
@@ -41,26 +43,19 @@ fn has_own_names_below(op: &Op, len: u32) -> bool
     !mentions_past(op, op.site(), len)
 }
 
-// Whether what the operation says of its own site's file is so.
-fn fits_file<H: Held>(op: &Op, held: &H) -> bool
+/// Whether what the operation says of its own site's file is so.
+pub(crate) fn fits_file<H: Held>(op: &Op, held: &H) -> bool
     ensures { IsTrue result ↔ FitsFile (H.ops held.now) op.now }
 {
     let len = held.file_len(op.site());
     op.begins_at(u64::from(len)) && has_own_names_below(op, len)
 }
 
-// Whether the name's Insert is held.
-fn is_here<H: Held>(name: Name, held: &H) -> bool
-    ensures { IsTrue result ↔ IsHere (H.ops held.now) name }
-{
-    name.off() < held.file_len(name.site())
-}
-
 // Whether the names of other sites that the operation mentions are here.
 fn has_foreign_names<H: Held>(op: &Op, held: &H) -> bool
     ensures { IsTrue result ↔ HasForeignNames (H.ops held.now) op.now }
 {
-    named(op).all(|name| name.site() == op.site() || is_here(name, held))
+    missing_name(op, held).is_none()
 }
 
 // Whether the name is here, and its Insert's stamp is lower.
@@ -70,12 +65,31 @@ fn has_lower_insert<H: Held>(name: Name, stamp: u64, held: &H) -> bool
     is_here(name, held) && held.name_stamp(name) < stamp
 }
 
+// Whether the names are here, and their Inserts' stamps are lower. Stamps rise along a site's file, so a range's last
+// name decides.
+fn have_lower_inserts<H: Held>(names: &NameSet, stamp: u64, held: &H) -> bool
+    ensures { IsTrue result ↔ HaveLowerInserts (H.ops held.now) stamp (IsAmong names.now) }
+{
+    held.lemma_are_good();
+    names
+        .ranges()
+        .iter()
+        .all(|range| has_lower_insert(last_name(*range), stamp, held))
+}
+
 // Whether the names that the operation mentions are here, and their Inserts' stamps are lower.
 fn is_above_inserts<H: Held>(op: &Op, held: &H) -> bool
     ensures { IsTrue result ↔ IsAboveInserts (H.ops held.now) op.now }
 {
-    let stamp = op.stamp();
-    named(op).all(|name| has_lower_insert(name, stamp, held))
+    match op.kind() {
+        Kind::Insert { cause, .. } => match *cause {
+            Anchor::Root => true,
+            Anchor::At(name) => has_lower_insert(name, op.stamp(), held),
+        },
+        Kind::Delete { names } | Kind::Restore { names } | Kind::ChangeLooks { names, .. } => {
+            have_lower_inserts(names, op.stamp(), held)
+        }
+    }
 }
 
 // Whether the stamp of the operation's predecessor is lower, if it has one.

@@ -1,12 +1,11 @@
 ghost use Rattle.std.specs.Prelude.{◌≡◌, ◌<◌, ◌≤◌, ◌↔◌, [], length, slice_get, All, Some, IfSome, IfNone, IsTrue};
 ghost use Rattle.set_laws.specs.Sets.{AreIdentified};
-ghost use Rattle.set_laws.specs.Verdict.{IsNew};
 ghost use Rattle.waiting_room.specs.Room.{IsAhead, IsBehind, IsFirstToLeave, IsWaitingAs, Offers};
 ghost use Rattle.waiting_room.specs.Room.{StaysWaiting, is_ahead, is_behind, without};
 
 use crate::held::Held;
-use crate::judging::{Verdict, judge};
 use crate::mentions::mentions_past;
+use crate::waiting::Waiting;
 use char_files::SiteNo;
 use indexmap::IndexMap;
 use looks::Refusal;
@@ -14,31 +13,16 @@ use operations::Op;
 use std::alloc::Global;
 use std::marker::Model;
 
-/// The most operations that wait. This project's own.
+/// The most operations that wait.
 pub const MAX_WAITING: usize = 64;
 
-/// What became of an operation that was offered to a room. This project's own.
+/// What became of an operation that was offered to a room.
 #[derive(Clone, Copy, Debug, PartialEq, Eq)]
 pub enum Offered {
     /// It waits now, as the last.
     New,
     /// An equal one waits already.
     Same,
-}
-
-// Whether the operation's identity isn't held.
-fn is_new<H: Held>(op: &Op, held: &H) -> bool
-    ensures { IsTrue result ↔ IsNew (H.ops held.now) op.now }
-{
-    held.lemma_are_good();
-    held.front(op.site()) < op.seq()
-}
-
-// Whether the operation stays: its identity isn't held, and the verdict is that it waits.
-fn stays_waiting<H: Held>(op: &Op, held: &H) -> bool
-    ensures { IsTrue result ↔ StaysWaiting (H.ops held.now) op.now }
-{
-    is_new(op, held) && matches!(judge(op, held), Verdict::Wait)
 }
 
 // Whether the operation is one of the site itself, or mentions a name of the site at or past this end of its file.
@@ -49,11 +33,11 @@ fn is_ahead(op: &Op, site: SiteNo, end: u32) -> bool
     op.site() == site || mentions_past(op, site, end)
 }
 
-/// Operations that wait for a cause, in order of arrival, each found by its identity. This project's own.
+/// Operations that wait for a cause, in order of arrival, each found by its identity.
 #[derive(Drop)]
 pub struct Room {
     // By site and seq.
-    ops: IndexMap<(u16, u32), Op>,
+    ops: IndexMap<(u16, u32), Waiting>,
 }
 
 impl Model for Room {
@@ -107,7 +91,7 @@ impl Room {
         ensures { IsWaitingAs self.now op.now result }
     {
         match self.ops.get(&(op.site().get(), op.seq())) {
-            Some(waiting) => Some(waiting.is_same(op)),
+            Some(waiting) => Some(waiting.op().is_same(op)),
             None => None,
         }
     }
@@ -129,8 +113,19 @@ impl Room {
         }
         op.lemma_has_spelling();
         let key = (op.site().get(), op.seq());
-        self.ops.insert(key, op)?;
+        self.ops.insert(key, Waiting::new(op))?;
         Ok(Offered::New)
+    }
+
+    // What waits at an index, in order of arrival, from 0.
+    fn waiting(&self, index: usize) -> &Waiting
+        requires { index < length self.now }
+        ensures { slice_get self.now index ≡ Some result.now }
+    {
+        match self.ops.get_index(index) {
+            Some((_, waiting)) => waiting,
+            None => unreachable!(),
+        }
     }
 
     /// The operation at an index, in order of arrival, from 0.
@@ -138,10 +133,7 @@ impl Room {
         requires { index < length self.now }
         ensures { slice_get self.now index ≡ Some result.now }
     {
-        match self.ops.get_index(index) {
-            Some((_, op)) => op,
-            None => unreachable!(),
-        }
+        self.waiting(index).op()
     }
 
     /// Takes the operation at an index out; the others stay in order.
@@ -151,7 +143,7 @@ impl Room {
         ensures others { self.new ≡ without self.old index }
     {
         match self.ops.shift_remove_index(index) {
-            Some((_, op)) => op,
+            Some((_, waiting)) => waiting.into_op(),
             None => unreachable!(),
         }
     }
@@ -173,7 +165,7 @@ impl Room {
         ensures some { IfSome result (IsFirstToLeave (H.ops held.now) self.now) }
     {
         for index in 0..self.len() {
-            if !stays_waiting(self.get(index), held) {
+            if !self.waiting(index).stays(held) {
                 return Some(index);
             }
         }
@@ -187,6 +179,8 @@ impl Room {
         ensures means { IsTrue result ↔ IsBehind (H.ops held.now) self.now site }
     {
         let end = held.file_len(site);
-        self.ops.values().any(|op| is_ahead(op, site, end))
+        self.ops
+            .values()
+            .any(|waiting| is_ahead(waiting.op(), site, end))
     }
 }

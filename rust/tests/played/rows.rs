@@ -58,11 +58,12 @@ fn load(folder: &Path) -> io::Result<Row> {
         files.clone()
     };
     let args = read(at("args"), "");
-    let args = args.strip_suffix(b"\n").unwrap_or(&args);
-    let words = args.split(|byte| *byte == b'\n').map(<[u8]>::to_vec);
+    // (an empty line is an empty word, and no line is none)
+    let words = args.split_inclusive(|byte| *byte == b'\n');
+    let words = words.map(|line| line.strip_suffix(b"\n").unwrap_or(line).to_vec());
     Ok(Row {
         given: Given {
-            words: words.filter(|word| !word.is_empty()).collect(),
+            words: words.collect(),
             script: read(at("script"), ""),
             files,
             output: stream(at("output")),

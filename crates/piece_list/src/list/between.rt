@@ -14,7 +14,7 @@ use crate::run::Run;
 use std::marker::Model;
 
 /// The stretches of a text that are shown between two positions, one after the other, without memory: seen as
-/// the list of the runs that are left. It reads no piece after the last of them. This project's own.
+/// the list of the runs that are left. It reads no piece after the last of them.
 #[derive(Drop)]
 pub struct Between<'a> {
     // The first run, if it was read before: split at its front.

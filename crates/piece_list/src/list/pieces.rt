@@ -10,6 +10,7 @@ ghost use Rattle.piece_list.specs.Spelled.{spelled, HasName};
 ghost use Rattle.piece_list.specs.Tables.{table_of};
 ghost use Rattle.piece_list.specs.Values.{IsEntered};
 
+use crate::numbers::number_of;
 use crate::ring::PieceRing;
 use crate::setting::Setting;
 use crate::spot::Spot;
@@ -26,7 +27,7 @@ use std::marker::Model;
 pub(super) struct Pieces {
     pub(super) ring: PieceRing,
     pub(super) tags: TagTables,
-    // How many characters each piece shows, under its number.
+    // How many characters each piece shows, and the number of its key, under the piece's number.
     pub(super) index: RankIndex,
 }
 
@@ -43,7 +44,7 @@ impl Model for Pieces {
       room = min p.ring.room p.index.room;
     } };
 
-    ghost invariant = { λ p. AreHeld p.ring.items p.tags p.index.items };
+    ghost invariant = { λ p. AreHeld p.ring.items p.tags p.index.items p.index.keys };
 }
 
 impl Pieces {
@@ -125,10 +126,11 @@ impl Pieces {
         let whole = self.ring.piece_at(tag);
         let (site, off, len) = (whole.site(), whole.off() + n, whole.len() - n);
         let (before, after) = (whole.shown_of(n), whole.shown_of(len));
+        let key = number_of(whole.key_at(n));
         let number = self.ring.split(tag, n);
         self.tags.fill(site, off, len, number);
         self.index.set_weight(tag, before);
-        self.index.insert_after(Some(tag), number, after);
+        self.index.insert_after(Some(tag), number, after, key);
         number
     }
 }

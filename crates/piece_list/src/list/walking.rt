@@ -21,7 +21,7 @@ use looks::Looks;
 use std::marker::Model;
 
 /// The stretches of a text that are shown, one after the other, without memory: seen as the list of the runs
-/// that are left. This project's own.
+/// that are left.
 #[derive(Drop)]
 pub struct Walk<'a> {
     members: PieceRefs<'a>,

@@ -1,9 +1,9 @@
 //! What a run's sites do with their screens.
 
 ghost use Rattle.std.specs.Prelude.{◌≤◌, ◌<◌, List, ℕ, length};
+ghost use Rattle.char_files.specs.Plain.{plain_items};
 ghost use Rattle.machine.specs.Events.{arrange, ask, edit_reply, insert_at_caret};
 ghost use Rattle.script_events.specs.EventView.{OpensDeskText};
-ghost use Rattle.script_events.specs.Script.{plain_items};
 ghost use Rattle.script_runs.specs.Replying.{reply_of};
 ghost use Rattle.script_runs.specs.Seen.{Replied};
 

@@ -6,7 +6,7 @@ use looks::{Looks, Refusal};
 
 /// Characters with their looks, outside any text: at most 2^24 of them, kept as runs of equal looks.
 ///
-/// Oberon's buffers (Project Oberon, chapter 5); the bound is this project's own.
+/// These are Oberon's buffers (Project Oberon, chapter 5).
 #[derive(Debug)]
 pub struct Buffer {
     runs: Vec<LooksRun>,

@@ -5,8 +5,7 @@ use looks::Refusal;
 
 /// The bytes that one site inserted in one text, in the order in which it did: at most 2^24.
 ///
-/// Bytes are appended and never overwritten, as in the files of Oberon's texts (Project Oberon, chapter 5); a
-/// file for each site, and the bound, are this project's own.
+/// Bytes are appended and never overwritten, as in the files of Oberon's texts (Project Oberon, chapter 5).
 #[derive(Debug)]
 pub struct CharFile {
     bytes: Vec<u8>,
@@ -30,6 +29,13 @@ impl CharFile {
     /// Asks of its caller: `off < length self.now.bytes`.
     pub fn byte(&self, off: u32) -> u8 {
         self.bytes[off as usize]
+    }
+
+    /// The bytes from one offset to another.
+    ///
+    /// Asks of its caller: `rising: beg ≤ end`, `in_file: end ≤ length self.now.bytes`.
+    pub fn bytes(&self, beg: u32, end: u32) -> &[u8] {
+        &self.bytes[beg as usize..end as usize]
     }
 
     // Whether n more bytes pass the limit.

@@ -6,7 +6,7 @@ use crate::site_no::SiteNo;
 use fallible::Global;
 use looks::Refusal;
 
-/// The files of all sites that inserted bytes in a text, each at most 2^24 bytes long. This project's own.
+/// The files of all sites that inserted bytes in a text, each at most 2^24 bytes long.
 pub struct CharFiles {
     files: SiteMap<CharFile>,
     alloc: Global,
@@ -36,6 +36,16 @@ impl CharFiles {
         match self.files.get(name.site()) {
             Some(file) => file.byte(name.off()),
             None => unreachable!(),
+        }
+    }
+
+    /// The bytes of a site's file from one offset to another.
+    ///
+    /// Asks of its caller: `rising: beg ≤ end`, `in_file: end ≤ length (bytes_of self.now site)`.
+    pub fn bytes(&self, site: SiteNo, beg: u32, end: u32) -> &[u8] {
+        match self.files.get(site) {
+            Some(file) => file.bytes(beg, end),
+            None => &[],
         }
     }
 

@@ -2,7 +2,7 @@
 use crate::name::Name;
 use looks::Looks;
 
-/// A character of a text, as it is shown (Project Oberon, chapter 5); its name is this project's own.
+/// A character of a text, as it is shown (Project Oberon, chapter 5), with its name.
 #[derive(Debug)]
 pub struct Char {
     pub name: Name,

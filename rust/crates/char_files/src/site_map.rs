@@ -5,7 +5,7 @@ use indexmap::IndexMap;
 use looks::Refusal;
 
 /// Values by the sites' numbers. Mostly the one that is asked for is the one that was put or lent last, so that is looked at before
-/// any search. This project's own.
+/// any search.
 pub struct SiteMap<V> {
     values: IndexMap<u16, V>,
     // Where to look first. No promise rests on it.

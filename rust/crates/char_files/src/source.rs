@@ -5,7 +5,7 @@ use looks::Looks;
 
 /// Characters with their looks, read by position. No call takes memory.
 ///
-/// This project's own, for the readers of Project Oberon, chapter 5.
+/// It is for the readers of Project Oberon, chapter 5.
 pub trait Source {
     /// How many characters there are.
     fn len(&self) -> u64;
@@ -38,7 +38,7 @@ impl Source for Buffer {
     }
 }
 
-/// Bytes as a source: each is a character in the default looks. This project's own.
+/// Bytes as a source: each is a character in the default looks.
 #[derive(Clone, Copy, Debug)]
 pub struct Plain<'a>(pub &'a [u8]);
 

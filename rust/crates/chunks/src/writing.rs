@@ -6,10 +6,9 @@ use char_files::TextNo;
 use fallible::{AllocError, Global, Vec};
 use looks::Refusal;
 use operations::Op;
-use packed::History;
-use packed_fields::put_number;
+use packed::{History, put_number};
 
-/// A chunk that is being written. A contract sees what it tells, and its bytes. This project's own.
+/// A chunk that is being written. A contract sees what it tells, and its bytes.
 pub struct ChunkWriter {
     history: History,
     bytes: Vec<u8>,

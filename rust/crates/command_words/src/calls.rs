@@ -8,7 +8,7 @@ use reader_scanner::{Scanner, Token, byte_at};
 // has, so that a long word costs no more than one of so many bytes.
 const NEAR: usize = 32;
 
-/// A command's word in a text, with the token that stands first after it. This project's own.
+/// A command's word in a text, with the token that stands first after it.
 #[derive(Debug, PartialEq, Eq)]
 pub struct Call {
     pub command: Command,
@@ -54,7 +54,7 @@ fn word_between<S: Source>(source: &S, beg: u64, end: u64) -> ArrayVec<u8, NEAR>
 /// The call at this position, if the word that contains the position is a command's. Past the end there is
 /// none. It takes no memory.
 ///
-/// This project's own, after the calls of commands in Project Oberon, chapter 4.
+/// It is after the calls of commands in Project Oberon, chapter 4.
 pub fn command_at<S: Source>(source: &S, pos: u64) -> Option<Call> {
     if source.len() <= pos {
         return None;

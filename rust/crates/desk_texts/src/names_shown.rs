@@ -10,7 +10,7 @@ use operations::NameRange;
 use texts::Replica;
 
 // Names that follow one another, shown one after the other, and the position of the first of them.
-struct Stretch {
+struct NameRow {
     pos: u64,
     names: NameRange,
 }
@@ -28,7 +28,7 @@ fn is_next(names: NameRange, name: Name) -> bool {
 }
 
 // Appends the line of a stretch. After an `Err` of this and of the others that append, some of it may stand there.
-fn put_stretch(out: &mut Vec<u8>, stretch: &Stretch) -> Result<(), AllocError> {
+fn put_stretch(out: &mut Vec<u8>, stretch: &NameRow) -> Result<(), AllocError> {
     out.extend_from_slice(b"name ")?;
     put_word(out, stretch.pos)?;
     put_word(out, u64::from(stretch.names.site().get()))?;
@@ -39,7 +39,7 @@ fn put_stretch(out: &mut Vec<u8>, stretch: &Stretch) -> Result<(), AllocError> {
 }
 
 // Goes on to the name that is shown next: the stretch has one more, or its line is put and another begins.
-fn go_on(out: &mut Vec<u8>, stretch: &mut Stretch, name: Name) -> Result<(), AllocError> {
+fn go_on(out: &mut Vec<u8>, stretch: &mut NameRow, name: Name) -> Result<(), AllocError> {
     let names = stretch.names;
     let len = names.len();
     if is_next(names, name) {
@@ -47,7 +47,7 @@ fn go_on(out: &mut Vec<u8>, stretch: &mut Stretch, name: Name) -> Result<(), All
         return Ok(());
     }
     put_stretch(out, stretch)?;
-    *stretch = Stretch {
+    *stretch = NameRow {
         pos: stretch.pos + u64::from(len),
         names: alone(name),
     };
@@ -60,7 +60,7 @@ fn put_names(out: &mut Vec<u8>, replica: &Replica, beg: u64, end: u64) -> Result
     let Some(first) = chars.next() else {
         return Ok(());
     };
-    let mut stretch = Stretch {
+    let mut stretch = NameRow {
         pos: beg,
         names: alone(first.name),
     };

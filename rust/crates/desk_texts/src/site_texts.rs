@@ -15,7 +15,7 @@ use operations::{NameRange, Op};
 use text_chunks::{UnpackRefusal, Unpacked, unpack};
 use texts::{ByNames, EditRefusal, MergeRefusal, Outbox, Replica, Settled, Took};
 
-/// One site's texts, 1 to 16, each empty until it is first changed. This project's own.
+/// One site's texts, 1 to 16, each empty until it is first changed.
 pub struct Texts {
     site: SiteNo,
     texts: Vec<Replica>,

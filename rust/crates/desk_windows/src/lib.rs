@@ -10,6 +10,6 @@ mod telling;
 mod window;
 mod windows;
 
-pub use marks::Stretch;
+pub use marks::MarkedStretch;
 pub use pointing::{CellTarget, Clicked};
 pub use windows::Windows;

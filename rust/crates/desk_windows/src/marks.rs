@@ -9,9 +9,9 @@ use fallible::{AllocError, Vec};
 use looks::Refusal;
 use text_frames::Caret;
 
-/// What is marked of the text that a viewer shows. This project's own.
+/// What is marked of the text that a viewer shows.
 #[derive(Clone, Copy)]
-pub struct Stretch {
+pub struct MarkedStretch {
     pub viewer: u32,
     pub text: TextNo,
     pub beg: u64,
@@ -55,7 +55,7 @@ impl Windows {
     /// What is marked; `None` where nothing is shown of what is selected.
     ///
     /// Asks of its caller: `AreOf texts.now self.now`.
-    pub fn marked(&self, texts: &Texts) -> Option<Stretch> {
+    pub fn marked(&self, texts: &Texts) -> Option<MarkedStretch> {
         let Some(selection) = self.selected else {
             return None;
         };
@@ -65,7 +65,7 @@ impl Windows {
         let Some((beg, end)) = selection.range(texts.replica(window.text)) else {
             return None;
         };
-        Some(Stretch {
+        Some(MarkedStretch {
             viewer: selection.viewer,
             text: window.text,
             beg,

@@ -5,7 +5,7 @@ use list_changes::Change;
 use text_frames::Frame;
 use texts::Replica;
 
-/// What a viewer shows: a text of the desk, by a frame. This project's own.
+/// What a viewer shows: a text of the desk, by a frame.
 pub struct Window {
     pub(crate) text: TextNo,
     pub(crate) frame: Frame,

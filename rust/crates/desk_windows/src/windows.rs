@@ -10,7 +10,7 @@ use looks::Refusal;
 use text_frames::{Caret, Frame, Selection};
 use viewers::{Screen, Track};
 
-/// The windows of a site's viewers over its texts, its caret, and what is selected. This project's own.
+/// The windows of a site's viewers over its texts, its caret, and what is selected.
 pub struct Windows {
     pub(crate) viewers: Screen<Window>,
     pub(crate) caret: Option<Caret>,

@@ -5,7 +5,7 @@ use std::io;
 /// The most bytes that one call reads.
 pub const MAX_PIECE: usize = 1 << 20;
 
-/// A folder in which nobody else writes meanwhile, by the calls that it takes. This project's own.
+/// A folder in which nobody else writes meanwhile, by the calls that it takes.
 pub trait Folder {
     /// An open file.
     type File;

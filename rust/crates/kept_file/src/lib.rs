@@ -4,6 +4,16 @@
 
 mod files;
 mod form;
+mod head;
+mod packed_file;
+mod site_file;
+mod taking;
 
 pub use files::{load_kept, store_kept};
 pub use form::KeptForm;
+
+pub use packed_file::{load_packed, store_packed};
+pub use site_file::{load_site, store_site};
+
+/// The most operations that a packed file tells: one takes a byte at least there, and some hundreds of bytes of memory.
+pub const MAX_PACKED: u64 = 1 << 22;

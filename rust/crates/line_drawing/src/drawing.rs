@@ -3,7 +3,7 @@
 pub const LINE_END: u8 = 0x0D;
 
 /// What a byte shows as in its cell: 20H to 7EH as themselves, a tab as one blank, every other byte as a
-/// question mark. This project's own.
+/// question mark.
 pub fn sign(byte: u8) -> u8 {
     match byte {
         b'\t' => b' ',

@@ -12,7 +12,7 @@ pub struct Looks {
 }
 
 impl Looks {
-    /// The default looks: the font `Oberon10.Scn.Fnt`, colour 1, offset 0. This project's own choice.
+    /// The default looks: the font `Oberon10.Scn.Fnt`, colour 1, offset 0.
     pub fn plain() -> Looks {
         Looks {
             font: FontName::new(b"Oberon10.Scn.Fnt").unwrap(),

@@ -2,7 +2,6 @@
 use crate::key::Key;
 
 /// A value with the key of the change that set it (a last-writer-wins register, by keys and not by arrival).
-/// This project's own.
 #[derive(Clone, Copy, Debug, PartialEq, Eq)]
 pub struct Register<T> {
     pub key: Key,

@@ -6,5 +6,5 @@ mod asked;
 
 pub use asked::{Arrangement, Cell, Fronts, Query, View};
 
-/// The greatest number of a text on a desk; the least is 1. This project's own.
+/// The greatest number of a text on a desk; the least is 1.
 pub const MAX_TEXT: u16 = 16;

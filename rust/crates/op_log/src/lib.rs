@@ -12,5 +12,5 @@ mod stretch;
 
 pub use log::Log;
 
-/// The most operations of a log, so that the place of each has 32 bits. This project's own.
+/// The most operations of a log, so that the place of each has 32 bits.
 pub const MAX_OPS: usize = (u32::MAX as usize).saturating_add(1);

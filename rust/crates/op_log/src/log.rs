@@ -7,7 +7,7 @@ use fallible::{Global, Vec};
 use looks::Refusal;
 use operations::{Kind, Op, Typing};
 
-/// The operations that a replica has taken in, each found by its identity at once. This project's own.
+/// The operations that a replica has taken in, each found by its identity at once.
 ///
 /// Of each site they are those from 1 up to its front, each once.
 pub struct Log {

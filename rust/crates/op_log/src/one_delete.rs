@@ -4,7 +4,7 @@ use fallible::Global;
 use looks::Refusal;
 use operations::{Kind, NameSet, Op};
 
-/// A Delete of one character. This project's own.
+/// A Delete of one character.
 #[derive(Clone, Copy)]
 pub(crate) struct OneDelete {
     pub(crate) stamp: u64,

@@ -14,7 +14,7 @@ use operations::{Op, Typing};
 // The most looks of a list, so that the number of each has 32 bits.
 const MAX_LOOKS: usize = u32::MAX as usize;
 
-/// Operations in order: letters that were typed one after the other take a byte each. This project's own.
+/// Operations in order: letters that were typed one after the other take a byte each.
 pub(crate) struct OpList {
     stretches: Vec<Stretch>,
     // How many operations stand before each stretch.

@@ -6,7 +6,7 @@ use looks::{Looks, Refusal};
 use operations::{Kind, Op, Typing};
 
 /// Letters that a site typed one after the other: each operation inserts one byte that hangs on the one before, under the next
-/// stamp and number, in the same looks. This project's own.
+/// stamp and number, in the same looks.
 #[derive(Clone, Copy)]
 pub(crate) struct TypedRun {
     // Of the first one; those of the others follow from it.

@@ -6,7 +6,7 @@ use char_files::{Anchor, Name};
 
 // The function is `named`; a type `Named` beside it would differ in case alone, which the toolchain refuses.
 
-/// The names that an operation mentions, one after the other, without memory. This project's own.
+/// The names that an operation mentions, one after the other, without memory.
 pub struct NameWalk<'a> {
     // What is left of the range at hand.
     range: Option<NameRange>,

@@ -3,10 +3,10 @@ use crate::kind::Kind;
 use char_files::{SiteNo, TextNo};
 use looks::{Key, Refusal};
 
-/// The greatest stamp: 2^48 - 1. This project's own.
+/// The greatest stamp: 2^48 - 1.
 pub const MAX_STAMP: u64 = (1 << 48) - 1;
 
-/// An operation that has a message: what one edit did, for every site to do alike. This project's own.
+/// An operation that has a message: what one edit did, for every site to do alike.
 #[derive(Debug)]
 pub struct Op {
     text: TextNo,

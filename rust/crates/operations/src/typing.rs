@@ -6,7 +6,7 @@ use fallible::{Global, Vec};
 use looks::{Looks, Refusal};
 
 /// Where a site types letters one after the other: each is an Insert of one byte that hangs on the one before, under the next
-/// number and the next stamp, in the same looks. This project's own.
+/// number and the next stamp, in the same looks.
 pub struct Typing {
     pub text: TextNo,
     pub site: SiteNo,

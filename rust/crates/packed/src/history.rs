@@ -10,7 +10,7 @@ use indexmap::IndexMap;
 use looks::Refusal;
 use operations::Op;
 
-/// What a text's operations so far tell of the next one, by which that one is packed and read. This project's own.
+/// What a text's operations so far tell of the next one, by which that one is packed and read.
 pub struct History {
     // Whether the operations are those of a chunk.
     in_chunk: bool,

@@ -6,8 +6,12 @@
 mod codes;
 mod expected;
 mod history;
+mod numbers;
 mod reading;
+mod sets;
 mod writing;
 
 pub use expected::Expected;
 pub use history::History;
+
+pub use numbers::{number_at, put_number};

@@ -4,13 +4,14 @@ use crate::codes::{
     STEP, is_code,
 };
 use crate::expected::Expected;
+use crate::numbers::{number_at, step_at};
+use crate::sets::{PackedSet, set_at};
 use crate::writing::{all_selected, is_last, same_looks};
 use byte_fields::{stretch_at, u8_at};
 use char_files::{Anchor, MAX_FILE, Name, SiteNo};
 use fallible::{Global, Vec};
 use looks::{Looks, Refusal, Sel};
 use operations::{Kind, NameSet, sel_at, selected_at};
-use packed_fields::{PackedSet, number_at, set_at, step_at};
 
 // What an operation does, before memory is asked for.
 pub(crate) enum Edit<'a> {

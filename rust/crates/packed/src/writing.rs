@@ -4,11 +4,12 @@ use crate::codes::{
     STEP, is_code,
 };
 use crate::expected::{Expected, name_at};
+use crate::numbers::{put_number, put_step};
+use crate::sets::put_set;
 use char_files::{Anchor, Name, SiteNo};
 use fallible::{AllocError, Vec};
 use looks::{Looks, Sel};
 use operations::{Kind, NameSet, Op, put_selected};
-use packed_fields::{put_number, put_set, put_step};
 
 // Whether the last operation was of this site.
 pub(crate) fn is_last(last: Option<SiteNo>, site: SiteNo) -> bool {

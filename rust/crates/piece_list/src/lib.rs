@@ -3,6 +3,7 @@
 #![forbid(unsafe_code)]
 
 mod list;
+mod numbers;
 mod piece;
 mod record;
 mod ring;

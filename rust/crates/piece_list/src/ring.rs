@@ -10,7 +10,7 @@ use fallible::Global;
 use looks::Refusal;
 use piece_raw::Ring;
 
-/// Pieces in order, each under its number, kept as records whose registers' values stand in tables. This project's own.
+/// Pieces in order, each under its number, kept as records whose registers' values stand in tables.
 pub(crate) struct PieceRing {
     records: Ring<PieceRecord>,
     values: ValueTables,
@@ -18,7 +18,7 @@ pub(crate) struct PieceRing {
     room: usize,
 }
 
-/// The most pieces of a text, so that no number of one is 2^32 - 1, which stands for none. This project's own.
+/// The most pieces of a text, so that no number of one is 2^32 - 1, which stands for none.
 pub(crate) const MAX_PIECES: usize = u32::MAX as usize;
 
 // Sets the cursor on the record of this number, before the first one for `None`.

@@ -4,7 +4,7 @@ use char_files::Name;
 use looks::Key;
 
 /// How often a name was compared with a piece, or a piece's key was looked at. Finding and placing do both here, and
-/// each adds one, up to the greatest `u64`. This project's own.
+/// each adds one, up to the greatest `u64`.
 pub(crate) struct Steps {
     count: u64,
 }

@@ -8,9 +8,9 @@ use looks::{Key, Looks, Refusal, Register};
 const MAX_ENTRIES: usize = u32::MAX as usize;
 
 // How far back looks are sought that a run may share.
-const NEAR: usize = 8;
+const FAR_BACK: usize = 8;
 
-/// The values that pieces' registers hold, each entered once for all pieces that have it. Nothing is taken out. This project's own.
+/// The values that pieces' registers hold, each entered once for all pieces that have it. Nothing is taken out.
 pub(crate) struct ValueTables {
     // The looks that runs were inserted with.
     looks: Vec<Looks>,
@@ -22,7 +22,7 @@ pub(crate) struct ValueTables {
 // The place of looks among the last that were entered, if they are there.
 fn near(entered: &[Looks], looks: &Looks) -> Option<usize> {
     let mut at = entered.len();
-    let first = at.saturating_sub(NEAR);
+    let first = at.saturating_sub(FAR_BACK);
     while first < at {
         at -= 1;
         if entered[at] == *looks {

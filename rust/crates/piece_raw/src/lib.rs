@@ -11,5 +11,5 @@ mod spares;
 pub use members::Members;
 pub use ring::Ring;
 
-/// The most members of a ring, so that a tag has 32 bits: the table isn't grown past it. This project's own.
+/// The most members of a ring, so that a tag has 32 bits: the table isn't grown past it.
 pub const MAX_TAGS: usize = (u32::MAX as usize).saturating_add(1);

@@ -3,7 +3,7 @@ use crate::block::NodePtr;
 use crate::nodes::{Member, Nodes};
 
 /// The members that are left of a ring, in order, each with its tag. It goes from node to node, and reads the table for
-/// the first one alone. This project's own.
+/// the first one alone.
 pub struct Members<'a, T> {
     nodes: &'a Nodes<T>,
     // Where the next one lies; the trailer after the last one.

@@ -9,8 +9,8 @@ use std::mem::ManuallyDrop;
 
 /// A ring of members closed by a trailer, linked both ways, with one cursor.
 ///
-/// A text's list of pieces has this form (Project Oberon, chapter 5). The tags are this project's own: a
-/// member keeps its tag for good, tags count from 0, and none is used twice.
+/// A text's list of pieces has this form (Project Oberon, chapter 5). A member keeps its tag
+/// for good, tags count from 0, and none is used twice.
 pub struct Ring<T> {
     nodes: ManuallyDrop<Nodes<T>>,
     spare: ManuallyDrop<Vec<Spare<T>>>,

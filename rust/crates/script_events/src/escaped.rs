@@ -5,7 +5,7 @@ use fallible::Vec;
 /// Bytes as a line of a script spells them: a backslash and two hex digits of either case stand for one byte,
 /// and each other byte for itself.
 ///
-/// They are checked when they are parsed, and decoded when they are used. This project's own.
+/// They are checked when they are parsed, and decoded when they are used.
 #[derive(Debug)]
 pub struct Escaped<'a> {
     raw: &'a [u8],

@@ -3,7 +3,7 @@ use fallible::Vec;
 
 /// A message as a line of a script spells it: two hex digits of either case for each byte, one byte at least.
 ///
-/// They are checked when they are parsed, and decoded when they are used. This project's own.
+/// They are checked when they are parsed, and decoded when they are used.
 #[derive(Debug)]
 pub struct Hex<'a> {
     raw: &'a [u8],

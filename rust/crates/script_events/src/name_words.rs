@@ -9,7 +9,7 @@ use operations::NameRange;
 /// Names of characters as a line of a script spells them: a site, an offset and how many there are, as often as
 /// there are words, and once at least.
 ///
-/// They are checked when they are parsed, and decoded when they are used. This project's own.
+/// They are checked when they are parsed, and decoded when they are used.
 #[derive(Debug)]
 pub struct NameWords<'a> {
     words: &'a [u8],

@@ -3,7 +3,7 @@ use crate::shelf::Shelf;
 use fallible::{AllocError, BTreeMap, Global, String, Vec};
 use looks::Refusal;
 
-/// A shelf over memory, which reports its files. This project's own, for tests.
+/// A shelf over memory, which reports its files, for tests.
 pub struct MemoryShelf {
     /// The files by their names.
     pub files: BTreeMap<String, Vec<u8>>,

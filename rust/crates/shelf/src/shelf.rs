@@ -4,7 +4,7 @@ use looks::Refusal;
 
 /// Files by their names. What one call reads and writes is whole: no file is open between calls.
 ///
-/// An absent file is a failure, as is any other error of what holds the files. This project's own.
+/// An absent file is a failure, as is any other error of what holds the files.
 pub trait Shelf {
     /// The bytes of the file of this name. Refused `ReadFault` where the shelf fails, and `OutOfMemory` where memory is
     /// refused to the bytes of a file that is there.

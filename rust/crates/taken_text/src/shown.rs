@@ -15,7 +15,7 @@ fn first_of(files: &CharFiles, run: &Run) -> Char {
 }
 
 /// The characters of a text that are shown, one after the other, without memory: seen as the list of those
-/// that are left. Each piece is found once, by the one before it. This project's own.
+/// that are left. Each piece is found once, by the one before it.
 pub struct Shown<'a> {
     files: &'a CharFiles,
     // What is left of the run that is being read; none after the last one.

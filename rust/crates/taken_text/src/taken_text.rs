@@ -11,7 +11,7 @@ use std::mem;
 
 /// The operations that a replica has taken in, found by their identities at once, and the characters that they
 /// make: a list of pieces over append-only files. What they change of what is shown is noted until it is asked
-/// for. This project's own.
+/// for.
 pub struct TakenText {
     pub(crate) log: Log,
     pub(crate) pieces: PieceList,

@@ -16,7 +16,7 @@ fn add_beyond(fronts: &[Front], cutter: &mut Cutter, op: &Op, len: u32) -> Resul
 
 /// The chunks of what a text has taken in beyond some fronts, in the order of its taking; none where that is nothing.
 ///
-/// Refused `OutOfMemory` alone. The time grows with all that the text has taken in. This project's own.
+/// Refused `OutOfMemory` alone. The time grows with all that the text has taken in.
 pub fn pack(alloc: Global, replica: &Replica, fronts: &[Front]) -> Result<Vec<Vec<u8>>, Refusal> {
     let mut history = History::new(alloc);
     let mut cutter = Cutter::new(alloc, replica.text());

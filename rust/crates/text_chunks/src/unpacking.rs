@@ -70,7 +70,7 @@ fn hand_in_all(replica: &mut Replica, operations: Vec<Op>) -> Result<Unpacked, U
 ///
 /// Refused, with nothing done, `Malformed` where the bytes are no chunk, `WrongText` where it is another text's, and as its
 /// first operation is. Where a later one is refused, those before it stand. `OutOfMemory` comes in the place of
-/// `Malformed` only where the bytes begin as a chunk. This project's own.
+/// `Malformed` only where the bytes begin as a chunk.
 pub fn unpack(alloc: Global, replica: &mut Replica, bytes: &[u8]) -> Result<Unpacked, UnpackRefusal> {
     match read_chunk(alloc, bytes) {
         Ok(chunk) if chunk.text != replica.text() => Err(UnpackRefusal::Whole(Refusal::WrongText)),

@@ -10,8 +10,8 @@ use list_changes::{Change, ChangeKind, all_quiet};
 use looks::Refusal;
 use texts::Replica;
 
-/// Rows of cells that show a text from the line of a character on (Project Oberon, chapter 5; that the line is told by a
-/// character, which stays where positions move, is this project's own).
+/// Rows of cells that show a text from the line of a character on (Project Oberon, chapter 5). The line is told by a
+/// character, which stays where positions move.
 pub struct Frame {
     anchor: Anchor,
     width: usize,
@@ -83,7 +83,7 @@ impl Frame {
         self.reads
     }
 
-    /// How many characters were read for this frame since it was made; at 2^64-1 it stays there. This project's own.
+    /// How many characters were read for this frame since it was made; at 2^64-1 it stays there.
     pub fn all_reads(&self) -> u64 {
         self.all_reads
     }

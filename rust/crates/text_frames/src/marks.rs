@@ -4,7 +4,7 @@ use char_files::{Anchor, Name};
 use texts::Replica;
 
 /// Where the next character is typed: in a viewer, after a character of its text or at the text's begin (Project Oberon,
-/// chapter 5; that it is told by a character is this project's own).
+/// chapter 5).
 #[derive(Clone, Copy, Debug, PartialEq, Eq)]
 pub struct Caret {
     /// The viewer's number.
@@ -23,7 +23,7 @@ impl Caret {
 }
 
 /// What is selected in a viewer: what its text shows from one character to another, both included (Project Oberon,
-/// chapter 5; that it is told by characters is this project's own).
+/// chapter 5).
 #[derive(Clone, Copy, Debug, PartialEq, Eq)]
 pub struct Selection {
     /// The viewer's number.

@@ -25,11 +25,11 @@ pub use outbox::Outbox;
 pub use past::Past;
 pub use replica::Replica;
 pub use settled::Settled;
-pub use taken_text::Shown;
+pub use taken_text::{Shown, ShownRow, ShownRows};
 pub use took::Took;
 
-/// The greatest number of an operation among its site's in one text. This project's own.
+/// The greatest number of an operation among its site's in one text.
 pub const MAX_SEQ: u32 = u32::MAX;
 
-/// The most operations that a site's file of a text tells. This project's own.
+/// The most operations that a site's file of a text tells.
 pub const MAX_KEPT: u64 = (1 << 32) - 1;

@@ -3,7 +3,7 @@ use fallible::{Global, Vec};
 use looks::Refusal;
 use operations::{Op, encode};
 
-/// The messages that were sent, in order. One Outbox may serve many texts. This project's own.
+/// The messages that were sent, in order. One Outbox may serve many texts.
 #[derive(Debug)]
 pub struct Outbox {
     // All messages, one directly after the other, and where each ends.

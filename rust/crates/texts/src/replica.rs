@@ -16,10 +16,10 @@ use fallible::{Global, Vec};
 use list_changes::Change;
 use looks::{Looks, Refusal};
 use operations::{NameSet, Op};
-use taken_text::{Shown, TakenText};
+use taken_text::{Shown, ShownRows, TakenText};
 use waiting_room::Room;
 
-/// One site's copy of a text. This project's own.
+/// One site's copy of a text.
 pub struct Replica {
     text: TextNo,
     site: SiteNo,
@@ -114,6 +114,13 @@ impl Replica {
     /// Asks of its caller: `rising: beg ≤ end`, `in_text: end ≤ length (shown_of self.now)`.
     pub fn shown_between(&self, beg: u64, end: u64) -> Shown<'_> {
         self.taken.shown_between(beg, end)
+    }
+
+    /// The same as rows of neighbouring bytes, one after the other. It takes no memory.
+    ///
+    /// Asks of its caller: `rising: beg ≤ end`, `in_text: end ≤ length (shown_of self.now)`.
+    pub fn rows_between(&self, beg: u64, end: u64) -> ShownRows<'_> {
+        self.taken.rows_between(beg, end)
     }
 
     /// What a character hangs on that is typed after the first `pos` characters shown: the last of them, or

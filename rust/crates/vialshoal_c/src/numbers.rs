@@ -40,3 +40,6 @@ pub const IS_DELETE: u32 = 2;
 
 /// Characters gave way to as many that differ in looks alone.
 pub const IS_REPLACE: u32 = 3;
+
+// The most messages whose memory is kept once they are let go: that of a great edit is freed.
+pub(crate) const KEPT_ROOM: usize = 16;

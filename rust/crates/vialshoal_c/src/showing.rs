@@ -6,19 +6,25 @@ use crate::numbers::{NO_NAME, NO_NUMBER, OUT_OF_TEXT, TOO_SHORT};
 use crate::outputs::{CharName, LooksRun, Place};
 use char_files::{Anchor, Name, SiteNo};
 use looks::Looks;
-use texts::{Replica, Shown};
+use texts::{Replica, Shown, ShownRows};
 
 // Whether a range lies in the text.
 pub(crate) fn has_range(replica: &Replica, beg: u64, end: u64) -> bool {
     beg <= end && end <= replica.shown_len()
 }
 
-// The bytes of characters, one after the other, at the beginning of a room.
-fn fill_with_bytes(chars: Shown<'_>, room: &mut [u8]) {
+// Puts bytes into a room at a place.
+fn put_at(room: &mut [u8], at: usize, bytes: &[u8]) {
+    room[at..at + bytes.len()].copy_from_slice(bytes);
+}
+
+// The bytes of the characters of rows, one after the other, at the beginning of a room.
+fn fill_with_bytes(rows: ShownRows<'_>, room: &mut [u8]) {
     let mut at = 0;
-    for char in chars {
-        room[at] = char.byte;
-        at += 1;
+    for row in rows {
+        let bytes = row.bytes();
+        put_at(room, at, bytes);
+        at += bytes.len();
     }
 }
 
@@ -46,7 +52,7 @@ pub(crate) fn put_shown_bytes(replica: &Replica, beg: u64, end: u64, room: &mut 
             need,
         };
     }
-    fill_with_bytes(replica.shown_between(beg, end), room);
+    fill_with_bytes(replica.rows_between(beg, end), room);
     Put { number: 0, need }
 }
 

@@ -3,7 +3,7 @@ use crate::held::Held;
 use char_files::{Name, SiteNo};
 use op_log::Log;
 
-/// A log whose operations are a good set. This project's own.
+/// A log whose operations are a good set.
 pub struct GoodLog<'a> {
     log: &'a Log,
 }

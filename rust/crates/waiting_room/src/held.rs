@@ -2,7 +2,7 @@
 use char_files::{Name, SiteNo};
 
 /// What a replica has taken in, as far as the verdict on another operation asks for it. It is seen as the
-/// list of these operations. No call takes memory. This project's own.
+/// list of these operations. No call takes memory.
 pub trait Held {
     /// The greatest seq of a site's operations, 0 for none.
     fn front(&self, site: SiteNo) -> u32;

@@ -7,7 +7,9 @@ mod good_log;
 mod held;
 mod judging;
 mod mentions;
+mod missing;
 mod room;
+mod waiting;
 
 pub use good_log::GoodLog;
 pub use held::Held;

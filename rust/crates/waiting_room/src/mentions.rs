@@ -6,7 +6,14 @@ use operations::{Kind, NameSet, Op, named};
 
 // Whether the set has a name of the site at or past this end of its file.
 fn reaches_past(names: &NameSet, site: SiteNo, end: u32) -> bool {
-    names.ranges().iter().any(|range| range.site() == site && end < range.at() + range.len())
+    let ranges = names.ranges();
+    // Of a site's ranges the last one goes furthest.
+    let after = ranges.partition_point(|range| range.site().get() <= site.get());
+    if after == 0 {
+        return false;
+    }
+    let last = ranges[after - 1];
+    last.site() == site && end < last.at() + last.len()
 }
 
 // Whether the operation mentions a name of the site at or past this end of its file.

@@ -1,7 +1,7 @@
 use Rattle.std.proofs.Common.{◌≡◌, ℕ, [], ◌∷◌, ◌++◌, ap, subst, ◌∙◌, arith}
 use Rattle.byte_fields.specs.Fields.{Appends}
 use Rattle.byte_fields.proofs.Appended.{Appends-after, append_both}
-use Rattle.packed_fields.specs.Numbers.{sevens}
+use Rattle.packed.specs.Numbers.{sevens}
 use Rattle.chunks.proofs.writing.put_begin.Goals as goal
 
 pub returns : goal.returns

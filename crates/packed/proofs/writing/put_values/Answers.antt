@@ -2,7 +2,7 @@ use Rattle.std.proofs.Common.{◌≡◌, ◌∷◌, ◌++◌, []}
 use Rattle.looks.specs.Sel.{bits_of}
 use Rattle.byte_fields.proofs.Appended.{Appends-after, append_both}
 use Rattle.operations.specs.Spelling.{selected_spelling}
-use Rattle.packed_fields.specs.Sets.{packed_set}
+use Rattle.packed.specs.Sets.{packed_set}
 use Rattle.packed.proofs.writing.put_values.Goals as goal
 
 pub returns : goal.returns

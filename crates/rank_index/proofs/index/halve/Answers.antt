@@ -7,6 +7,8 @@ use Rattle.rank_index.specs.Chunks.{ChunkSeen, AreTied, IsHalved}
 use Rattle.rank_index.proofs.Halved.{full_within, halved_here, tied_here}
 use Rattle.rank_index.proofs.Homes.{part_within}
 use Rattle.rank_index.proofs.InSlots.{IsToldTo, told_after}
+use Rattle.rank_index.proofs.Keyed.{least_halved}
+use Rattle.rank_index.specs.Keyed.{AreLeast}
 use Rattle.rank_index.proofs.index.halve.Goals as goal
 use Rattle.rank_index.proofs.index.halve.Goals.{After-halve}
 
@@ -77,3 +79,10 @@ returns-clause-tied c =
     c.index_mut.ensures.value c.halve.ensures.parts c.halve.ensures.halves c.args.homes.now c.enter.new.homes
     c.requires.tied (omega (arith, c.enter.auto.homes)) c.halve.ensures.homes.0 c.enter.ensures.entered
     c.enter.ensures.others)
+
+pub returns-clause-least : goal.returns-clause-least
+returns-clause-least c =
+    let chunks : List ChunkSeen = c.args.chunks.now.items in
+    subst (AreLeast c.args.keys.now) (sym c.in-Ok.ensures.items) (least_halved c.args.keys.now c.args.homes.now chunks c.args.slot
+    c.index_mut.result.now c.halve.new.self (full_within chunks c.args.slot c.requires.full) c.index_mut.ensures.value
+    c.requires.least c.halve.new.rest c.halve.ensures.least c.halve.ensures.rest_least)

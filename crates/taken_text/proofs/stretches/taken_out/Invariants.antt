@@ -1,14 +1,10 @@
 use Rattle.std.proofs.Common.{◌≡◌, ◌++◌, map}
-use Rattle.char_files.specs.Stretch.{Item}
-use Rattle.char_files.specs.declared.character.Char.{Char}
+use Rattle.taken_text.specs.Rows.{chars_of_rows}
+use Rattle.taken_text.proofs.RowChars.{item_of}
 use Rattle.taken_text.proofs.stretches.taken_out.Given as goal
 
--- a character outside the text
-abbrev pub item_of : Char → Item
-item_of c = (c.byte, c.looks)
-
--- the characters that were taken out and those that are left are all
-abbrev pub invariant-loop-char : goal.invariant-loop-char
-invariant-loop-char l =
-    (goal.iterator-loop-char).can_next l.char-iterator × (goal.iterator-loop-char).is_finite l.char-iterator
-    × (l.buffer ++ map item_of l.char-iterator ≡ map item_of l.initial.char-iterator)
+-- the characters that were taken out and those of the rows that are left are all
+abbrev pub invariant-loop-row : goal.invariant-loop-row
+invariant-loop-row l =
+    (goal.iterator-loop-row).can_next l.row-iterator × (goal.iterator-loop-row).is_finite l.row-iterator
+    × (l.buffer ++ map item_of (chars_of_rows l.row-iterator) ≡ map item_of (chars_of_rows l.initial.row-iterator))

@@ -1,37 +1,33 @@
-use Rattle.std.proofs.Common.{◌++◌, ◌≤◌, List, length, map, drop, ap, subst, sym, ◌∙◌, rules}
-use Rattle.char_files.specs.declared.character.Char.{Char}
-use Rattle.vialshoal_c.proofs.Filling.{IsFilled, byte_of, fill_begins, fill_ends, fill_more, has_room}
+use Rattle.std.proofs.Common.{◌≡◌, ◌+◌, ◌≤◌, ◌++◌, ℕ, List, length, drop, ap, subst, sym, ◌∙◌, rules}
+use Rattle.taken_text.specs.Rows.{Row, chars_of_rows}
+use Rattle.vialshoal_c.specs.Asking.{bytes_of}
+use Rattle.vialshoal_c.proofs.Putting.{IsPut, has_room, put_begins, put_ends, put_more}
+use Rattle.taken_text.proofs.RowChars.{bytes_next}
 use Rattle.vialshoal_c.proofs.showing.fill_with_bytes.Goals as goal
 
-pub loop-char-init : goal.loop-char-init
-loop-char-init c = (
-  search rules,
-  search rules,
-  fill_begins byte_of c.into_iter-char-iterator.result c.args.room.now
-      (subst (λ (chars : List Char). length chars ≤ length c.args.room.now)
-      (sym c.into_iter-char-iterator.ensures.into_iter_gives) c.requires),
-)
+pub put_at-requires : goal.put_at-requires
+put_at-requires c =
+    let all : List ℕ = bytes_of (chars_of_rows c.into_iter-row-iterator.result) in
+    let rest : List ℕ = bytes_of (chars_of_rows c.next.new.self) in
+    let left : bytes_of (chars_of_rows c.loop-row.row-iterator) ≡ c.bytes-bytes.result.now ++ rest =
+    ap (λ (rows : List Row). bytes_of (chars_of_rows rows)) c.in-Some.ensures.steps
+    ∙ bytes_next c.in-Some.row c.next.new.self
+    ∙ ap (λ (l : List ℕ). l ++ rest) (sym c.bytes-bytes.ensures.value) in
+    has_room all c.bytes-bytes.result.now rest c.args.room.now c.loop-row.room c.loop-row.at
+    (subst (λ (l : List ℕ). IsPut all l c.args.room.now c.loop-row.room c.loop-row.at) left c.loop-row.invariant.2)
 
-pub bounds-room-at : goal.bounds-room-at
-bounds-room-at c =
-    has_room byte_of c.into_iter-char-iterator.result c.next.new.self c.in-Some.char c.args.room.now c.loop-char.room
-    c.loop-char.at (subst (λ (left : List Char). IsFilled byte_of c.into_iter-char-iterator.result left c.args.room.now
-    c.loop-char.room c.loop-char.at) c.in-Some.ensures.steps c.loop-char.invariant.2)
-
-pub loop-char-preserved : goal.loop-char-preserved
-loop-char-preserved c = (
-  search rules,
-  search rules,
-  fill_more byte_of c.into_iter-char-iterator.result c.next.new.self c.in-Some.char
-      c.args.room.now c.loop-char.room c.loop-char.at (subst (λ (left : List Char). IsFilled byte_of
-      c.into_iter-char-iterator.result left c.args.room.now c.loop-char.room c.loop-char.at) c.in-Some.ensures.steps
-      c.loop-char.invariant.2),
-)
-
-pub returns : goal.returns
-returns c =
-    fill_ends byte_of c.into_iter-char-iterator.result c.args.room.now c.loop-char.room c.loop-char.at
-    (subst (λ (left : List Char). IsFilled byte_of c.into_iter-char-iterator.result left c.args.room.now c.loop-char.room
-    c.loop-char.at) c.in-None.ensures.steps.0 c.loop-char.invariant.2)
-    ∙ ap (λ (chars : List Char). map byte_of chars ++ drop (length chars) c.args.room.now)
-    c.into_iter-char-iterator.ensures.into_iter_gives
+pub loop-row-preserved : goal.loop-row-preserved
+loop-row-preserved c =
+    let all : List ℕ = bytes_of (chars_of_rows c.into_iter-row-iterator.result) in
+    let rest : List ℕ = bytes_of (chars_of_rows c.next.new.self) in
+    let more : List ℕ = c.bytes-bytes.result.now in
+    let left : bytes_of (chars_of_rows c.loop-row.row-iterator) ≡ more ++ rest =
+    ap (λ (rows : List Row). bytes_of (chars_of_rows rows)) c.in-Some.ensures.steps
+    ∙ bytes_next c.in-Some.row c.next.new.self
+    ∙ ap (λ (l : List ℕ). l ++ rest) (sym c.bytes-bytes.ensures.value) in (
+      search rules,
+      search rules,
+      subst (λ (room : List ℕ). IsPut all rest c.args.room.now room (c.loop-row.at + length more)) (sym c.put_at.ensures)
+          (put_more all more rest c.args.room.now c.loop-row.room c.loop-row.at
+          (subst (λ (l : List ℕ). IsPut all l c.args.room.now c.loop-row.room c.loop-row.at) left c.loop-row.invariant.2)),
+    )

@@ -1,7 +1,9 @@
-use Rattle.vialshoal_c.proofs.Filling.{IsFilled, byte_of}
+use Rattle.taken_text.specs.Rows.{chars_of_rows}
+use Rattle.vialshoal_c.specs.Asking.{bytes_of}
+use Rattle.vialshoal_c.proofs.Putting.{IsPut}
 use Rattle.vialshoal_c.proofs.showing.fill_with_bytes.Given as goal
 
-abbrev pub invariant-loop-char : goal.invariant-loop-char
-invariant-loop-char l =
-    (goal.iterator-loop-char).can_next l.char-iterator × (goal.iterator-loop-char).is_finite l.char-iterator
-    × IsFilled byte_of l.initial.char-iterator l.char-iterator l.initial.room l.room l.at
+abbrev pub invariant-loop-row : goal.invariant-loop-row
+invariant-loop-row l =
+    (goal.iterator-loop-row).can_next l.row-iterator × (goal.iterator-loop-row).is_finite l.row-iterator
+    × IsPut (bytes_of (chars_of_rows l.initial.row-iterator)) (bytes_of (chars_of_rows l.row-iterator)) l.initial.room l.room l.at

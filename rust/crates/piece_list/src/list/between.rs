@@ -6,7 +6,7 @@ use super::walking::Walk;
 use crate::run::Run;
 
 /// The stretches of a text that are shown between two positions, one after the other, without memory: seen as
-/// the list of the runs that are left. It reads no piece after the last of them. This project's own.
+/// the list of the runs that are left. It reads no piece after the last of them.
 pub struct Between<'a> {
     // The first run, if it was read before: split at its front.
     first: Option<Run>,

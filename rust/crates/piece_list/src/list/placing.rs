@@ -3,6 +3,7 @@
 
 use super::PieceList;
 use super::pieces::Pieces;
+use crate::numbers::number_of;
 use crate::ring::PieceRing;
 use crate::run::Run;
 use crate::spot::Spot;
@@ -25,11 +26,12 @@ fn next_above(pieces: &PieceRing, steps: &mut Steps, last: Option<u64>, key: Key
 
 impl Pieces {
     // Walks past the pieces of greater key that follow this one, and answers the last of them: the piece itself
-    // where there are none.
+    // where there are none. From the first one on the index passes them, as far as their keys' numbers tell them apart.
     fn skip(&self, steps: &mut Steps, from: Option<u64>, key: Key) -> Option<u64> {
+        let bound = number_of(key);
         let mut last = from;
         while let Some(next) = next_above(&self.ring, steps, last, key) {
-            last = Some(next);
+            last = Some(self.index.pass(next, bound));
         }
         last
     }
@@ -79,7 +81,8 @@ impl Pieces {
     fn insert_piece(&mut self, last: Option<u64>, run: &Run) {
         let number = self.ring.insert(last, run);
         self.tags.fill(run.site, run.off, run.len, number);
-        self.index.insert_after(last, number, run.len);
+        let key = number_of(run.key);
+        self.index.insert_after(last, number, run.len, key);
     }
 }
 
@@ -135,8 +138,8 @@ impl PieceList {
     ///
     /// The run has 1 to 4,096 characters within its site's file, none of them in the list, and the cause is
     /// the root or in the list. `steps` counts one comparison that finds the cause, none for the root, and a
-    /// look at the key of each piece that is skipped and of the next one. Refused `OutOfMemory` alone; then no
-    /// piece has changed, and `steps` counts the comparison. This project's own.
+    /// look at the key of the piece after those that are skipped, and of no more than those. Refused `OutOfMemory` alone;
+    /// then no piece has changed, and `steps` counts the comparison.
     ///
     /// Asks of its caller: `run: IsPiece (piece_of run)`, `here: HasAnchor (spelled self.old.items) cause`,
     /// `new: (c : CharName) → IsIn (range_of (piece_of run)) c → ¬ HasName (spelled self.old.items) c`.

@@ -10,7 +10,7 @@ use char_files::Name;
 use looks::Looks;
 
 /// The stretches of a text that are shown, one after the other, without memory: seen as the list of the runs
-/// that are left. This project's own.
+/// that are left.
 pub struct Walk<'a> {
     members: PieceRefs<'a>,
 }

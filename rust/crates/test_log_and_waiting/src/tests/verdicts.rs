@@ -82,6 +82,52 @@ const BEHIND_IT: &[Case] = &[
     ),
 ];
 
+// Site 1 goes on, under a greater stamp.
+const GOES_ON: Told = (1, 2, 5, Does::Insert(Some((1, 5)), 6, b"!"));
+
+const BEHIND_BOTH: &[Case] = &[
+    (
+        "a range across both, below the second one's stamp",
+        (2, 1, 5, Does::Delete(&[(1, 4), (1, 5), (1, 6)])),
+        Verdict::LowStamp,
+    ),
+    (
+        "a range across both, above it",
+        (2, 1, 6, Does::Delete(&[(1, 4), (1, 5), (1, 6)])),
+        Verdict::Ready,
+    ),
+    (
+        "a range of the first alone",
+        (2, 1, 2, Does::Delete(&[(1, 4), (1, 5)])),
+        Verdict::Ready,
+    ),
+    (
+        "the second of two ranges",
+        (2, 1, 5, Does::Delete(&[(1, 0), (1, 6)])),
+        Verdict::LowStamp,
+    ),
+    (
+        "a range across the end of a file",
+        (2, 1, 6, Does::Delete(&[(1, 5), (1, 6), (1, 7)])),
+        Verdict::Wait,
+    ),
+    (
+        "the second of two ranges isn't here",
+        (2, 1, 6, Does::Delete(&[(1, 0), (1, 7)])),
+        Verdict::Wait,
+    ),
+    (
+        "a range of a site that has nothing",
+        (3, 1, 6, Does::Delete(&[(1, 0), (1, 1), (2, 0)])),
+        Verdict::Wait,
+    ),
+    (
+        "own names across the end of the file",
+        (1, 3, 6, Does::Delete(&[(1, 6), (1, 7), (2, 0)])),
+        Verdict::Misfit,
+    ),
+];
+
 // The verdict on an operation that a good log lacks.
 fn verdict_on(log: &Log, op: &Op, alloc: Global) -> Result<Verdict, Fail> {
     if !are_good(log, alloc)? {
@@ -120,7 +166,9 @@ fn are_judged(log: &Log, alloc: Global, cases: &[Case]) -> Result<(), Fail> {
 fn gives_verdicts(log: &mut Log, alloc: Global) -> Result<(), Fail> {
     are_judged(log, alloc, AT_FIRST)?;
     take_all(log, alloc, &[OBERON])?;
-    are_judged(log, alloc, BEHIND_IT)
+    are_judged(log, alloc, BEHIND_IT)?;
+    take_all(log, alloc, &[GOES_ON])?;
+    are_judged(log, alloc, BEHIND_BOTH)
 }
 
 #[test]

@@ -175,7 +175,7 @@ fn fill(set: &mut NameSet) -> bool {
 }
 
 // Whether the set has one range for each of its names, at every second offset of site 1.
-pub(super) fn is_scattered(set: &NameSet) -> bool {
+fn is_scattered(set: &NameSet) -> bool {
     let mut at: u64 = 0;
     for range in set.ranges() {
         if range.site().get() != 1 || u64::from(range.at()) != at || range.len() != 1 {

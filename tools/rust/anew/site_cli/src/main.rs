@@ -5,7 +5,10 @@
 //! to it would seem to succeed.
 #![no_main]
 
-use command_line::{error_status, read_settings};
+mod numbers;
+mod settings;
+
+use crate::settings::{error_status, read_settings};
 use fallible::{BufWriter, Global, String, Vec};
 use folder_shelf::{FolderShelf, HostFolder};
 use script_io::{Input, Output};

@@ -70,3 +70,4 @@ pub returns-clause-parts : goal.returns-clause-parts
 returns-clause-parts c =
     let at = (goal.at.returns-clause-parts c).After-sum in
     sym (take-append-drop HALF c.args.self.now.members) ∙ (λ i. sym (kept at) i ++ sym (moved at) i)
+    ∙ (λ i. sym c.find_least.ensures.members i ++ sym c.find_least-2.ensures.members i)

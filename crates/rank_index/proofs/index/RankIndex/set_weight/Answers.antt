@@ -7,6 +7,8 @@ use Rattle.rank_index.specs.Ranked.{Ranked, weight_of}
 use Rattle.rank_index.proofs.Reweighed.{Weighs, apart_read, reweighed_here, tied_reweighed_here, weighs_here}
 use Rattle.rank_index.proofs.Grouped.{group_among, groups_set, in_group}
 use Rattle.rank_index.proofs.InSlots.{placed_set}
+use Rattle.rank_index.proofs.Keyed.{least_set}
+use Rattle.rank_index.proofs.Lows.{lows_same}
 use Rattle.rank_index.proofs.Stretches.{IsReadFor, is_within, read_for}
 use Rattle.rank_index.proofs.Tagged.{Members}
 use Rattle.rank_index.proofs.index.RankIndex.set_weight.Goals as goal
@@ -164,6 +166,11 @@ invariant_of-self c =
             in_group c.self.inside.groups.items chunks slot old read.within read.is c.self.invariant.7,
           )),
       c.self.invariant.8,
+      c.self.invariant.9,
+      least_set c.self.inside.keys.items c.self.inside.homes.items chunks slot old new read.within read.is c.self.invariant.10
+          c.args.tag c.args.weight is_new c.set_weight.ensures.least,
+      lows_same c.self.inside.lows.items chunks slot old new read.within read.is c.self.invariant.11 c.set_weight.ensures.least,
+      c.self.invariant.12,
     )
 
 pub returns-clause-items : goal.returns-clause-items

@@ -1,7 +1,7 @@
 use Rattle.std.proofs.Common.{◌≡◌, ◌≤◌, ◌++◌, ℕ, List, length, ap, ◌∙◌, arith}
 use Rattle.char_files.specs.declared.TheConstants.{MAX_FILE}
 use Rattle.machine.specs.Events.{ask, insert_at_caret}
-use Rattle.script_events.specs.Script.{plain_items}
+use Rattle.char_files.specs.Plain.{plain_items}
 use Rattle.script_runs.specs.Seen.{SitesSeen}
 use Rattle.script_runs.proofs.Standing.{desk_read, replied_edit}
 use Rattle.script_runs.proofs.desks.Desks.key.Goals as goal

@@ -3,7 +3,8 @@ use Rattle.machine.specs.Events.{arrange, ask, click, copy, edit, edit_by_names,
 use Rattle.machine.specs.Events.{settles, take, take_reply, unpack, unpack_reply}
 use Rattle.commands.specs.Steps.{print_reply, shelf_seen}
 use Rattle.script_events.specs.EventView.{delivery_of, edit_of}
-use Rattle.script_events.specs.Script.{plain_items, query_at}
+use Rattle.char_files.specs.Plain.{plain_items}
+use Rattle.script_events.specs.Script.{query_at}
 use Rattle.script_runs.specs.Replying.{reply_of}
 use Rattle.script_runs.specs.Seen.{SitesSeen, sent_after, texts_of}
 use Rattle.script_runs.specs.Sent.{messages_at}

@@ -6,11 +6,11 @@ use Rattle.std.proofs.lemmas.Option.{slice_get_within, get_or_from_slice_get}
 use Rattle.waiting_room.specs.Room.{StaysWaiting}
 use Rattle.waiting_room.proofs.room.Room.first_ready.Goals as goal
 
-pub returns-then-not-stays_waiting-clause-some : goal.returns-then-not-stays_waiting-clause-some
-returns-then-not-stays_waiting-clause-some g c = record {
-  op = c.get.result.now;
-  there = c.get.ensures;
-  leaves = λ stays. both_ways c.stays_waiting.result c.if-not-stays_waiting.true (c.stays_waiting.ensures.1 stays);
+pub returns-then-not-stays-clause-some : goal.returns-then-not-stays-clause-some
+returns-then-not-stays-clause-some g c = record {
+  op = c.waiting.result.now;
+  there = c.waiting.ensures;
+  leaves = λ stays. both_ways c.stays.result c.if-not-stays.true (c.stays.ensures.1 stays);
   before = c.loop-index.invariant;
 }
 
@@ -19,11 +19,11 @@ loop-index-preserved g c =
     let Stays = StaysWaiting (g.H.Held.ops c.args.held.now) in
     let room = c.args.self.now in
     let i = c.loop-index.index in
-    let op = c.get.result.now in
-    let there = c.get.ensures in
+    let op = c.waiting.result.now in
+    let there = c.waiting.ensures in
     All-more Stays room i op (slice_get_within room i op there) c.loop-index.invariant
     (subst Stays (sym (get_or_from_slice_get room i op op there))
-    (c.stays_waiting.ensures.0 c.if-not-stays_waiting.false))
+    (c.stays.ensures.0 c.if-not-stays.false))
 
 pub returns-clause-none : goal.returns-clause-none
 returns-clause-none g c =

@@ -1,11 +1,12 @@
 use Rattle.std.proofs.Common.{◌≡◌, ◌<◌, ◌++◌, [], ◌∷◌, List, length, sym, ap, subst, ◌∙◌, arith}
 use Rattle.std.specs.Map.{values_of}
 use Rattle.std.proofs.lemmas.List.{map_push, length-map}
+use Rattle.indexmap.specs.IndexMap.{insert_entry}
 use Rattle.operations.specs.Operation.{Operation}
 use Rattle.set_laws.specs.Fronts.{IsHeld}
 use Rattle.waiting_room.specs.Room.{AreInRoom}
 use Rattle.waiting_room.specs.declared.room.TheConstants.{MAX_WAITING}
-use Rattle.waiting_room.proofs.Entries.{Key, key_of, new_last, entered}
+use Rattle.waiting_room.proofs.Entries.{Key, key_of, same_key, new_last, entered}
 use Rattle.waiting_room.proofs.room.Room.offer.Goals as goal
 
 -- the map with the new operation as its last entry
@@ -18,6 +19,7 @@ last c =
     let key : ◌≡◌ {A = Key} (c.get.result, c.seq.result) (key_of op) =
     λ i. ((c.get.ensures.value ∙ c.site.ensures) i, c.seq.ensures i) in
     c.in_ok-insert.ensures.entries
+    ∙ ap (insert_entry same_key c.self.inside.ops.entries (c.get.result, c.seq.result)) c.new.ensures
     ∙ new_last c.self.inside.ops c.self.invariant (c.get.result, c.seq.result) op key free
 
 -- there is a place

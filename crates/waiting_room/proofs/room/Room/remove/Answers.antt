@@ -9,7 +9,7 @@ use Rattle.waiting_room.proofs.room.Room.remove.Goals as goal
 pub invariant_of-self : goal.invariant_of-self
 invariant_of-self c =
     let entries = c.self.inside.ops.entries in
-    let there : slice_get entries c.args.index ≡ Some (c.in-Some.field-0-0, c.in-Some.op) =
+    let there : slice_get entries c.args.index ≡ Some (c.in-Some.field-0-0, c.in-Some.waiting) =
     sym c.in-Some.ensures.entry in
     subst AreInRoom (sym c.in-Some.ensures.entries) (left entries c.self.invariant c.args.index
     (slice_get_within entries c.args.index _ there))
@@ -17,11 +17,12 @@ invariant_of-self c =
 pub returns-clause-value : goal.returns-clause-value
 returns-clause-value c =
     let entries = c.self.inside.ops.entries in
-    let there : slice_get entries c.args.index ≡ Some (c.in-Some.field-0-0, c.in-Some.op) =
+    let there : slice_get entries c.args.index ≡ Some (c.in-Some.field-0-0, c.in-Some.waiting) =
     sym c.in-Some.ensures.entry in
-    subst (λ (ops : List Operation). slice_get ops c.args.index ≡ Some c.in-Some.op) c.self.view_is
+    subst (λ (ops : List Operation). slice_get ops c.args.index ≡ Some c.into_op.result) c.self.view_is
     (slice_get-map (λ (e : Key × Operation). e.1) entries c.args.index
-    ∙ ap (option_map (λ (e : Key × Operation). e.1)) there)
+    ∙ ap (option_map (λ (e : Key × Operation). e.1)) there
+    ∙ ap (λ (op : Operation). Some op) (sym c.into_op.ensures))
 
 pub returns-clause-others : goal.returns-clause-others
 returns-clause-others c =

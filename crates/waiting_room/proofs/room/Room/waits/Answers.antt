@@ -1,4 +1,4 @@
-use Rattle.std.proofs.Common.{◌≡◌, List, Some, None, sym, ap, subst, ◌∙◌}
+use Rattle.std.proofs.Common.{◌≡◌, ◌↔◌, true, List, Some, None, sym, ap, subst, ◌∙◌}
 use Rattle.std.specs.Map.{lookup}
 use Rattle.operations.specs.Operation.{Operation}
 use Rattle.set_laws.specs.Fronts.{IsHeld}
@@ -15,7 +15,8 @@ returns-in-Some c =
     let there : lookup (same_key (key_of op)) entries ≡ Some c.in-Some.waiting.now =
     ap (λ (k : Key). lookup (same_key k) entries) (sym key) ∙ sym c.in-Some.ensures.value in
     subst (λ (ops : List Operation). IsWaitingAs ops op (Some c.is_same.result)) c.self.view_is
-    (waiting_as entries c.self.invariant op c.in-Some.waiting.now c.is_same.result there c.is_same.ensures)
+    (waiting_as entries c.self.invariant op c.in-Some.waiting.now c.is_same.result there
+    (subst (λ (o : Operation). (c.is_same.result ≡ true) ↔ (o ≡ op)) c.op.ensures c.is_same.ensures))
 
 pub returns-in-None : goal.returns-in-None
 returns-in-None c =

@@ -21,6 +21,7 @@ use Rattle.piece_list.proofs.Noted.{noted_turn, noted_still}
 use Rattle.piece_list.proofs.Positions.{Items, own}
 use Rattle.piece_list.proofs.Entries.{Note}
 use Rattle.piece_list.proofs.Turned.{IsTurned, is_turned}
+use Rattle.piece_list.proofs.Weighed.{Weights}
 use Rattle.piece_list.proofs.list.pieces.Pieces.change_piece.Goals as goal
 use Rattle.piece_list.proofs.list.pieces.Pieces.change_piece.Goals.{After-shown_of-weight, then-shows_other, else-shows_other}
 
@@ -32,7 +33,7 @@ abbrev now : After-shown_of-weight → Piece
 now c = changed_piece c.args.setting.now (was c)
 
 turned : (c : After-shown_of-weight)
-    → IsTurned c.args.setting.now c.self.inside.ring.items c.self.inside.tags c.self.inside.index.items c.in-Some.tag
+    → IsTurned c.args.setting.now c.self.inside.ring.items c.self.inside.tags c.self.inside.index.items c.self.inside.index.keys c.in-Some.tag
     (was c) (now c) c.args.name
 turned c =
     let t : IsTurn c.self.inside.ring.items c.in-Some.tag (was c) (now c) c.args.name =
@@ -41,7 +42,7 @@ turned c =
     (rw (← c.self.view_is) at c.requires.here)
     (rw (← c.self.view_is) at c.requires.begins)
     c.change-shows_other.ensures.changed.1 c.in-Some.ensures refl in
-    is_turned c.args.setting.now c.self.inside.ring.items c.self.inside.tags c.self.inside.index.items c.in-Some.tag
+    is_turned c.args.setting.now c.self.inside.ring.items c.self.inside.tags c.self.inside.index.items c.self.inside.index.keys c.in-Some.tag
     (was c) (now c) c.args.name c.self.invariant t refl
     ((rw (← c.self.view_is) at c.requires.below) c.in-Some.tag (was c) t.member t.held)
 
@@ -91,9 +92,11 @@ overflow_add-result c =
 pub invariant_of-self : goal.invariant_of-self
 invariant_of-self c =
     let at : After-shown_of-weight = (goal.at.invariant_of-self c).After-shown_of-weight in
-    subst (λ (l : Items). AreHeld l c.self.inside.tags c.set_weight.new.self.items) (sym (set at))
-    (subst (AreHeld (with_value c.in-Some.tag (now at) c.self.inside.ring.items) c.self.inside.tags)
-    (sym c.set_weight.ensures.items) ((turned at).held c.shown_of-weight.result (weight at)))
+    subst (λ (l : Items). AreHeld l c.self.inside.tags c.set_weight.new.self.items c.set_weight.new.self.keys) (sym (set at))
+    (subst (AreHeld (with_value c.in-Some.tag (now at) c.self.inside.ring.items) c.self.inside.tags c.set_weight.new.self.items)
+    (sym c.set_weight.ensures.keys)
+    (subst (λ (l : Weights). AreHeld (with_value c.in-Some.tag (now at) c.self.inside.ring.items) c.self.inside.tags l
+    c.self.inside.index.keys) (sym c.set_weight.ensures.items) ((turned at).held c.shown_of-weight.result (weight at))))
 
 pub returns-clause-end : goal.returns-clause-end
 returns-clause-end c =

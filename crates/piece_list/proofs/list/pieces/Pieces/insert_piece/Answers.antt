@@ -3,6 +3,7 @@ use Rattle.piece_list.specs.Piece.{Piece}
 use Rattle.piece_list.specs.Pieces.{piece_of, range_of}
 use Rattle.piece_list.proofs.SplitList.{Items}
 use Rattle.piece_list.proofs.Entered.{filled_inside, filled_outside}
+use Rattle.piece_list.proofs.Keyed.{keyed_pushed}
 use Rattle.piece_list.proofs.Parts.{part_has_tag_if}
 use Rattle.piece_list.proofs.Placing.{pushed_part, pushed_entered}
 use Rattle.piece_list.proofs.Weighed.{part_has_weight, insert_fits, pushed_weighed}
@@ -42,6 +43,9 @@ invariant_of-self c =
       indexed = pushed_weighed items new c.self.inside.index.items c.insert_after.new.self.items c.args.last
           c.insert-number.result c.args.run.now.len v c.self.invariant.numbered c.self.invariant.indexed
           refl c.insert-number.ensures.inserted c.insert_after.ensures.inserted;
+      keyed = keyed_pushed items new c.self.inside.index.keys c.insert_after.new.self.keys c.args.last c.insert-number.result
+          c.number_of-key.result v c.self.invariant.keyed c.insert-number.ensures.inserted c.insert_after.ensures.keyed.0
+          c.insert_after.ensures.keyed.1 c.number_of-key.ensures;
     }
 
 pub returns-clause-insert : goal.returns-clause-insert

@@ -1,4 +1,4 @@
-use Rattle.std.proofs.Common.{◌≡◌, sym, subst, ap, ◌∙◌, arith}
+use Rattle.std.proofs.Common.{◌≡◌, refl, sym, subst, ap, ◌∙◌, arith}
 use Rattle.piece_raw.specs.Ring.{HasTag, IsMember, with_value}
 use Rattle.piece_list.specs.Held.{AreHeld}
 use Rattle.piece_list.specs.Piece.{Piece}
@@ -6,10 +6,11 @@ use Rattle.piece_list.specs.Pieces.{GoesOn, IsPiece, longer, piece_of, range_of}
 use Rattle.piece_list.proofs.ChangedPiece.{has_tag, value_after}
 use Rattle.piece_list.proofs.Entered.{filled_inside, filled_outside, held, tag_below}
 use Rattle.piece_list.proofs.Joined.{joined_entered, longer_piece}
+use Rattle.piece_list.proofs.Keyed.{keyed_with}
 use Rattle.piece_list.proofs.Positions.{Items, own}
 use Rattle.piece_list.proofs.SplitList.{is_piece}
 use Rattle.piece_list.proofs.Splitting.{written_tags}
-use Rattle.piece_list.proofs.Weighed.{has_weight, set_fits, set_weighed}
+use Rattle.piece_list.proofs.Weighed.{Weights, has_weight, set_fits, set_weighed}
 use Rattle.piece_list.proofs.list.pieces.Pieces.lengthen.Goals as goal
 use Rattle.piece_list.proofs.list.pieces.Pieces.lengthen.Goals.{After-lengthen, After-shown_of-weight}
 
@@ -89,7 +90,7 @@ invariant_of-self c =
     let v : Piece = piece_of c.args.run.now in
     let by = weight (goal.at.invariant_of-self c).After-shown_of-weight in
     let made : AreHeld (with_value c.args.tag (now at) items) c.fill.new.self
-    (with_value c.args.tag c.shown_of-weight.result c.self.inside.index.items) = record {
+    (with_value c.args.tag c.shown_of-weight.result c.self.inside.index.items) c.self.inside.index.keys = record {
       numbered = written_tags c.args.tag (now at) items c.self.invariant.numbered;
       entered = joined_entered items c.args.tag (was at) v c.self.inside.tags c.fill.new.self c.self.invariant.numbered
           c.self.invariant.entered c.lengthen.ensures.longer.1 (on at) c.requires.piece
@@ -100,9 +101,13 @@ invariant_of-self c =
           c.fill.ensures.before c.fill.ensures.after c.fill.ensures.others);
       indexed = set_weighed items c.self.inside.index.items c.args.tag c.shown_of-weight.result (was at) (now at)
           c.self.invariant.indexed c.lengthen.ensures.longer.1 by;
+      keyed = keyed_with items c.self.inside.index.keys c.args.tag (was at) (now at) c.self.invariant.keyed
+          c.lengthen.ensures.longer.1 refl;
     } in
-    subst (λ (l : Items). AreHeld l c.fill.new.self c.set_weight.new.self.items) (sym (set at))
-    (subst (AreHeld (with_value c.args.tag (now at) items) c.fill.new.self) (sym c.set_weight.ensures.items) made)
+    subst (λ (l : Items). AreHeld l c.fill.new.self c.set_weight.new.self.items c.set_weight.new.self.keys) (sym (set at))
+    (subst (AreHeld (with_value c.args.tag (now at) items) c.fill.new.self c.set_weight.new.self.items) (sym c.set_weight.ensures.keys)
+    (subst (λ (l : Weights). AreHeld (with_value c.args.tag (now at) items) c.fill.new.self l c.self.inside.index.keys)
+    (sym c.set_weight.ensures.items) made))
 
 pub returns-clause-longer : goal.returns-clause-longer
 returns-clause-longer c =

@@ -2,6 +2,7 @@ use Rattle.std.proofs.Common.{◌≡◌, ℕ, ◌+◌, ◌-◌, ◌<◌, Some, r
 use Rattle.piece_raw.specs.Ring.{IsPushed, with_value}
 use Rattle.rank_index.specs.Ranked.{weight_of}
 use Rattle.rank_index.proofs.Tagged.{tags_pushed}
+use Rattle.piece_list.specs.Numbers.{AreKeyed, number_of}
 use Rattle.piece_list.specs.Piece.{Piece}
 use Rattle.piece_list.specs.Held.{IsSplit}
 use Rattle.piece_list.specs.Pieces.{IsPiece, range_of, front_of, rest_of}
@@ -10,6 +11,7 @@ use Rattle.piece_list.proofs.Splitting.{written_tags, as_many}
 use Rattle.piece_list.proofs.Entered.{filled_inside, filled_outside}
 use Rattle.piece_list.proofs.Found.{one_value}
 use Rattle.piece_list.proofs.Placing.{split_others}
+use Rattle.piece_list.proofs.Keyed.{keyed_pushed, keyed_with}
 use Rattle.piece_list.proofs.Positions.{Items}
 use Rattle.piece_list.proofs.Weighed.{split_fits, split_rest_fits, split_weighed}
 use Rattle.piece_list.proofs.list.pieces.Pieces.split.Goals as goal
@@ -126,6 +128,12 @@ invariant_of-self c =
           refl (rest_is at) c.shown_of-before.ensures
           c.shown_of-after.ensures new c.set_weight.new.self.items c.insert_after.new.self.items c.split-number.result insert
           c.set_weight.ensures.items c.insert_after.ensures.inserted;
+      keyed = keyed_pushed (with_value c.args.tag front items) new c.set_weight.new.self.keys c.insert_after.new.self.keys
+          (Some c.args.tag) c.split-number.result c.number_of-key.result (rest_of c.args.n v)
+          (subst (AreKeyed (with_value c.args.tag front items)) (sym c.set_weight.ensures.keys)
+          (keyed_with items c.self.inside.index.keys c.args.tag v front c.self.invariant.keyed c.piece_at-whole.ensures refl))
+          insert c.insert_after.ensures.keyed.0 c.insert_after.ensures.keyed.1
+          (c.number_of-key.ensures ∙ ap number_of c.key_at.ensures);
     }
 
 pub returns-clause-split : goal.returns-clause-split
@@ -146,3 +154,9 @@ returns-clause-others c =
     (split_others c.self.inside.ring.items c.split-number.new.self.items c.args.tag c.args.n c.split-number.result
     c.self.invariant.numbered (made (goal.at.returns-clause-others c).After-split-number
     (within (goal.at.returns-clause-others c).After-piece_at-whole)))
+
+pub key_at-requires-clause-within : goal.key_at-requires-clause-within
+key_at-requires-clause-within c = within (goal.at.key_at-requires-clause-within c).After-piece_at-whole
+
+pub key_at-requires-clause-stamps : goal.key_at-requires-clause-stamps
+key_at-requires-clause-stamps c = (piece (goal.at.key_at-requires-clause-stamps c).After-piece_at-whole).4

@@ -1,0 +1,8 @@
+//! Sites as packed files: a text with all that its site has taken in, in a byte a keystroke.
+
+mod loading;
+mod reading;
+mod storing;
+
+pub use loading::load_packed;
+pub use storing::store_packed;

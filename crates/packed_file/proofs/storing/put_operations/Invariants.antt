@@ -1,6 +1,0 @@
-use Rattle.packed_file.proofs.Stored.{ArePut}
-use Rattle.packed_file.proofs.storing.put_operations.Given as goal
-
--- the operations so far
-abbrev pub invariant-loop-place : goal.invariant-loop-place
-invariant-loop-place l = ArePut l.replica.operations l.fn.out.items l.out.items l.place l.history

@@ -1,2 +1,0 @@
-pub mod PackedFiles
-pub mod Parts
