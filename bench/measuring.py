@@ -1,10 +1,11 @@
-"""Runs a command that answers scripts: what it answers, how long it takes, and how much memory."""
+"""Runs a command that answers scripts: what it answers, how long it takes, in how much memory, and in how many instructions."""
 from __future__ import annotations
 
 import ctypes
 import dataclasses
 import os
 import pathlib
+import re
 import signal
 import subprocess
 import sys
@@ -14,6 +15,7 @@ from collections.abc import Sequence
 from typing import TextIO
 
 PR_SET_CHILD_SUBREAPER = 36
+COUNTED = re.compile(rb"Collected : (\d+)")
 STARTED = """
     folder=$1; shift
     exec 3<&0
@@ -62,3 +64,12 @@ def run(command: Sequence[str], script: bytes, busy: bool = False) -> Run:
             sys.exit(f"{' '.join(command)} ended with {code}")
         answers = (pathlib.Path(folder) / "answers").read_text().splitlines()
     return Run(answers, seconds, used.ru_maxrss * 1024)
+
+
+def instructions(command: Sequence[str], script: bytes) -> int:
+    """How many the command takes for a script, by valgrind."""
+    words = ["valgrind", "--tool=callgrind", "--callgrind-out-file=/dev/null", *command]
+    ended = subprocess.run(words, input=script, stdout=subprocess.DEVNULL, stderr=subprocess.PIPE, check=True)
+    if not (found := COUNTED.search(ended.stderr)):
+        sys.exit("valgrind counted nothing")
+    return int(found[1])
