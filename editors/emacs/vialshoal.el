@@ -380,9 +380,39 @@ middle of what a command does."
     (pcase-let ((`(,beg ,end ,old-end)
                  (vialshoal--differing beg end (+ beg length))))
       (unless (= beg end old-end)
-        (vialshoal--gather-text
-         beg old-end
-         (vialshoal--clean (buffer-substring-no-properties beg end)))))))
+        (pcase-dolist (`(,from ,to ,text)
+                       (vialshoal--respaced
+                        beg (with-current-buffer vialshoal--mirror
+                              (buffer-substring beg old-end))
+                        (vialshoal--clean
+                         (buffer-substring-no-properties beg end))))
+          (vialshoal--gather-text from to text))))))
+
+(defconst vialshoal--spaced-word "\\([ \t\n]*\\)\\([^ \t\n]*\\)"
+  "A word and the space before it; both can be empty.")
+
+(defun vialshoal--respaced (beg old new)
+  "Return how NEW takes the place of OLD, which begins at BEG.
+It is a list of a beginning, an end and a text each.
+Where both have the same words, as after `fill-paragraph', only the
+space between them changes.  So words stay their authors', and what
+others write among them stays there."
+  (let ((from 0) (to 0) (same t) changes)
+    (while (and same (or (< from (length old)) (< to (length new))))
+      (string-match vialshoal--spaced-word old from)
+      (let ((space (match-string 1 old))
+            (word (match-string 2 old))
+            (place (+ beg to)))
+        (setq from (match-end 0))
+        (string-match vialshoal--spaced-word new to)
+        (unless (equal space (match-string 1 new))
+          (push (list place (+ place (length space)) (match-string 1 new))
+                changes))
+        (setq to (match-end 0)
+              same (equal word (match-string 2 new)))))
+    (if same
+        (nreverse changes)
+      (list (list beg (+ beg (length old)) new)))))
 
 (defun vialshoal--differing (beg end old-end)
   "Return what differs of BEG to END here, and of BEG to OLD-END in the mirror.
@@ -436,13 +466,39 @@ It is MOST characters at most."
 (defun vialshoal--replace (beg end text)
   "Have TEXT in the place of what is from BEG to END.
 Point and the mark stay behind the characters that are before them, as
-others see them do."
-  (save-excursion
-    (goto-char end)
-    (if (= beg end)
-        (insert text)
-      (insert-before-markers text)
-      (delete-region beg end))))
+others see them do; at a line's begin they go with the line where whole
+lines come in there."
+  (let ((places (and (= beg end) (> (buffer-size) 0)
+                     (string-suffix-p "\n" text)
+                     (or (= beg (point-min)) (eq (char-before beg) ?\n))
+                     (vialshoal--places beg))))
+    (save-excursion
+      (goto-char end)
+      (if (= beg end)
+          (insert text)
+        (insert-before-markers text)
+        (delete-region beg end)))
+    (dolist (move places)
+      (funcall move (+ beg (length text))))))
+
+(defun vialshoal--places (place)
+  "Return functions that move what of the user is at PLACE.
+What comes in where the region ends isn't in it, so that stays."
+  (let* ((mark (mark t))
+         (is-end (and mark-active mark (/= mark (point))
+                      (= place (max mark (point)))))
+         (windows (cl-remove-if-not
+                   (lambda (window)
+                     (and (not (eq window (selected-window)))
+                          (= place (window-point window))))
+                   (get-buffer-window-list nil nil t))))
+    (append
+     (and (= place (point)) (not is-end) (list #'goto-char))
+     (and (eql place mark) (not is-end)
+          (list (lambda (to) (set-marker (mark-marker) to))))
+     (mapcar (lambda (window)
+               (lambda (to) (set-window-point window to)))
+             windows))))
 
 (defun vialshoal--find-changes ()
   "Gather what was altered with no hook called."
@@ -926,14 +982,17 @@ What is typed there is sent by the note's own buffer."
   "What the engine takes as a note's name.")
 
 ;;;###autoload
-(defun vialshoal-open (name &optional log link)
+(defun vialshoal-open (name &optional log link asks)
   "Open the note NAME, which several people may edit at the same time.
 With a prefix argument, ask for the LOG that carries it between them,
-or the LINK by which another's note is joined."
+or the LINK by which another's note is joined.  Before a note is made
+that isn't here, the user is asked, if ASKS is non-nil."
   (interactive
-   (list (read-string "Note: " nil 'vialshoal--notes)
-         (and current-prefix-arg (read-string "Log, if it has one: "))
-         (and current-prefix-arg (read-passwd "Link, to join by: "))))
+   (let ((name (completing-read "Note: " (vialshoal--names) nil nil nil
+                                'vialshoal--notes))
+         (log (and current-prefix-arg (read-string "Log, if it has one: ")))
+         (link (and current-prefix-arg (read-passwd "Link, to join by: "))))
+     (list name log link (string-empty-p (concat log link)))))
   (unless (string-match-p vialshoal--name-pattern name)
     (user-error "%s" (concat "A name has letters without accents, digits, "
                              "dots, hyphens and underscores, 64 at most")))
@@ -944,7 +1003,7 @@ or the LINK by which another's note is joined."
         (funcall vialshoal-major-mode)
         (setq vialshoal--note name))
       (setq vialshoal--environment process-environment)
-      (vialshoal--start log link)
+      (vialshoal--start log link asks)
       (vialshoal-mode)
       (when (bound-and-true-p recentf-mode)
         (recentf-add-file (vialshoal--file-of name))))
@@ -953,16 +1012,48 @@ or the LINK by which another's note is joined."
 (defvar vialshoal--notes nil
   "The names of notes that were opened.")
 
-(defun vialshoal--start (&optional log link)
-  "Start the engine, with LOG and LINK if any, and have it open the note."
+(defun vialshoal--names ()
+  "Return the names of the notes that are here."
+  (let ((folder (expand-file-name
+                 "notes" (or (vialshoal--variable "VIALSHOAL_DATA")
+                             (expand-file-name
+                              "vialshoal"
+                              (or (vialshoal--variable "XDG_DATA_HOME")
+                                  "~/.local/share"))))))
+    (mapcar #'file-name-sans-extension
+            (and (file-directory-p folder)
+                 (directory-files folder nil "\\`[^.].*\\.note\\'")))))
+
+(defun vialshoal--variable (name)
+  "Return the environment's variable NAME, or nil where it is empty."
+  (let ((value (getenv name)))
+    (and value (not (string-empty-p value)) value)))
+
+(defun vialshoal--start (&optional log link asks)
+  "Start the engine, with LOG and LINK if any, and have it open the note.
+If ASKS is non-nil, it makes no note that isn't here."
   (vialshoal--forget)
   (setq buffer-read-only t
         vialshoal--begun (vialshoal--now)
         vialshoal--process (vialshoal--make-process log link))
+  (vialshoal--send-open asks))
+
+(defun vialshoal--send-open (asks)
+  "Have the engine open the note; if ASKS is non-nil, only one that is here."
   (apply #'vialshoal--send :id 0 :do "open" :protocol 1 :units ["utf-32"]
          :name (vialshoal--shown-name vialshoal-name)
-         (and vialshoal-colour (list :colour vialshoal-colour)))
+         (append (and vialshoal-colour (list :colour vialshoal-colour))
+                 (and asks (list :new :false))))
   (setq vialshoal--waiting (list (cons 0 #'vialshoal--opened))))
+
+(defun vialshoal--ask-for-new (buffer)
+  "Ask whether the note of BUFFER, which isn't here, is to be made."
+  (when (buffer-live-p buffer)
+    (with-current-buffer buffer
+      (if (y-or-n-p (format "There is no note %s here.  Make a new one? "
+                            vialshoal--note))
+          (vialshoal--send-open nil)
+        (kill-buffer buffer)))))
 
 (defun vialshoal--forget ()
   "Forget all that an engine said."
@@ -1012,26 +1103,32 @@ or the LINK by which another's note is joined."
 
 (defun vialshoal--opened (line)
   "Take in LINE, the answer to `open'."
-  (if (plist-get line :error)
-      (vialshoal--part)
-    (unless (buffer-live-p vialshoal--mirror)
-      (setq vialshoal--mirror
-            (generate-new-buffer (format " *note %s*" vialshoal--note) t)))
-    (with-current-buffer vialshoal--mirror
-      (buffer-disable-undo))
-    (setq vialshoal--version (plist-get line :version)
-          vialshoal--made (plist-get line :edits)
-          vialshoal--answered vialshoal--made
-          vialshoal--is-lost nil
-          vialshoal--changes nil)
-    (vialshoal--become (plist-get line :text))
-    (restore-buffer-modified-p nil)
-    (setq vialshoal--tick (buffer-chars-modified-tick)
-          vialshoal--is-open t)
-    (when vialshoal--wanted-place
-      (vialshoal--go-to (min vialshoal--wanted-place (point-max)))
-      (setq vialshoal--wanted-place nil))
-    (force-mode-line-update)))
+  (pcase (plist-get line :error)
+    ('nil (vialshoal--fill line))
+    ;; Not within the filter, which may run while the user types.
+    ("absent" (run-at-time 0 nil #'vialshoal--ask-for-new (current-buffer)))
+    (_ (vialshoal--part))))
+
+(defun vialshoal--fill (line)
+  "Show the note that LINE has, the answer to `open'."
+  (unless (buffer-live-p vialshoal--mirror)
+    (setq vialshoal--mirror
+          (generate-new-buffer (format " *note %s*" vialshoal--note) t)))
+  (with-current-buffer vialshoal--mirror
+    (buffer-disable-undo))
+  (setq vialshoal--version (plist-get line :version)
+        vialshoal--made (plist-get line :edits)
+        vialshoal--answered vialshoal--made
+        vialshoal--is-lost nil
+        vialshoal--changes nil)
+  (vialshoal--become (plist-get line :text))
+  (restore-buffer-modified-p nil)
+  (setq vialshoal--tick (buffer-chars-modified-tick)
+        vialshoal--is-open t)
+  (when vialshoal--wanted-place
+    (vialshoal--go-to (min vialshoal--wanted-place (point-max)))
+    (setq vialshoal--wanted-place nil))
+  (force-mode-line-update))
 
 (defun vialshoal--sentinel (process _event)
   "Start the engine anew where PROCESS has ended unasked."
@@ -1139,7 +1236,7 @@ The signal that ends Emacs may keep it from hearing that a process has."
 
 (defun vialshoal--open-at (name place)
   "Open the note NAME, with point at PLACE; return its buffer."
-  (let ((buffer (vialshoal-open name)))
+  (let ((buffer (vialshoal-open name nil nil t)))
     (with-current-buffer buffer
       (if vialshoal--is-open
           (vialshoal--go-to (min place (point-max)))
@@ -1211,7 +1308,7 @@ It is that of a folder, since folders are what other modes open."
   (save-match-data
     (when (string-match vialshoal--file-pattern file)
       (save-window-excursion
-        (vialshoal-open (match-string 1 file))))))
+        (vialshoal-open (match-string 1 file) nil nil t)))))
 
 (add-to-list 'file-name-handler-alist
              (cons vialshoal--file-pattern #'vialshoal--file-handler))
@@ -1221,20 +1318,20 @@ It is that of a folder, since folders are what other modes open."
 
 (defun vialshoal-undo (&optional arg)
   "Take back your own last edit, whatever others wrote since.
-A numeric ARG says how many edits are taken back.  A note has no undo
-within the region, for which Emacs's own takes \\[universal-argument]:
-that is refused."
+A numeric ARG says how many edits are taken back.  While the region is
+active, or with just \\[universal-argument], it is the last edit that
+lies in the region."
   (interactive "P")
-  (when (or (consp arg)
+  (let ((times (if (consp arg) 1 (prefix-numeric-value arg))))
+    (if (or (consp arg)
             (and (use-region-p)
                  (not (and (symbolp last-command)
                            (get last-command 'undo-inhibit-region)))))
-    (user-error "%s" (substitute-command-keys
-                      (concat "A note has no undo within a region; "
-                              "\\[keyboard-quit], then \\[vialshoal-undo] "
-                              "takes back your last edit"))))
-  (vialshoal--ask-times (prefix-numeric-value arg) "undo"
-                        "You have nothing to take back"))
+        (vialshoal--ask-times times "undo"
+                              "You have nothing to take back in the region"
+                              (list :begin (1- (region-beginning))
+                                    :end (1- (region-end))))
+      (vialshoal--ask-times times "undo" "You have nothing to take back"))))
 
 (defun vialshoal-redo (&optional arg)
   "Make again what `vialshoal-undo' took back.
@@ -1246,13 +1343,16 @@ A numeric ARG says how many edits are made again."
 (defconst vialshoal--most-times 1000
   "So many edits are taken back at once at most.")
 
-(defun vialshoal--ask-times (times what words)
-  "Ask TIMES for WHAT, and tell WORDS if nothing is done."
-  (dotimes (number (min times vialshoal--most-times))
-    (vialshoal--ask (if (zerop number)
-                        (vialshoal--unless-done words)
-                      #'ignore)
-                    :do what)))
+(defun vialshoal--ask-times (times what words &optional stretch)
+  "Ask TIMES for WHAT, and tell WORDS if nothing is done.
+STRETCH, a property list, says where, as the text is here."
+  (vialshoal--in-note
+    (dotimes (number (min times vialshoal--most-times))
+      (apply #'vialshoal--ask
+             (if (zerop number) (vialshoal--unless-done words) #'ignore)
+             :do what
+             (and stretch (append (list :version vialshoal--version)
+                                  stretch))))))
 
 (defun vialshoal--unless-done (words)
   "Return a function to tell WORDS if its answer has nothing done."

@@ -83,7 +83,7 @@ class Chain:
             end = branch.at_seq(self.front + 1 + max(0, int(up_to) - self.stamp))
         if at >= end:
             return
-        self.pending -= sum(map(branch.ledger.weight, branch.numbers[self.at:end]))
+        self.pending -= branch.ledger.weight_of(branch.numbers[self.at:end])
         before, size = self.length - self.front, branch.lasts[end - 1] - self.front
         self._ends.extend(before + last for last in branch.lasts[at:end])
         self._passed(self.stamp + 1, size, True)
@@ -109,11 +109,10 @@ class Chain:
         """The hash of the entry in which it was inserted."""
         return self.branch.ledger.hash(self.branch.numbers[bisect_right(self._ends, at)])
 
-    def add(self, number: int) -> None:
-        """Lengthens the chain."""
-        branch = self.branch
-        branch.add(number)
-        self.pending += branch.ledger.weight(number)
+    def add(self, numbers: range) -> None:
+        """Lengthens the chain by entries that were added together."""
+        self.branch.add(numbers)
+        self.pending += self.branch.ledger.weight_of(numbers)
 
     def cut(self, at: int) -> bool:
         """Takes the entries from a place on out of the chain; whether messages of theirs were let through, and all has to be

@@ -7,7 +7,7 @@
   gaps. Of two that follow the same entry the one with the smaller hash holds, with what is chained to it.
 """
 import hashlib
-from collections.abc import Callable, Iterator
+from collections.abc import Callable, Iterable, Iterator, Sequence
 from enum import Enum
 
 from share.admission.chain import Chain
@@ -52,16 +52,29 @@ class Chains:
         self._in_chains = 0
 
     def __contains__(self, of: bytes) -> bool:
-        return of in self.outside or self.ledger.number(of) is not None
+        return self.ledger.number(of) is not None or of in self.outside
 
     def __len__(self) -> int:
         return self._in_chains + len(self.outside)
+
+    def unknown(self, rows: Iterable[Row]) -> list[Row]:
+        """Those of some entries that are neither here nor among what says something."""
+        found, outside, statements = self.ledger.unknown(rows), self.outside, self._statements
+        if not (len(outside) or len(statements)):
+            return found
+        return [row for row in found if (of := row.entry.hash) not in outside and of not in statements]
 
     def rows(self) -> Iterator[Row]:
         """All entries that are in memory."""
         for chain in self.by_site.values():
             yield from map(self.ledger.row, chain.branch.numbers)
         yield from self.outside
+
+    def hashes(self) -> Iterator[bytes]:
+        """The hashes of all entries that are in memory."""
+        for chain in self.by_site.values():
+            yield from map(self.ledger.hash, chain.branch.numbers)
+        yield from (row.entry.hash for row in self.outside)
 
     def row(self, of: bytes) -> Row | None:
         """The entry that has a hash; None where it isn't in memory."""
@@ -108,6 +121,25 @@ class Chains:
         self._put_outside(row, False)
         return Outcome.NONE
 
+    def extend(self, run: Sequence[Row]) -> bool:
+        """Puts entries into their chain, the first of which follows its last one, if no other entry speaks of them or follows one of them;
+        whether that is so. It is the same as to add one after the other then: each lengthens the chain, and nothing else changes."""
+        entry, chain = run[0].entry, self.by_site.get(run[0].entry.site)
+        if not chain or self.ledger.hash(last := chain.branch.numbers[-1]) != entry.before or not self.follows(entry, last):
+            return False
+        hashes = [row.entry.hash for row in run]
+        if not self._awaited.isdisjoint(hashes) or self.outside.speaks_of(hashes):
+            return False
+        self._put_at_end(chain, run)
+        return True
+
+    def _put_at_end(self, chain: Chain, run: Sequence[Row]) -> range:
+        """Lengthens a chain by entries; their numbers."""
+        numbers = self.ledger.add(run, chain.branch.numbers[-1] if len(chain.branch) else 0)
+        chain.add(numbers)
+        self._in_chains += len(run)
+        return numbers
+
     def settle(self, of: bytes) -> None:
         """Notes that an entry came that is in no chain: what follows it lacks nothing."""
         self.outside.settle(of)
@@ -137,9 +169,7 @@ class Chains:
                 self.changes += 1
             if of in self._awaited:
                 self.changes += 1
-            number = self.ledger.add(last, numbers[-1] if numbers else 0)
-            chain.add(number)
-            self._in_chains += 1
+            (number,) = self._put_at_end(chain, [last])
             if not (after := self.outside.after(of)):
                 break
             following = [one for one in after if self.follows(one.entry, number)]

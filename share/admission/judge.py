@@ -13,6 +13,7 @@ More entries can end the count of a message only where a smaller hash came: of a
 place. Then all is let through anew. What was left out for a smaller hash stays so.
 """
 from collections.abc import Callable, Iterable, Iterator, Sequence
+from itertools import chain
 from typing import NamedTuple
 
 from share.admission.chains import Chains, Outcome, Rank, rank
@@ -20,7 +21,7 @@ from share.admission.ledger import Row, Who
 from share.admission.left_out import LeftOut, Uncounted
 from share.admission.passage import Passage
 from share.admission.statements import Statements
-from share.format.entry import CHUNKS, ONE_BY_ONE, Copy, Entry, Form, Kind
+from share.format.entry import WITH_MESSAGES, Copy, Entry, Form, Kind
 from share.format.history import Messages
 from share.format.operation import Operation
 
@@ -56,10 +57,17 @@ class Judge:
     def __len__(self) -> int:
         return len(self._chains) + len(self._statements)
 
+    def unknown(self, rows: Iterable[Row]) -> list[Row]:
+        """Those of some entries that aren't here."""
+        return self._chains.unknown(rows)
+
     def rows(self) -> Iterator[Row]:
         """All that is in memory."""
-        yield from self._chains.rows()
-        yield from self._statements
+        return chain(self._chains.rows(), self._statements)
+
+    def hashes(self) -> Iterator[bytes]:
+        """The hashes of all that is in memory."""
+        return chain(self._chains.hashes(), (row.entry.hash for row in self._statements))
 
     def row(self, of: bytes) -> Row | None:
         """The entry that has a hash; None where it isn't in memory."""
@@ -75,12 +83,19 @@ class Judge:
     def add_new(self, row: Row) -> None:
         """Adds an entry that isn't known yet."""
         entry = row.entry
-        if entry.kind in CHUNKS or entry.kind in ONE_BY_ONE:
+        if entry.kind in WITH_MESSAGES:
             self._take(entry.site, self._chains.add(row, entry.site in self._passage.blocked))
         elif entry.kind is Kind.CLAIM:
             self._take(entry.site, self._chains.claim(row))
         elif self._statements.add(row):
             self._chains.settle(entry.hash)
+
+    def extend(self, run: Sequence[Row]) -> bool:
+        """The same of entries of messages, each of which follows the one before it, in one step; whether that is the same."""
+        site = run[0].entry.site
+        if is_extended := site not in self._passage.blocked and self._chains.extend(run):
+            self._take(site, Outcome.LONGER)
+        return is_extended
 
     def _take(self, site: int, outcome: Outcome) -> None:
         """Looks again at a chain that isn't as it was."""
@@ -134,8 +149,8 @@ class Judge:
 
     def front(self, site: int) -> int:
         """How many messages of a site are let through."""
-        chain = self._counted_chains().by_site.get(site)
-        return chain.front if chain else 0
+        found = self._counted_chains().by_site.get(site)
+        return found.front if found else 0
 
     def length(self, site: int) -> int:
         """How many characters of a site are let through."""
@@ -170,14 +185,7 @@ class Judge:
         self._passage.let_through()
         return self._uncounted.held_up(site)
 
-    # What is told of an entry, and of a message.
-
-    def counts(self, entry: Entry) -> bool:
-        """Whether all of an entry is let through."""
-        chains = self._counted_chains()
-        chain, number = chains.by_site.get(entry.site), chains.ledger.number(entry.hash)
-        return (chain is not None and number is not None and chain.branch.at(number) is not None
-                and entry.last <= chain.front)
+    # What is told of an entry, of a message, and of copies.
 
     def entry_of(self, site: int, seq: int) -> bytes | None:
         """The hash of the entry that has a message of a site, where that is let through."""
@@ -211,12 +219,9 @@ class Judge:
         return message.seq <= self.front(message.site) and self.message(message.site, message.seq) == message
 
     def built_on(self, messages: Sequence[Operation]) -> bytes:
-        """What messages build on, all of which is let through; nothing where they mention no other site's
-        characters."""
+        """What messages build on, all of which is let through; nothing where they mention no other site's characters."""
         self._passage.let_through()
         return self._passage.causes.built_on(messages)
-
-    # What is told of copies.
 
     def copies_of(self, author: bytes, site: int, seq: int, suits: Callable[[Operation], bool]) -> list[Copy]:
         """The messages that stand for one of these that suits, as its author says, whether they count or not; that of the least
@@ -243,14 +248,12 @@ class Judge:
         return [chains.message(site, chains.by_site[site].front + 1) for site in sorted(self._passage.ended)]
 
     def incomplete(self) -> int:
-        """How many messages came that something is missing for. What builds on what was left out isn't among
-        them: nothing that comes could make it count."""
+        """How many messages came that something is missing for; nothing could make what builds on what was left out count."""
         self._passage.let_through()
         return self._uncounted.incomplete()
 
     def left_out(self) -> list[LeftOut]:
-        """What doesn't count since a smaller hash holds in its place, and what builds on that; without what a copy stands
-        for that counts."""
+        """What doesn't count since a smaller hash holds in its place, and what builds on that; without what has a copy that counts."""
         self._passage.let_through()
         return self._uncounted.left_out()
 

@@ -6,7 +6,7 @@ memory, and a note in which each keystroke is an entry fits there.
 """
 from array import array
 from bisect import bisect_left
-from collections.abc import Iterator, Sequence
+from collections.abc import Iterable, Iterator, Sequence
 from typing import NamedTuple
 
 from share.format.entry import CHUNKS, NO_HASH, SAY_WHAT_THEY_BUILD_ON, Entry, Form, Kind, operations_of, operations_one_by_one
@@ -56,33 +56,50 @@ class Ledger:
     def __len__(self) -> int:
         return len(self._kinds)
 
-    def add(self, row: Row, before: int) -> int:
-        """Adds an entry that follows the one of a number, which says nothing of a claim; its own number."""
-        entry, number = row.entry, len(self)
-        self._hashes += entry.hash
+    def add(self, rows: Sequence[Row], before: int) -> range:
+        """Adds entries of one author: the first follows that of a number, which says nothing of a claim, and each other one the one before
+        it. Their own numbers."""
+        entries, first = [row.entry for row in rows], len(self)
+        numbers = range(first, first + len(rows))
+        self._hashes += b"".join([entry.hash for entry in entries])
+        self._whose.extend([self._client(entries[0])] * len(rows))
+        self._kinds += bytes([entry.kind for entry in entries])
+        self._made += bytes([row.made for row in rows])
+        self._types_on += bytes([row.types_on for row in rows])
+        self._befores.extend([before, *numbers[:-1]])
+        self._firsts.extend([entry.first for entry in entries])
+        self._sizes.extend([entry.size for entry in entries])
+        self._places.extend([row.place for row in rows])
+        self._keep(entries)
+        self._enter(entries, first)
+        return numbers
+
+    def _client(self, entry: Entry) -> int:
+        """The number of an entry's site and author."""
         client = (entry.site, entry.author)
         if (whose := self._client_of.get(client)) is None:
             whose = self._client_of[client] = len(self._clients)
             self._clients.append(client)
-        self._whose.append(whose)
-        self._kinds.append(entry.kind)
-        self._made.append(row.made)
-        self._types_on.append(row.types_on)
-        self._befores.append(before)
-        self._firsts.append(entry.first)
-        self._sizes.append(entry.size)
-        self._places.append(row.place)
-        kept = self._kept
-        if self._form is None:
-            kept += entry.raw
-            self._whole.append(len(entry.raw))
-        else:
-            kept += self._form.tail(entry.raw)
-        kept += entry.on
-        kept += entry.spelled
-        self._ends.append(len(kept))
-        self._enter(entry.hash, number)
-        return number
+        return whose
+
+    def _keep(self, entries: Iterable[Entry]) -> None:
+        """Keeps what can't be computed again of entries, what they build on, and their messages."""
+        kept, ends, form = self._kept, self._ends, self._form
+        for entry in entries:
+            if form is None:
+                kept += entry.raw
+                self._whole.append(len(entry.raw))
+            elif form.tail_bytes:
+                kept += form.tail(entry.raw)
+            kept += entry.on
+            kept += entry.spelled
+            ends.append(len(kept))
+
+    def unknown(self, rows: Iterable[Row]) -> list[Row]:
+        """Those of some entries that aren't here."""
+        index, mask, seat = self._index, self._mask, self._seat
+        return [row for row in rows if not (index[(mark := hash(row.entry.hash) & MARK_MASK) >> NUMBER_BITS & mask]
+                                            and index[seat(row.entry.hash, mark)])]
 
     def number(self, of: bytes) -> int | None:
         """The number of the entry that has a hash; None where there is none."""
@@ -101,6 +118,11 @@ class Ledger:
         """The seq of an entry's last message, 0 of a claim."""
         return self._firsts[number] + self._sizes[number] - 1 if self._sizes[number] else 0
 
+    def lasts(self, numbers: range) -> list[int]:
+        """The same of entries that were added together."""
+        these = slice(numbers.start, numbers.stop)
+        return [first + size - 1 if size else 0 for first, size in zip(self._firsts[these], self._sizes[these])]
+
     def size(self, number: int) -> int:
         """How many messages an entry has."""
         return self._sizes[number]
@@ -117,9 +139,19 @@ class Ledger:
         """Whether an entry is known to type on after the one before it."""
         return bool(self._types_on[number])
 
+    def type_on(self, numbers: range) -> bytearray:
+        """The same of each of entries that were added together."""
+        return self._types_on[numbers.start:numbers.stop]
+
     def weight(self, number: int) -> int:
         """How many bytes are kept of an entry beside its columns."""
         return self._ends[number] - self._begin(number)
+
+    def weight_of(self, numbers: Sequence[int]) -> int:
+        """The same of some entries, whose numbers rise."""
+        if numbers[-1] - numbers[0] >= len(numbers):
+            return sum(map(self.weight, numbers))
+        return self._ends[numbers[-1]] - self._begin(numbers[0])
 
     def on(self, number: int) -> bytes:
         """What an entry says that its messages build on; nothing where it doesn't."""
@@ -141,10 +173,10 @@ class Ledger:
         """An entry's messages, those in one that are letters typed one after the other."""
         return operations_of(Kind(self._kinds[number]), self.spelled(number))
 
-    def typed(self, number: int) -> bytes:
-        """The letters of an entry that types on."""
-        end = self._ends[number]
-        return bytes(self._kept[end - self._sizes[number]:end])
+    def typed(self, numbers: Iterable[int]) -> bytes:
+        """The letters of entries that type on."""
+        kept, ends, sizes = self._kept, self._ends, self._sizes
+        return b"".join([kept[(end := ends[number]) - sizes[number]:end] for number in numbers])
 
     def messages(self, number: int) -> Sequence[Operation]:
         """An entry's messages."""
@@ -183,11 +215,14 @@ class Ledger:
             seat = seat + 1 & self._mask
         return seat
 
-    def _enter(self, of: bytes, number: int) -> None:
-        if 3 * (number + 1) > 2 * len(self._index):
+    def _enter(self, entries: Iterable[Entry], first: int) -> None:
+        """Enters entries into the index, the first of which has a number. One that was added before has its new one from now on."""
+        while 3 * len(self) > 2 * len(self._index):
             self._grow()
-        mark = hash(of) & MARK_MASK
-        self._index[self._seat(of, mark)] = mark | number + 1
+        index, seat = self._index, self._seat
+        for number, entry in enumerate(entries, first + 1):
+            mark = hash(entry.hash) & MARK_MASK
+            index[seat(entry.hash, mark)] = mark | number
 
     def _grow(self) -> None:
         """Makes the index twice as long."""
@@ -216,11 +251,11 @@ class Branch:
     def __len__(self) -> int:
         return len(self.numbers)
 
-    def add(self, number: int) -> None:
-        """Adds an entry."""
-        self.numbers.append(number)
-        self.lasts.append(self.ledger.last(number))
-        self.types_on.append(self.ledger.types_on(number))
+    def add(self, numbers: range) -> None:
+        """Adds entries."""
+        self.numbers.extend(numbers)
+        self.lasts.extend(self.ledger.lasts(numbers))
+        self.types_on += self.ledger.type_on(numbers)
 
     def shorten(self, at: int) -> None:
         """Takes away what nobody has looked at: the entries from a place on."""
@@ -287,7 +322,7 @@ class Branch:
         if last < at + 2:
             return None
         # What types on is spelled by its letters alone.
-        letters = b"".join(map(self.ledger.typed, self.numbers[at + 1:last]))
+        letters = self.ledger.typed(self.numbers[at + 1:last])
         return self.ledger.spelled(self.numbers[at]) + letters, self.ledger.size(self.numbers[at]) + len(letters)
 
     def _within(self, begin: int, end: int) -> Iterator[tuple[int, int, int]]:

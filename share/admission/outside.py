@@ -1,7 +1,7 @@
 """Entries that are in no chain: those that lack one before them (loose ones), those that a smaller hash keeps from counting, and
 those that follow no right place."""
 import heapq
-from collections.abc import Iterator
+from collections.abc import Iterator, Sequence
 from dataclasses import dataclass
 
 from share.admission.branches import Branches
@@ -135,6 +135,10 @@ class Unchained:
     def after(self, of: bytes) -> list[Row]:
         """The entries here that follow one."""
         return [self._kept[each].row for each in self._after.get(of, ())]
+
+    def speaks_of(self, hashes: Sequence[bytes]) -> bool:
+        """Whether one of some entries is here, or followed by one that is."""
+        return not (self._kept.keys().isdisjoint(hashes) and self._after.keys().isdisjoint(hashes))
 
     def loose(self) -> list[Entry]:
         """The entries for which an entry before them is missing, the lowest first of each site."""

@@ -10,7 +10,7 @@ from collections.abc import Callable
 from share.engine import server
 from share.format import link as links
 from share.format.link import Link
-from share.store import notes
+from share.store import notes, read_only
 from share.sync.session import Bar, Session
 from share.text.errors import Trouble
 
@@ -48,10 +48,32 @@ def has_terminal() -> bool:
     return sys.stdin.isatty() and sys.stdout.isatty()
 
 
+def says_yes(question: str) -> bool:
+    """Whether the user answers a question with yes."""
+    try:
+        return input(f"{question} (y or n)? ").strip().lower() in ("y", "yes")
+    except (EOFError, KeyboardInterrupt):
+        return False
+
+
+def require_note(given: argparse.Namespace, name: str, link: Link | None) -> None:
+    """Asks before a note is made that isn't here, since its name may be a typing error. Scripts say `--new`."""
+    # A log that can be none is told first.
+    given_url(given)
+    if link or given.new or notes.is_here(name):
+        return
+    if not has_terminal():
+        raise Trouble(f"There is no note {name} here. --new makes one.")
+    if not says_yes(f"There is no note {name} here. Make a new one"):
+        raise Trouble("No note was made.")
+
+
 def given_or_asked_link(given: argparse.Namespace, name: str) -> Link | None:
     """The link that was given, or that is asked for where there is no such note."""
     link = given_link(given)
-    if link or notes.is_here(name) or not has_terminal():
+    if not has_terminal():
+        require_note(given, name, link)
+    if link or given.new or notes.is_here(name) or not has_terminal():
         return link
     print(f"There is no note {name} here. To join one, paste its link, which isn't shown; Enter alone makes a new "
           "note.")
@@ -63,8 +85,25 @@ def given_or_asked_link(given: argparse.Namespace, name: str) -> Link | None:
 
 
 def require_agreement(given: argparse.Namespace, name: str, link: Link | None) -> None:
-    """Refuses a log or a link that aren't the note's, before an engine is asked."""
+    """Refuses a log or a link that aren't the note's, before an engine is asked. Where the link is the note's and names another
+    log, the user is asked whether that is gone on with."""
+    path = notes.path_of(name)
+    if link and not given.log and path.exists():
+        about = read_only.about(path)
+        notes.check_agreement(about, name, None, link)
+        if link.url != about.url:
+            _ask_for_log(name, about.url, link.url)
+            given.log = link.url
     server.agree_with_engine(name, given_url(given), link)
+
+
+def _ask_for_log(name: str, old: str, new: str) -> None:
+    said = f"The note {name} has {f'its log at {old}' if old else 'no log'}, and the link names {new}."
+    if not has_terminal():
+        raise Trouble(f"{said} Nothing was sent. Whoever believes the link goes on with bin/note {name} --log {new}.")
+    print(f"{said} Whoever sent the link may have another one in mind; nothing is sent there before you say so.")
+    if not says_yes(f"Go on with {new}"):
+        raise Trouble("The note's log is as it was, and nothing was sent.")
 
 
 def opener(given: argparse.Namespace, name: str, link: Link | None) -> OpensWithBar:

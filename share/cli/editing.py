@@ -5,16 +5,20 @@ import json
 import pathlib
 import sys
 from collections.abc import Callable
+from concurrent.futures import ThreadPoolExecutor
+from typing import NamedTuple
 
 from share.cli import access
 from share.cli.line_changes import line_changes, word_changes
+from share.cli.of_files import NOTES_AT_ONCE
 from share.cli.output import report
 from share.editors.client import note_for_script
 from share.editors.mirror import TextChange
 from share.store import notes
-from share.text.errors import Trouble
+from share.store.guarded import Unkept
+from share.text.errors import Refused, Trouble
 
-NOTHING_DONE = 1
+NOTHING_DONE, FAILED = 1, 2
 
 
 def append(given: argparse.Namespace) -> int:
@@ -33,30 +37,76 @@ def replace(given: argparse.Namespace) -> int:
     return _edited(given, lambda text: word_changes(text, old, new), "replaced")
 
 
-def import_file(given: argparse.Namespace) -> int:
-    """Makes a file's text the note's."""
-    try:
-        data = sys.stdin.buffer.read() if given.file == "-" else pathlib.Path(given.file).read_bytes()
-    except OSError as why:
-        raise Trouble(f"{given.file} can't be read ({why.strerror}).") from why
-    text = _decoded(given.file, data)
-    return _edited(given, lambda old: line_changes(old, text))
+def import_files(given: argparse.Namespace) -> int:
+    """Makes files' texts notes' texts. Of several notes some are done at once, since most of the time goes by for their logs."""
+    words = [given.name, given.file, *given.more]
+    names, files = words[::2], words[1::2]
+    if len(names) != len(files) or len(set(names)) < len(names) or files.count("-") > 1:
+        raise Trouble("Each note needs a file, and comes once.")
+    if len(names) > 1 and access.given_link(given):
+        raise Trouble("A link is of one note.")
+    texts = map(_text_of_file, files)
+    jobs = [(_agreed(argparse.Namespace(**{**vars(given), "name": name})), text) for name, text in zip(names, texts)]
+    with ThreadPoolExecutor(NOTES_AT_ONCE) as pool:
+        found = [*pool.map(lambda job: _tried(job[0], lambda old: line_changes(old, job[1])), jobs)]
+    return max(_told(job[0], one) for job, one in zip(jobs, found))
+
+
+class ScriptEdit(NamedTuple):
+    """An edit of a script's: how many changes were made, whether they are sent, and what the user is to be told."""
+
+    changes: int
+    is_sent: bool
+    says: list[str]
 
 
 def _edited(given: argparse.Namespace, changes_of: Callable[[str], list[TextChange]], what: str = "changed") -> int:
     """Makes changes of the text, each in the text that those before it leave."""
-    access.require_agreement(given, given.name, access.given_link(given))
+    return _told(_agreed(given), _done(given, changes_of), what)
+
+
+def _agreed(given: argparse.Namespace) -> argparse.Namespace:
+    """The words, once it is seen that they are of a note that may be opened, or made."""
+    link = access.given_link(given)
+    access.require_note(given, given.name, link)
+    access.require_agreement(given, given.name, link)
+    return given
+
+
+def _done(given: argparse.Namespace, changes_of: Callable[[str], list[TextChange]]) -> ScriptEdit:
     with note_for_script(given.name, access.quiet_opener(given, given.name)) as note:
         changes = changes_of(note.text)
         if changes:
             note.edit(changes)
-        unsent = not note.is_sent()
-    report(note.says)
+        return ScriptEdit(len(changes), note.is_sent(), note.says)
+
+
+def _tried(given: argparse.Namespace, changes_of: Callable[[str], list[TextChange]]) -> ScriptEdit | Exception:
+    """The same of one of several notes, of which the others go on."""
+    try:
+        return _done(given, changes_of)
+    except (Trouble, Refused, Unkept, OSError) as why:
+        return why
+
+
+def _told(given: argparse.Namespace, done: ScriptEdit | Exception, what: str = "changed") -> int:
+    """Says what was done; the status."""
+    if isinstance(done, Exception):
+        report([f"{given.name}: {done}" if given.more else str(done)])
+        return FAILED
+    report(done.says)
     if given.json:
-        print(json.dumps({"note": given.name, what: len(changes), "sent": not unsent}))
-    elif unsent:
+        print(json.dumps({"note": given.name, what: done.changes, "sent": done.is_sent}))
+    elif not done.is_sent:
         print(f"note: kept in {notes.path_of(given.name)}, and not sent yet.", file=sys.stderr)
-    return 0 if changes or what == "changed" else NOTHING_DONE
+    return 0 if done.changes or what == "changed" else NOTHING_DONE
+
+
+def _text_of_file(name: str) -> str:
+    try:
+        return _decoded(name, sys.stdin.buffer.read() if name == "-" else pathlib.Path(name).read_bytes())
+    except OSError as why:
+        raise Trouble(f"{name} can't be read ({why.strerror}).") from why
 
 
 def _argument(word: str) -> str:

@@ -22,7 +22,7 @@ LIB, CURRENT, MANIFEST, NEW = "lib", "vialshoal", "installed", "new"
 TREE = re.compile(r"vialshoal-[0-9a-f]{8}")
 ROOMS = ("text", "format", "admission", "log", "program", "store", "sync", "engine", "editors", "cli")
 PARTS = ("bin/note", "bin/built", "share/*.py", *(f"share/{room}/**/*.py" for room in ROOMS), "share/editors/web/*.*",
-         "share/completions/*.bash", "editors/emacs/vialshoal.el", "editors/neovim/plugin/*.lua",
+         "share/completions/*", "share/systemd/*", "editors/emacs/vialshoal.el", "editors/neovim/plugin/*.lua",
          "editors/neovim/lua/vialshoal/*.lua", "editors/neovim/doc/*", "docs/SHARING.md", "docs/ENGINE.md", "docs/man/*.1")
 PROGRAM = str(BUILT.relative_to(TOP))
 PROGRAM_BUILT_FROM = str(BUILT.with_name(BUILT_FROM).relative_to(TOP))
@@ -32,19 +32,28 @@ LINKS = {
     "bin/site_cli": "bin/built",
     "share/bash-completion/completions/note": "share/completions/note.bash",
     "share/bash-completion/completions/site_cli": "share/completions/site_cli.bash",
+    "share/fish/vendor_completions.d/note.fish": "share/completions/note.fish",
+    # The one is looked at by zsh as it comes, the other by Debian's for what packages bring.
+    "share/zsh/site-functions/_note": "share/completions/_note",
+    "share/zsh/vendor-completions/_note": "share/completions/_note",
     "share/doc/vialshoal": "docs",
     "share/emacs/site-lisp/vialshoal.el": "editors/emacs/vialshoal.el",
     "share/man/man1/note.1": "docs/man/note.1",
     "share/man/man1/site_cli.1": "docs/man/site_cli.1",
     "share/nvim/site/pack/vialshoal/start/vialshoal": "editors/neovim",
 }
+# What has to be a file of its own there, told by how it begins: systemd goes on with the file that a link leads to, which the next version
+# takes away.
+COPIES = {"lib/systemd/user/vialshoal-sync.service": "share/systemd/vialshoal-sync.service"}
+BEGIN_OF_COPY = b"# Of Vialshoal: "
+PLACES = (*LINKS, *COPIES)
 RUN = ("bin/note", "bin/built", PROGRAM)
 FILE_MODE, RUN_MODE = 0o644, 0o755
 Manifest = dict[str, list[str]]
 INSTALLING_VERBS = ("install", "uninstall")
 ABOUT = {
-    "install": "Installs note and site_cli, the Emacs package, the Neovim plug-in, the manual's pages and what bash "
-               "completes, in place of what was installed before. What is there of others is refused.",
+    "install": "Installs note and site_cli, the Emacs package, the Neovim plug-in, the manual's pages, what shells complete "
+               "and a service that syncs notes, in place of what was installed before. What is there of others is refused.",
     "uninstall": "Takes away what install has put there, and nothing else.",
 }
 DESTDIR_AND_STATUSES = ("A packager sets DESTDIR, the folder below which the files are to be. "
@@ -70,12 +79,14 @@ class Prefix:
             with _alone(self._lib):
                 before = self._trees()
                 folders = {folder for tree in before for folder in _manifest(tree).get("folders", [])}
-                folders |= {*made, *(folder for path in LINKS for folder in self._missing(self.root / path))}
+                folders |= {*made, *(folder for path in PLACES for folder in self._missing(self.root / path))}
                 tree = self._lib / f"{CURRENT}-{secrets.token_hex(4)}"
                 undo.callback(_take_away, tree)
                 _fill(tree, files, sorted(folders))
                 for path in LINKS:
                     self._link(path, undo)
+                for path in COPIES:
+                    self._copy(path, tree, undo)
                 self._lead_to(tree)
                 undo.pop_all()
                 # What can't be taken away now is at the next time.
@@ -89,8 +100,8 @@ class Prefix:
         if not trees:
             raise Trouble(f"Nothing is installed under {self.root}.")
         with _alone(self._lib):
-            others = [str(self.root / path) for path in LINKS if os.path.lexists(self.root / path) and not self._is_own(path)]
-            for path in filter(self._is_own, LINKS):
+            others = [str(self.root / path) for path in PLACES if os.path.lexists(self.root / path) and not self._is_own(path)]
+            for path in filter(self._is_own, PLACES):
                 (self.root / path).unlink()
             folders = {folder for tree in trees for folder in _manifest(tree).get("folders", [])}
             if self._leads_to_a_tree():
@@ -101,7 +112,7 @@ class Prefix:
         return others + [str(tree) for tree in trees if tree.exists()]
 
     def _refuse_what_is_in_the_way(self) -> None:
-        paths = [self.root / path for path in LINKS if not self._is_own(path)]
+        paths = [self.root / path for path in PLACES if not self._is_own(path)]
         if not self._leads_to_a_tree():
             paths.append(self._current)
         for path in filter(os.path.lexists, paths):
@@ -119,13 +130,25 @@ class Prefix:
         return os.path.relpath(self._lib.resolve() / CURRENT / LINKS[path], (self.root / path).parent.resolve())
 
     def _is_own(self, path: str) -> bool:
-        """Whether a link is one that was put here."""
+        """Whether a link, or a copy, is one that was put here."""
+        if path in COPIES:
+            with contextlib.suppress(OSError):
+                return (self.root / path).read_bytes().startswith(BEGIN_OF_COPY)
+            return False
         return (self.root / path).is_symlink() and os.readlink(self.root / path) == self._target(path)
 
     def _link(self, path: str, undo: contextlib.ExitStack) -> None:
         self._make_folders((self.root / path).parent, undo)
         if not self._is_own(path):
             os.symlink(self._target(path), self.root / path)
+            undo.callback((self.root / path).unlink)
+
+    def _copy(self, path: str, tree: pathlib.Path, undo: contextlib.ExitStack) -> None:
+        self._make_folders((self.root / path).parent, undo)
+        is_new = not self._is_own(path)
+        _write_file(tree, NEW, (tree / COPIES[path]).read_bytes())
+        os.replace(tree / NEW, self.root / path)
+        if is_new:
             undo.callback((self.root / path).unlink)
 
     def _lead_to(self, tree: pathlib.Path) -> None:

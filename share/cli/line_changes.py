@@ -9,17 +9,25 @@ MOST_COMPARED = 300
 
 
 def line_changes(old: str, new: str) -> list[TextChange]:
-    """The changes that make the one text of the other, line by line, from the last one on."""
+    """The changes that make the one text of the other, line by line, from the last one on. A line end stays where lines give way to
+    lines, so that what another writes at their end meanwhile stays there."""
     before, now = old.splitlines(keepends=True), new.splitlines(keepends=True)
     begin = _common_lines(before, now)
     back = _common_lines(before[begin:][::-1], now[begin:][::-1])
     ends = [*accumulate(map(len, before), initial=0)]
     before, now = before[begin:len(before) - back], now[begin:len(now) - back]
     if max(len(before), len(now)) > MOST_COMPARED:
-        return [(ends[begin], ends[begin + len(before)], "".join(now))]
+        return [_without_line_end(ends[begin], ends[begin + len(before)], before, now)]
     found = difflib.SequenceMatcher(None, before, now, autojunk=False).get_opcodes()
-    return [(ends[begin + first], ends[begin + last], "".join(now[low:high]))
+    return [_without_line_end(ends[begin + first], ends[begin + last], before[first:last], now[low:high])
             for what, first, last, low, high in reversed(found) if what != "equal"]
+
+
+def _without_line_end(begin: int, end: int, before: list[str], now: list[str]) -> TextChange:
+    """A change of some lines into others, without the last line end that both have."""
+    both = before[-1:] + now[-1:]
+    same = len(both) == 2 and all(line.endswith("\n") for line in both)
+    return begin, end - same, "".join(now)[:-1 if same else None]
 
 
 def _common_lines(some: list[str], others: list[str]) -> int:

@@ -3,12 +3,14 @@ import contextlib
 import locale
 import os
 import signal
+import subprocess
 import sys
 
 from share.cli import installing, scripts, verbs
 from share.cli.output import report
-from share.cli.script_words import SCRIPT_VERBS
+from share.cli.script_words import ALONE, SCRIPT_VERBS
 from share.cli.words import parsed
+from share.program.process import command, make_ready
 from share.store.guarded import Unkept
 from share.text.errors import Refused, Trouble
 
@@ -20,12 +22,18 @@ def main() -> int:
     for number in signal.SIGHUP, signal.SIGTERM:
         signal.signal(number, lambda *_: sys.exit(0))
     try:
+        if signal.getsignal(signal.SIGINT) is not signal.SIG_IGN:
+            signal.signal(signal.SIGINT, signal.default_int_handler)
         if sys.stdout is None:
             raise Trouble("Standard output is closed.")
         return done(sys.argv[1:])
     except BrokenPipeError:
         # Who read what was printed went away.
         os.dup2(os.open(os.devnull, os.O_WRONLY), sys.stdout.fileno())
+    except KeyboardInterrupt:
+        # A shell's loop is to see by which signal this ended.
+        signal.signal(signal.SIGINT, signal.SIG_DFL)
+        os.kill(os.getpid(), signal.SIGINT)
     except (Trouble, Refused, Unkept, OSError) as why:
         report([str(why)])
     return 2
@@ -33,8 +41,11 @@ def main() -> int:
 
 def done(words: list[str]) -> int:
     """Does what the command line says; the status."""
-    if len(words) > 1 and words[0] in SCRIPT_VERBS or words in (["list"], ["list", "--json"]):
+    if words and words[0] in (SCRIPT_VERBS if len(words) > 1 else ALONE):
         return scripts.run_script_verb(words)
+    if words == ["--version"]:
+        make_ready()
+        return subprocess.run([*command(), "--version"], check=False).returncode
     if words and words[0] in installing.INSTALLING_VERBS:
         return installing.run(words)
     return verbs.run_note_verb(parsed(words))

@@ -1,12 +1,15 @@
 """The verbs for scripts that read notes, for which no number is needed."""
 import argparse
 import pathlib
+from contextlib import closing
+from datetime import datetime
 
 from share.cli import access, html
 from share.cli.output import print_bytes, print_json, print_text, report_missing
 from share.engine import server
 from share.format.history import Messages
 from share.format.operation import INSERT
+from share.log.sqlite_file import WRITTEN_AHEAD, beside
 from share.program import replay, retyping
 from share.program.replay import Replays, HistoryStep, Wrote
 from share.program.site import Site
@@ -22,6 +25,8 @@ DONE = {"looked": "changed the looks of"}
 LEFT_OUT = "left out"
 # How much of what was typed is shown in a line.
 MOST_QUOTED = 60
+# The status where no note has the words that are looked for.
+NOTHING_FOUND = 1
 
 
 def cat(given: argparse.Namespace) -> int:
@@ -80,6 +85,7 @@ def log(given: argparse.Namespace) -> int:
         who = names.get(one.site) or f"site {one.site}" + (" (you)" if one.site in own else "")
         what = (f"typed {_quoted(_text_of(messages, one))}" if one.did == "typed" else
                 f"{DONE.get(one.did, one.did)} {counted(one.size, 'byte')}")
+        what += f" in the place of {counted(one.gave_way, 'byte')}" if one.gave_way else ""
         print_text(f"{one.end:>9}  {who:<18}  {what}\n")
     for line in left_out:
         print_text(f"{LEFT_OUT:>9}  {retyping.called(line):<18}  typed {_quoted(line['text'])}\n")
@@ -88,17 +94,41 @@ def log(given: argparse.Namespace) -> int:
 
 def list_notes(given: argparse.Namespace) -> int:
     """Lists the notes that are here."""
-    found = []
-    for path in sorted((notes.data_folder() / "notes").glob(f"*{notes.NOTE_SUFFIX}")):
-        name = path.name[:-len(notes.NOTE_SUFFIX)]
-        if notes.is_name(name):
-            found.append(_listed(name, path))
+    found = [_listed(name, notes.path_of(name)) for name in notes.names()]
     if given.json:
         return print_json({"notes": found}, [])
     for one in found:
-        words = [one["name"], one.get("log") or "no log", "open" if one["open"] else "", one.get("trouble", "")]
+        unsent = f"{counted(one['unsent'], 'edit')} unsent" if one.get("unsent") else ""
+        changed = datetime.fromisoformat(one["changed"]).strftime("%Y-%m-%d %H:%M") if "changed" in one else ""
+        words = [one["name"], one.get("log") or "no log", "open" if one["open"] else "", unsent, changed, one.get("trouble", "")]
         print_text("  ".join(filter(None, words)) + "\n")
     return 0
+
+
+def search(given: argparse.Namespace) -> int:
+    """Looks for words in the notes that are here."""
+    wanted, found, missing = " ".join(given.words).casefold(), list[Line](), list[str]()
+    if not wanted:
+        raise Trouble("There is nothing to look for.")
+    for name in notes.names():
+        try:
+            text = readable(swapped(_text_here(name)))
+        except Trouble as why:
+            missing.append(str(why))
+            continue
+        found += [{"note": name, "line": number, "text": line} for number, line in enumerate(text.split("\n"), 1)
+                  if wanted in line.casefold()]
+    if given.json:
+        return print_json({"found": found}, missing) or (0 if found else NOTHING_FOUND)
+    for one in found:
+        print_text(f"{one['note']}:{one['line']}: {one['text']}\n")
+    return report_missing(missing) or (0 if found else NOTHING_FOUND)
+
+
+def _text_here(name: str) -> bytes:
+    """The text of what a note's file has."""
+    with closing(_site_of(read_only.judged(notes.path_of(name)).judge.count().messages)) as site:
+        return site.text()
 
 
 def _found_messages(given: argparse.Namespace) -> Contents:
@@ -121,13 +151,15 @@ def _listed(name: str, path: pathlib.Path) -> Line:
     """What is known of a note without opening it."""
     line: Line = {"name": name, "path": str(path), "open": False}
     try:
-        about = read_only.about(path)
-    except Trouble as why:
+        about, unsent = read_only.about_and_unsent(path)
+        written = max(one.stat().st_mtime for one in (path, beside(path, WRITTEN_AHEAD)) if one.exists())
+    except (Trouble, OSError, ValueError) as why:
         return line | {"trouble": str(why)}
     running = server.connected(name)
     if running:
         running.close()
-    return line | {"open": bool(running), "log": about.url, "sealed": about.sealed}
+    changed = datetime.fromtimestamp(written).astimezone().isoformat(timespec="seconds")
+    return line | {"open": bool(running), "log": about.url, "sealed": about.sealed, "unsent": unsent, "changed": changed}
 
 
 def _text_of(messages: Messages, step: HistoryStep) -> str:

@@ -51,10 +51,6 @@ def agreed(given: argparse.Namespace, names: dict[int, str], messages: Messages)
     if not given.yes:
         if not access.has_terminal():
             raise Trouble("Nothing was done, since nobody can be asked here whether that is wanted. --yes says so.")
-        try:
-            answer = input("Make it (y or n)? ")
-        except (EOFError, KeyboardInterrupt):
-            answer = ""
-        if answer.strip().lower() not in ("y", "yes"):
+        if not access.says_yes("Make it"):
             raise Trouble("Nothing was done.")
     return made

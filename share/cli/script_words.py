@@ -1,7 +1,15 @@
 """The words of the verbs for scripts, each with its own --help."""
 import argparse
+import re
+from collections.abc import Callable, Sequence
+from contextlib import suppress
 
-SCRIPT_VERBS = ("cat", "append", "replace", "import", "export", "list", "history", "log")
+SCRIPT_VERBS = ("cat", "append", "replace", "import", "export", "list", "history", "log", "search", "sync", "rename", "delete")
+# Those that need no more words, and those whose words may begin with a hyphen.
+ALONE, OF_ANY_WORDS = ("list", "sync"), ("append", "replace", "search")
+LONGEST_PAUSE = 86_400.0
+# What stands before a word that begins with a hyphen, so that it is taken for no option. No word of a command line has it.
+NO_OPTION = "\0"
 SCRIPT_STATUSES = """\
 Ends with 0; with 2 and a sentence where it couldn't be done; with 3 where something of the note is missing in what
 was read, which standard error says.
@@ -13,30 +21,32 @@ def script_parser() -> argparse.ArgumentParser:
     every = argparse.ArgumentParser("bin/note")
     verbs = every.add_subparsers(dest="verb", required=True)
 
-    def verb(name: str, words: str, *arguments: str, more: str = "", of_a_note: bool = True) -> argparse.ArgumentParser:
+    def verb(name: str, words: str, *arguments: str, more: str = "", of_a_note: bool = True,
+             makes: bool = False) -> argparse.ArgumentParser:
         one = verbs.add_parser(name, help=words, description=f"{words[0].upper()}{words[1:]}.", epilog=more + SCRIPT_STATUSES,
                                formatter_class=argparse.RawDescriptionHelpFormatter)
         if of_a_note:
-            one.add_argument("name", metavar="NAME", help="the note")
-            one.add_argument("--log", metavar="URL", help="where the note's log is; without it, where it was last")
-            one.add_argument("--link-file", metavar="FILE", help="a file that has the note's link")
-            one.add_argument("--password-file", metavar="FILE", help="a file that has the server's password")
+            _add_words_of_a_note(one)
+        if makes:
+            one.add_argument("--new", action="store_true", help="make a note that isn't here")
         one.add_argument("--json", action="store_true", help="give data as JSON")
         for argument in arguments:
-            one.add_argument(argument.lower(), metavar=argument)
+            one.add_argument(argument.lower(), metavar=argument, type=_word)
         return one
 
     verb("cat", "prints a note's text")
-    append = verb("append", "types at the end of a note: TEXT and a line end, else what standard input has")
-    append.add_argument("text", metavar="TEXT", nargs="?")
+    append = verb("append", "types at the end of a note: TEXT and a line end, else what standard input has", makes=True)
+    append.add_argument("text", metavar="TEXT", nargs="?", type=_word)
     verb("replace", "puts NEW in the place of OLD, wherever that stands", "OLD", "NEW",
          more="Ends with 1 where OLD doesn't stand in the note.\n")
-    verb("import", "makes a file's text the note's, by the changes that are needed", "FILE",
-         more="- is standard input. The file has to be UTF-8; its line ends are kept.\n")
+    more = verb("import", "makes a file's text the note's, by the changes that are needed", "FILE", makes=True,
+                more="- is standard input. The file has to be UTF-8; its line ends are kept. Several notes are done in the time of a few;\n"
+                     "with --json each has a line.\n")
+    more.add_argument("more", metavar="NAME FILE", nargs="*", help="more notes, each with its file")
     export = verb("export", "writes a note's text as a file", "FILE", more="- is standard output.\n")
     export.add_argument("--format", choices=("text", "html"), default="text", help="html has the looks, too")
     export.add_argument("--replace", action="store_true", help="replace a file that is there")
-    verb("list", "lists the notes of this data folder", of_a_note=False)
+    _add_verbs_of_files(verb)
     past = verb("history", "prints a note's text as it was, with --json also who wrote what",
                 more="A note begins empty. bin/note log says what was done since, and which N is after that.\n")
     past.add_argument("--at", type=int, metavar="N", required=True, help="after the first N messages")
@@ -44,3 +54,49 @@ def script_parser() -> argparse.ArgumentParser:
          more="Before each step is the N with which bin/note history prints the text as it was then. At the end is what was\n"
               "left out for good, since others hold its place; bin/note recover --lost NAME types it again.\n")
     return every
+
+
+def _add_words_of_a_note(one: argparse.ArgumentParser) -> None:
+    one.add_argument("name", metavar="NAME", type=_word, help="the note")
+    one.add_argument("--log", metavar="URL", help="where the note's log is; without it, where it was last")
+    one.add_argument("--link-file", metavar="FILE", help="a file that has the note's link")
+    one.add_argument("--password-file", metavar="FILE", help="a file that has the server's password")
+
+
+def _add_verbs_of_files(verb: Callable[..., argparse.ArgumentParser]) -> None:
+    """Adds the verbs that are about notes as a whole."""
+    verb("list", "lists the notes of this data folder", of_a_note=False,
+         more="Of a note with a log it says how many edits were never sent, as far as that is known without asking the log, and when its\n"
+              "file was changed last.\n")
+    search = verb("search", "looks for words in all notes that are here, in capitals or not", of_a_note=False,
+                  more="Prints each line that has them, after the note's name and the line's number. Ends with 1 where there is none.\n"
+                       "What is in a log alone isn't looked at; bin/note sync brings it.\n")
+    search.add_argument("words", metavar="WORDS", nargs="+", type=_word)
+    sync = verb("sync", "sends what notes have that their logs lack, and gets what the logs have; without NAME, of all notes",
+                of_a_note=False, more="Ends with 3 where a log couldn't be reached. A password is for all logs of these notes.\n")
+    sync.add_argument("names", metavar="NAME", nargs="*")
+    sync.add_argument("--every", metavar="SECONDS", type=_pause, help="go on until this is ended, with this pause between")
+    sync.add_argument("--password-file", metavar="FILE", help="a file that has the server's password")
+    rename = verb("rename", "gives a note another name on this disk; nobody else's changes", of_a_note=False)
+    delete = verb("delete", "takes a note from this disk, with its text and its keys, after asking; others keep theirs, and its log "
+                            "stays as it is", of_a_note=False)
+    for one in rename, delete:
+        one.add_argument("name", metavar="NAME", help="the note, which no editor has open")
+    rename.add_argument("new", metavar="NEW", help="its new name")
+    delete.add_argument("--yes", action="store_true", help="don't ask")
+
+
+def with_hyphens(words: Sequence[str]) -> list[str]:
+    """The words of a verb, of whose texts one may begin with a hyphen: `-milk` is no option."""
+    return [NO_OPTION + one if words[0] in OF_ANY_WORDS and re.match("-(?!-|h$).", one) else one for one in words]
+
+
+def _pause(given: str) -> float:
+    with suppress(ValueError):
+        if 0 < (seconds := float(given)) <= LONGEST_PAUSE:
+            return seconds
+    raise argparse.ArgumentTypeError(f"{given!r} isn't a pause of up to a day, in seconds")
+
+
+def _word(given: str) -> str:
+    return given.removeprefix(NO_OPTION)

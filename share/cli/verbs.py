@@ -86,8 +86,15 @@ def in_browser(given: argparse.Namespace, name: str) -> None:
     if link:
         os.environ["VIALSHOAL_LINK"] = link.spelled()
     words = [("--log", given.log), ("--password-file", given.password_file)]
-    command = [*ENGINE_COMMAND, name, *(word for pair in words if pair[1] for word in pair)]
-    serve_note(name, command, access.own_name(), given.browses)
+    options = [word for pair in words if pair[1] for word in pair]
+
+    def commands(note: str) -> tuple[list[str], dict[str, str]]:
+        """The command of a note's engine, and its environment: what was given is for this one."""
+        if note == name:
+            return [*ENGINE_COMMAND, note, *options], {**os.environ}
+        return [*ENGINE_COMMAND, note], {key: value for key, value in os.environ.items() if key != "VIALSHOAL_LINK"}
+
+    serve_note(name, commands, access.own_name(), given.browses)
 
 
 def print_note(given: argparse.Namespace, name: str) -> int:
@@ -106,6 +113,7 @@ def retype(given: argparse.Namespace, name: str) -> int:
     """Shows what was left out of the note, and types it again."""
     if not notes.is_here(name):
         raise Trouble(f"There is no note {name} here.")
+    access.require_agreement(given, name, access.given_link(given))
     with note_for_script(name, access.quiet_opener(given, name)) as note:
         found = note.recover()
         unsent = bool(found) and not note.is_sent()

@@ -21,19 +21,26 @@ Opens a shared note in the terminal. Whoever has opened the same note edits it a
 
 for scripts, each with --help:
   bin/note cat NAME               prints its text
-  bin/note append NAME [TEXT]     types at its end
+  bin/note append NAME [TEXT]     types at its end; --new makes a note that isn't here
   bin/note replace NAME OLD NEW   replaces what stands in it
-  bin/note import NAME FILE       makes a file's text the note's
+  bin/note import NAME FILE ..    makes a file's text the note's, also of several notes at once
   bin/note export NAME FILE       writes its text as a file, or as HTML
   bin/note log NAME               says what was done, and by whom
   bin/note history NAME --at N    prints its text as it was after step N of that
-  bin/note list                   the notes that are here
+  bin/note list                   the notes that are here, what of them is unsent, and when they changed
+  bin/note search WORDS           looks for words in all of them
+  bin/note sync [NAME ..]         sends and gets what is new of all notes, or of these; --every SECONDS goes on
+  bin/note rename NAME NEW        gives a note another name on this disk
+  bin/note delete NAME            takes a note from this disk, after asking
 
 keys:
   arrows, Home, End, PgUp, PgDn   move; Ctrl-Left, Ctrl-Right by words
   Backspace, Delete               delete
   Ctrl-Z, Ctrl-Y                  take back your own last edit, and nobody else's; again, the one before it; do it again
+  Ctrl-A, Ctrl-E                  go to the line's begin, to its end
   Ctrl-Space                      begin to select; Ctrl-X cuts, Alt-W copies, Ctrl-V puts what was cut or copied
+  Ctrl-K                          cut the rest of the line, or its end
+  mouse                           a click goes there, drawing selects, the wheel scrolls; with Shift it is the terminal's
   Ctrl-F                          find; without words, what was looked for last
   Ctrl-R, Ctrl-L                  replace; go to a line
   Ctrl-S                          save as a file
@@ -48,8 +55,9 @@ nobody else reads it.
 
 A link is read from VIALSHOAL_LINK, from the file that --link-file names, or asked for; a server's password from
 VIALSHOAL_PASSWORD or the file that --password-file names. A server needs Debian's python3-nacl.
-VIALSHOAL_NAME is what others see at your cursor, without it your account's name. VIALSHOAL_PROGRAM names another
-program than bin/built; VIALSHOAL_BUILD, which is proved, tried or rust, one of its builds.
+VIALSHOAL_NAME is what others see at your cursor, without it your account's name. VIALSHOAL_PAUSE is how many
+seconds of silence end an edit that Ctrl-Z takes back, without it 1. VIALSHOAL_PROGRAM names another program than
+bin/built; VIALSHOAL_BUILD, which is proved, tried or rust, one of its builds.
 
 Ends with 0; with 2 and a sentence where the note couldn't be opened; --print with 3 where something is missing
 in what it printed, which standard error says. docs/SHARING.md says more.
@@ -66,6 +74,7 @@ def parsed(words: list[str]) -> argparse.Namespace:
     parser.add_argument("names", metavar="NAME", nargs="+",
                         help="letters, digits, dots, hyphens and underscores")
     parser.add_argument("--log", metavar="URL", help="where the note's log is; without it, where it was last")
+    parser.add_argument("--new", action="store_true", help="make the note where it isn't here, without asking")
     parser.add_argument("--print", action="store_true", dest="prints", help="print the note and end")
     parser.add_argument("--lost", action="store_true",
                         help="recover: show what was left out of the note NAME for good, and type it again")
@@ -76,6 +85,7 @@ def parsed(words: list[str]) -> argparse.Namespace:
     parser.add_argument("--yes", action="store_true", help="renew: don't ask whether the history is to be left behind")
     parser.add_argument("--no-browser", action="store_false", dest="browses",
                         help="web: only print the file that a browser opens the note by")
+    parser.add_argument("--version", action="store_true", help="say which version this is, and end")
     parser.add_argument("--link-file", metavar="FILE", help="a file that has the note's link")
     parser.add_argument("--password-file", metavar="FILE", help="a file that has the server's password")
     given = parser.parse_intermixed_args(words)

@@ -14,22 +14,27 @@ _note_names() {
 _note_options() {
     local log='--log --link-file --password-file'
     case $1 in
-        cat | append | replace | import | log) echo "--help $log --json" ;;
+        cat | replace | log) echo "--help $log --json" ;;
+        append | import) echo "--help $log --json --new" ;;
         export) echo "--help $log --json --format --replace" ;;
         history) echo "--help $log --json --at" ;;
-        list) echo '--help --json' ;;
+        list | search | rename) echo '--help --json' ;;
+        delete) echo '--help --json --yes' ;;
+        sync) echo '--help --json --every --password-file' ;;
         install | uninstall) echo '--help --prefix' ;;
-        web) echo "--help $log --no-browser" ;;
+        web) echo "--help $log --no-browser --new" ;;
         renew) echo "--help $log --fresh --without --yes" ;;
         recover) echo "--help $log --lost" ;;
-        open | engine | link) echo "--help $log" ;;
-        *) echo "--help $log --print --lost --fresh --without --yes --no-browser" ;;
+        open) echo "--help $log --print --new" ;;
+        engine | link) echo "--help $log" ;;
+        *) echo "--help $log --print --new --lost --fresh --without --yes --no-browser --version" ;;
     esac
 }
 
 _note() {
     local word=${COMP_WORDS[COMP_CWORD]} before=${COMP_WORDS[COMP_CWORD - 1]} verb='' offered=''
-    local verbs='append cat engine export history import install link list log open recover renew replace uninstall web'
+    local verbs='append cat delete engine export history import install link list log open recover rename renew replace search sync'
+    verbs+=' uninstall web'
     [[ $COMP_CWORD -gt 1 ]] && verb=${COMP_WORDS[1]}
     COMPREPLY=()
     case $before in
@@ -45,12 +50,13 @@ _note() {
             mapfile -t COMPREPLY < <(compgen -W 'text html' -- "$word")
             return
             ;;
-        --log | --at | --without) return ;;
+        --log | --at | --without | --every) return ;;
         *)
             case $word,$verb in
                 -*) offered=$(_note_options "$verb") ;;
                 *,'') offered="$verbs $(_note_names "$word")" ;;
-                *,install | *,uninstall | *,list) ;;
+                *,install | *,uninstall | *,list | *,search) ;;
+                *,rename) [[ $COMP_CWORD -eq 2 ]] && offered=$(_note_names "$word") ;;
                 *) offered=$(_note_names "$word") ;;
             esac
             ;;
@@ -58,7 +64,7 @@ _note() {
     mapfile -t COMPREPLY < <(compgen -W "$offered" -- "$word")
     # What follows a note's name may be a file.
     case $verb,$COMP_CWORD in
-        import,[3-9] | export,[3-9] | recover,*) [[ $word == -* ]] || mapfile -t COMPREPLY < <(compgen -f -- "$word") ;;
+        import,*[13579] | export,[3-9] | recover,*) [[ $word == -* ]] || mapfile -t COMPREPLY < <(compgen -f -- "$word") ;;
     esac
 }
 

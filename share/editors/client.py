@@ -1,7 +1,5 @@
 """A script's way to a note: by the engine that has it open, where one does, so that no number is spent; else by the
 file here. Both are spoken to as docs/ENGINE.md has it."""
-import os
-import select
 import socket
 import time
 from collections.abc import Callable, Iterator
@@ -10,6 +8,8 @@ from typing import Protocol
 
 from share.engine import protocol, server
 from share.engine.engine import Engine
+from share.log.bell import Bell
+from share.log.polling import can_read
 from share.sync.session import SEND_SECONDS, Session
 from share.text.errors import Trouble
 from share.text.line import MOST_LINE, PIECE, Assembler, Line
@@ -45,7 +45,7 @@ class BySocket:
 
     def receive(self, seconds: float) -> bytes:
         """What has come."""
-        if not select.select([self._line], [], [], seconds)[0]:
+        if not can_read(self._line, seconds):
             return b""
         if not (data := self._line.recv(PIECE)):
             raise Trouble("The note's engine has ended.")
@@ -60,13 +60,9 @@ class InPlace:
     """An engine in this process."""
 
     def __init__(self, name: str, opens: OpensSession):
-        self._woken, self._waking = os.pipe()
-        self._out = bytearray()
-        self._engine = Engine(name, lambda: opens(self._wake), self._wake)
+        self._bell, self._out = Bell(), bytearray()
+        self._engine = Engine(name, lambda: opens(self._bell.ring), self._bell.ring)
         self._peer = self._engine.joined(self._out.extend, lambda: 0)
-
-    def _wake(self) -> None:
-        os.write(self._waking, b"!")
 
     def send(self, data: bytes) -> None:
         """Does what a line says."""
@@ -75,8 +71,8 @@ class InPlace:
     def receive(self, seconds: float) -> bytes:
         """What came of it, and of others' edits."""
         self._engine.turn()
-        if not self._out and select.select([self._woken], [], [], min(seconds, RECEIVE_SECONDS))[0]:
-            os.read(self._woken, PIECE)
+        if not self._out and self._bell.waits(min(seconds, RECEIVE_SECONDS)):
+            self._bell.silence()
         data = bytes(self._out)
         self._out.clear()
         return data
@@ -84,8 +80,7 @@ class InPlace:
     def close(self) -> None:
         """Closes the note."""
         self._engine.close()
-        os.close(self._woken)
-        os.close(self._waking)
+        self._bell.close()
 
 
 class ScriptNote:
@@ -160,6 +155,17 @@ class ScriptNote:
             if found is not None:
                 return found
         return None
+
+
+def state_of_engine(line: socket.socket) -> Line:
+    """How things are with a note that an engine has open, once all is sent or after some seconds."""
+    way = BySocket(line)
+    try:
+        note = ScriptNote(way)
+        note.is_sent()
+        return note.state
+    finally:
+        way.close()
 
 
 @contextmanager

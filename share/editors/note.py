@@ -3,7 +3,6 @@
 What is typed is shown at once by who calls, and on the disk when the call returns.
 """
 import re
-import select
 import socket
 import threading
 import time
@@ -12,8 +11,10 @@ from contextlib import suppress
 
 from share.editors.mirror import Mirror, TextChange
 from share.engine import protocol
+from share.log.polling import can_read
 from share.sync.session import SEND_SECONDS, Bar, Status
 from share.text.change import Change, boundary, found
+from share.text.change import change as difference
 from share.text.errors import Trouble
 from share.text.line import PIECE, Assembler, Line
 from share.text.rope import swapped
@@ -71,6 +72,7 @@ class EngineNote:
         # The other end of what is selected.
         self.anchor: int | None = None
         self.notice = ""
+        # Whether the cursor is where the last edit left it.
         self._goes_on, self._is_closed = False, False
         # An engine's lines have no bound: one may have all the text.
         self._assembler = Assembler(None)
@@ -82,7 +84,7 @@ class EngineNote:
         self._is_open = False
         self._send({"do": "open", "protocol": 1, "units": ["utf-8"], "name": name})
         opened = self._opened()
-        self.show_all(UTF_8.encode(opened["text"]))
+        self.text[:] = swapped(UTF_8.encode(opened["text"]))
         self.mirror = _Mirror(opened, self._send, self)
         self.session, self._is_open = AtEngine(self), True
         early, self._answers = self._answers, []
@@ -90,22 +92,22 @@ class EngineNote:
             self._take(one)
         while not self.mirror.state:
             self._receive(WATCH_SECONDS)
-        threading.Thread(target=self._watch, daemon=True).start()
+        self._watcher = threading.Thread(target=self._watch, daemon=True)
+        self._watcher.start()
 
     def type(self, characters: str) -> None:
-        """Types characters at the cursor. What is typed in one go, up to a line end, is taken back as one."""
+        """Types characters at the cursor. The engine knows which keys are taken back as one."""
         text = re.sub("\r\n|\r", "\n", characters).encode("utf-8", "ignore").decode()
         begin, end = self.selected() or (self.cursor, self.cursor)
         self.anchor = None
         if text:
-            self._goes_on = self._edit([(begin, end, text)], self._goes_on and begin == end) and not text.endswith("\n")
+            self._edit([(begin, end, text)])
 
     def erase(self, begin: int, end: int) -> None:
         """Deletes a stretch."""
         self.anchor = None
         if begin != end:
-            self._edit([(begin, end, "")], False)
-            self._goes_on = False
+            self._edit([(begin, end, "")])
 
     def selected(self) -> tuple[int, int] | None:
         """The stretch that is selected."""
@@ -121,9 +123,9 @@ class EngineNote:
         while place >= 0:
             changes.append((place, place + len(wanted), put))
             place = data.rfind(wanted, 0, place)
-        if changes:
-            self._edit(changes, False)
         self._goes_on = False
+        if changes:
+            self._edit(changes)
         return len(changes)
 
     def take_back(self) -> bool:
@@ -167,32 +169,36 @@ class EngineNote:
             while self.mirror.state["log"] == "sending" and time.monotonic() < end:
                 self._receive(0.05)
         self._is_closed = True
+        with suppress(OSError):
+            # The watcher wakes, and ends before another file may get the number of this one.
+            self._line.shutdown(socket.SHUT_RDWR)
+        self._has_read.set()
+        self._watcher.join()
         self._line.close()
 
     def follow(self, change: Change) -> None:
         """Changes the text, and moves the places with it."""
+        change.look(self.text[max(0, change.begin - 1):change.begin], len(self.text))
         self.text[change.begin:change.end] = change.new
-        self.cursor, self.top = change.moved(self.cursor), change.moved(self.top)
-        self.cursor, self.top = boundary(self.text, self.cursor), boundary(self.text, self.top)
-        if self.anchor is not None:
-            self.anchor = boundary(self.text, change.moved(self.anchor))
+        (cursor, anchor), top = change.moved_both(self.cursor, self.anchor), change.moved(self.top, True)
+        self.cursor, self.top = boundary(self.text, cursor), boundary(self.text, top)
+        self.anchor = None if anchor is None else boundary(self.text, anchor)
 
     def show_all(self, data: bytes) -> None:
         """Shows another text, of an editor's bytes."""
-        self.text[:] = swapped(data)
-        self.cursor, self.top = (boundary(self.text, min(place, len(self.text))) for place in (self.cursor, self.top))
+        self.follow(difference(self.text, swapped(data)))
         self.anchor = None
 
-    def _edit(self, changes: Sequence[TextChange], joins: bool) -> bool:
-        """Makes an edit and waits until it is on the disk; False where it was taken out again."""
+    def _edit(self, changes: Sequence[TextChange]) -> None:
+        """Makes an edit and waits until it is on the disk, or taken out again."""
         begin, _, text = changes[0]
-        self.mirror.edit(changes, join=joins)
-        if len(changes) == 1:
+        self.mirror.edit(changes, **({} if self._goes_on else {"join": False}))
+        self._goes_on = len(changes) == 1
+        if self._goes_on:
             self.cursor = begin + len(text.encode())
         answer = self._until("edit")
         if "error" in answer:
             self.notice, self.mirror.words = answer["words"], ""
-        return "error" not in answer
 
     def _by_names(self, what: str) -> bool:
         self._goes_on, self.mirror.cursor = False, None
@@ -244,7 +250,7 @@ class EngineNote:
 
     def _receive(self, seconds: float) -> bool:
         """Takes in what comes within some time; whether something did."""
-        if not select.select([self._line], [], [], seconds)[0]:
+        if not can_read(self._line, seconds):
             return False
         try:
             data = self._line.recv(PIECE)
@@ -271,7 +277,8 @@ class EngineNote:
         """Wakes the editor when something comes."""
         with suppress(OSError, ValueError):
             while not self._is_closed:
-                if select.select([self._line], [], [], WATCH_SECONDS)[0]:
+                if can_read(self._line, WATCH_SECONDS):
                     self._has_read.clear()
                     self._wake()
-                    self._has_read.wait(WATCH_SECONDS)
+                    if not self._is_closed:
+                        self._has_read.wait(WATCH_SECONDS)

@@ -66,11 +66,12 @@ class Arrivals:
             self._number = number
             for peer in self._peers:
                 peer.undoing.forget()
+                peer.gap = None
             self._authors.are_called({number: peer.name for peer in self._peers if peer.name})
 
     def check_typing(self) -> None:
         """Raises Wrong where nothing can be typed now."""
-        if not self._session.status().can_type:
+        if not self._session.can_type:
             raise Wrong("number", NO_NUMBER)
         if self.is_behind:
             raise Wrong("failed", NOT_NOW)
@@ -87,7 +88,7 @@ class Arrivals:
         """Tells all users something."""
         for peer in self._peers:
             if peer.is_open:
-                peer.send({"notice": "says", "words": words})
+                peer.say(words)
 
     def state(self) -> Line:
         """The notice `state`."""

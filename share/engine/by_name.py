@@ -25,16 +25,25 @@ class ByName:
     def __init__(self, session: Session, text: SharedText, arrivals: Arrivals, authors: Authors):
         self._session, self._text, self._arrivals, self._authors = session, text, arrivals, authors
 
-    def undo(self, peer: Peer, redo: bool) -> Line:
-        """Takes back an editor's last edit that changes something, or does it again."""
+    def undo(self, peer: Peer, redo: bool, request: Line) -> Line:
+        """Takes back an editor's last edit that changes something, or does it again; the last one within a stretch, where the
+        request has that."""
+        among = self._within(peer, request) if "begin" in request else None
         self._arrivals.check_typing()
-        peer.typed_end = None
-        while step := peer.undoing.next(redo):
-            changed = self._do(peer, step, redo)
-            peer.undoing.done(redo, changed)
+        peer.coalescing.stop()
+        peer.gap = None
+        while step := peer.undoing.next(redo, among):
+            changed = self._do(peer, step, redo, None if among else peer)
+            peer.undoing.done(redo, step, changed)
             if changed.does_something():
                 return {"done": True}
         return {"done": False}
+
+    def _within(self, peer: Peer, request: Line) -> set[int]:
+        """The steps of undo within the stretch of a request."""
+        peer.transformer.seen(protocol.number(request, "version"))
+        begin, end = (self._text.place(peer, protocol.number(request, name)) for name in ("begin", "end"))
+        return peer.extents.within(begin, end)
 
     def look(self, peer: Peer, request: Line) -> Line:
         """Makes stretches bold, or of a colour, as far as they aren't; as one edit."""
@@ -45,14 +54,15 @@ class ByName:
         site = self._session.site
         names = united(chain.from_iterable(site.names(*one) for one in places))
         looked = [Looked(*one, sets(one[1])) for parts in looks_of(site, names) for one in parts]
-        peer.typed_end = None
-        changed = self._do(peer, Step(looked=looked), redo=True)
+        peer.coalescing.stop()
+        peer.gap = None
+        changed = self._do(peer, Step(looked=looked), redo=True, jumps=peer)
         if changed.does_something():
             peer.undoing.add(changed)
         return {}
 
-    def _do(self, peer: Peer, step: Step, redo: bool) -> Step:
-        """Takes an edit back, or does it; what that changed."""
+    def _do(self, peer: Peer, step: Step, redo: bool, jumps: Peer | None) -> Step:
+        """Takes an edit back, or does it; what that changed. The cursor of an editor may go there."""
         told: list[Told] = []
         changed = Step()
         try:
@@ -60,8 +70,9 @@ class ByName:
         except Trouble as why:
             self._arrivals.catch_up()
             raise Wrong("unkept", str(why)) from why
-        for part in told:
-            self._text.show(part, peer)
+        with peer.extents.are_of(changed.key):
+            for part in told:
+                self._text.show(part, jumps)
         if edited.refused is not None:
             raise Wrong("refused", str(Refused(edited.refused)), number=edited.refused)
         return changed

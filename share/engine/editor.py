@@ -4,7 +4,10 @@ import time
 from collections.abc import Callable
 
 from share.engine import protocol
+from share.engine.coalescing import Coalescing
+from share.engine.extents import Extents
 from share.engine.formatting import Formatting
+from share.engine.gaps import Gap
 from share.engine.protocol import Wrong
 from share.engine.transform import Transformer
 from share.format import presence
@@ -12,6 +15,7 @@ from share.program.replay import in_units
 from share.program.trace import Traced, trace
 from share.program.undo import Undoing
 from share.text.change import Change
+from share.text.errors import Trouble
 from share.text.line import Line
 from share.text.looks import told
 from share.text.rope import Measured
@@ -19,8 +23,10 @@ from share.text.units import UNITS, Units
 
 # The least time between two notices of cursors.
 SHOW_CURSORS_SECONDS = 0.05
-# The most bytes on their way to an editor that doesn't read, before notices wait.
-MOST_WAITING = 1 << 20
+# The most bytes on their way to an editor that doesn't read, before notices wait, and the most words for its user that do.
+MOST_WAITING, MOST_WORDS = 1 << 20, 20
+LEFT_MUCH = ("More was changed meanwhile than is kept for an editor that leaves it unread, as one does that asks something. So it is "
+             "sent the whole text.")
 NOT_OPEN = "The note isn't open: open comes first."
 
 
@@ -28,23 +34,29 @@ class Peer:
     """An editor. What it is sent goes through one call, and another says how many bytes of that are still on their way. The
     engine's thread alone calls it."""
 
-    def __init__(self, write: Callable[[bytes], None], waiting: Callable[[], int], who: int):
+    def __init__(self, write: Callable[[bytes], None], waiting: Callable[[], int], who: int,
+                 clock: Callable[[], float] = time.monotonic):
         self._write, self._waiting, self.who = write, waiting, who
         self.token = secrets.token_bytes(presence.TOKEN_BYTES)
         self.name, self.colour = "", ""
+        # Until when it takes another colour where fewer have that; never where its user chose one.
+        self.settles = 0.0
         # What it has of the text, from its opening on.
         self._transformer: Transformer | None = None
-        self.undoing = Undoing()
-        # Where its last typing ended that may go on.
-        self.typed_end: int | None = None
+        self.undoing, self.coalescing, self.extents = Undoing(), Coalescing(clock), Extents()
+        # Where it deleted something last.
+        self.gap: Gap | None = None
         # In bytes: the cursor and the other end of a selection, and where its own undo has put the cursor.
         self.cursor: int | None = None
         self.anchor: int | None = None
         self.jump: int | None = None
         self.closes = False
+        # Why nothing is done for it, in words, where nothing is.
+        self._refused = ""
         # How many of its requests are still being done.
         self.waits = 0
         self._answers: list[Line] = []
+        self._words: list[str] = []
         self._state: Line = {}
         self._cursors: list[Line] = []
         self._cursors_due, self._sends_cursors = 0.0, False
@@ -53,6 +65,16 @@ class Peer:
         self._looks, self._looks_version, self._sends_looks = 0, 0, False
         # Whether cursors are to be sent as soon as they may be.
         self.has_cursors_to_show = False
+
+    def refuse(self, words: str) -> None:
+        """Has its first request answered by these words alone."""
+        self._refused = words
+
+    def see_that_it_is_served(self) -> None:
+        """Leaves one that is refused, with the words of why."""
+        if self._refused:
+            self.closes = True
+            raise Trouble(self._refused)
 
     @property
     def is_open(self) -> bool:
@@ -89,13 +111,33 @@ class Peer:
 
     def moved(self, change: Change) -> None:
         """Moves its places along with a change."""
-        self.cursor, self.anchor, self.jump, self.typed_end = (
-            None if place is None else change.moved(place)
-            for place in (self.cursor, self.anchor, self.jump, self.typed_end))
+        if self.cursor is not None:
+            self.cursor, self.anchor = change.moved_both(self.cursor, self.anchor)
+        self.jump = None if self.jump is None else change.moved(self.jump)
+        self.coalescing.moved(change)
+        self.extents.changed(change)
+        if self.gap:
+            self.gap.place = change.moved(self.gap.place)
+
+    @property
+    def is_slow(self) -> bool:
+        """Whether so much is on its way to it that notices wait."""
+        return self._waiting() > MOST_WAITING
 
     def send(self, line: Line) -> None:
         """Sends a line at once."""
         self._write(protocol.serialize(line))
+
+    def say(self, words: str) -> None:
+        """Tells its user something, as soon as it reads."""
+        self._words = [*self._words, words][-MOST_WORDS:]
+        self._send_words()
+
+    def _send_words(self) -> None:
+        if not self.is_slow:
+            words, self._words = self._words, []
+            for one in words:
+                self.send({"notice": "says", "words": one})
 
     def answer_later(self, line: Line) -> None:
         """Answers after the notices that are due."""
@@ -103,9 +145,12 @@ class Peer:
 
     def flush(self, text: Measured) -> None:
         """Sends what has changed for it, and the answers after that."""
-        if self.is_open and self._waiting() <= MOST_WAITING:
+        self._send_words()
+        if self.is_open and not self.is_slow:
             transformer = self.transformer
             if transformer.is_void:
+                if transformer.has_left_much:
+                    self.say(LEFT_MUCH)
                 transformer.send_text()
                 self.send({"notice": "text", "version": transformer.version, "edits": transformer.edits, "text": text.text()})
                 self._sends_cursors = self._sends_looks = True
@@ -128,7 +173,7 @@ class Peer:
 
     def show_state(self, state: Line) -> None:
         """Sends a state that it hasn't been sent."""
-        if self.is_open and state != self._state:
+        if self.is_open and state != self._state and not self.is_slow:
             self._state = state
             self.send({"notice": "state", **state})
 
@@ -144,7 +189,7 @@ class Peer:
             return
         now = time.monotonic()
         self.has_cursors_to_show = now < self._cursors_due
-        if not self.has_cursors_to_show and self._waiting() <= MOST_WAITING:
+        if not self.has_cursors_to_show and not self.is_slow:
             if cursors or self._cursors:
                 self.send({"notice": "cursors", "edits": self.transformer.edits, "cursors": cursors})
             self._cursors, self._sends_cursors = cursors, False
@@ -156,7 +201,7 @@ class Peer:
         if not self.is_open or not self.sees_looks or formatting.is_due:
             return
         transformer, times = self.transformer, formatting.times
-        if transformer.is_void or transformer.has_news() or self._waiting() > MOST_WAITING:
+        if transformer.is_void or transformer.has_news() or self.is_slow:
             return
         if times == self._looks and not (self._sends_looks and times):
             return

@@ -7,10 +7,12 @@ from itertools import chain
 from share.engine import protocol
 from share.engine.arrivals import NO_NUMBER, NOT_NOW, Arrivals
 from share.engine.editor import Peer
+from share.engine.gaps import Gap, cut_by, rewrite_of
 from share.engine.protocol import Wrong
 from share.engine.shared_text import SharedText
+from share.engine.transform import Transformer
 from share.format.operation import MOST_RANGES, Operation
-from share.program.site import Edited, Site
+from share.program.site import Edited, Rewrite, Site
 from share.sync.session import Session
 from share.text.change import Change
 from share.text.delta import Op
@@ -20,6 +22,8 @@ from share.text.names import Names
 
 # The most time that edits which wait after one another are made before they are kept together.
 TOGETHER_SECONDS = 0.03
+# An edit as it was made: what it is then, its changes, the messages of each, and the number of a refusal.
+Filled = tuple[Op, list[Change], list[list[Operation]], int | None]
 
 
 class EditRequests:
@@ -31,7 +35,7 @@ class EditRequests:
     def make(self, peer: Peer, first: Line, waiting: list[bytes | None]) -> list[tuple[Line, Line]]:
         """Makes an edit, and those that wait after it, and has all be kept at once; the requests with their answers."""
         answers: list[tuple[Line, Line]] = []
-        can_type = self._session.status().can_type
+        can_type = self._session.can_type
 
         def work(site: Site) -> Edited:
             return self._made_one_by_one(peer, first, waiting, site, can_type, answers)
@@ -67,6 +71,7 @@ class EditRequests:
     def _not_kept(self, peer: Peer, first: Line, answers: list[tuple[Line, Line]], fault: Exception) -> list[tuple[Line, Line]]:
         """Shows all what the site has without these edits; the answers."""
         peer.undoing.forget()
+        peer.gap = None
         self._text.take_back()
         self._arrivals.catch_up()
         error = {"error": "unkept", "words": str(fault)} if isinstance(fault, Trouble) else protocol.failure(fault)
@@ -102,26 +107,60 @@ class EditRequests:
         if site is None:
             text.take_out(peer, own, text.measured.as_note())
             return {"edits": edits, "error": "number", "words": NO_NUMBER}, []
-        more, messages = self._make(peer, own, changes, site, request.get("join"))
-        return {"edits": edits, **more}, messages
+        gap, peer.gap = peer.gap, None
+        places = self._places(transformer, changes)
+        if gap and gap.takes(places):
+            own, changes, made, refused = self._type_in(gap, peer, own, changes[0], places, site)
+        else:
+            if len(places) > 1 and text.has_lines(places.start, places.stop - 1):
+                own, changes = self._behind(peer, own, changes[0], places.stop - 1)
+            made = []
+            cut = cut_by(changes, text.measured, site)
+            refused = _made(site, [rewrite_of(one, text.measured) for one in changes], made)
+            peer.gap = cut.gap(made[0], gap) if cut and refused is None else None
+        more = self._show(peer, own, changes, site, request.get("join"), made, refused)
+        return {"edits": edits, **more}, [*chain.from_iterable(made)]
 
-    def _make(self, peer: Peer, own: Op, changes: list[Change], site: Site, join: object) -> tuple[Line, list[Operation]]:
-        """Makes changes that an editor shows already; what the answer has besides, and the messages."""
-        made: list[list[Operation]] = []
-        refused = _made(site, changes, made)
-        messages = [*chain.from_iterable(made)]
+    def _places(self, transformer: Transformer, changes: list[Change]) -> range:
+        """The places at which an edit types that was counted just now, and deletes nothing: before, within or behind what was put
+        there that its editor hasn't seen; none of other edits."""
+        if [one.end - one.begin for one in changes] != [0]:
+            return range(0)
+        begin, measured = changes[0].begin, self._text.measured
+        met = transformer.met()
+        end = measured.place(measured.position(begin, transformer.units) + met, transformer.units) if met else begin
+        return range(begin, end + 1)
+
+    def _behind(self, peer: Peer, own: Op, one: Change, place: int) -> tuple[Op, list[Change]]:
+        """An edit that types behind what it met at its place, or a part of that; and its change."""
+        measured, units = self._text.measured, peer.transformer.units
+        if place > one.begin:
+            own = peer.transformer.moved_behind(measured.position(place, units) - measured.position(one.begin, units))
+        return own, [Change(place, place, one.new)]
+
+    def _type_in(self, gap: Gap, peer: Peer, own: Op, one: Change, places: range, site: Site) -> Filled:
+        """Types in the place of what the editor deleted before. What others put before that stays before it."""
+        edited, place = site.insert_behind(gap.before, one.new, places)
+        return *self._behind(peer, own, one, place), [edited.messages], edited.refused
+
+    def _show(self, peer: Peer, own: Op, changes: list[Change], site: Site, join: object, made: list[list[Operation]],
+              refused: int | None) -> Line:
+        """Shows the others changes that an editor shows already, and that were made; what the answer has besides."""
         if not changes:
-            return {}, messages
-        peer.undoing.made(messages, join if isinstance(join, bool) else _continues_typing(peer, changes))
+            return {}
+        messages = [*chain.from_iterable(made)]
+        old = self._text.measured.slice(changes[0].begin, changes[0].end)
+        key = peer.undoing.made(messages, peer.coalescing.joins(changes, old, join))
         if refused is not None:
             self._text.take_out(peer, own, site.text())
-            return {"error": "refused", "words": str(Refused(refused)), "number": refused}, messages
+            return {"error": "refused", "words": str(Refused(refused)), "number": refused}
         if all(self._text.measured.is_whole(one) for one in changes):
-            self._text.change([(one, _inserted_names(parts)) for one, parts in zip(changes, made)], but=peer)
+            with peer.extents.are_of(key):
+                self._text.change([(one, _inserted_names(parts)) for one, parts in zip(changes, made)], but=peer)
         else:
             self._text.take_out(peer, own, site.text())
         _put_cursor(peer, changes)
-        return {}, messages
+        return {}
 
 
 def _next_edit(waiting: list[bytes | None]) -> Line | None:
@@ -136,20 +175,15 @@ def _next_edit(waiting: list[bytes | None]) -> Line | None:
     return request
 
 
-def _continues_typing(peer: Peer, changes: list[Change]) -> bool:
-    """Whether an edit is typing that goes on where the one before it ended."""
-    return len(changes) == 1 and changes[0].begin == changes[0].end == peer.typed_end
-
-
 def _put_cursor(peer: Peer, changes: list[Change]) -> None:
     """Puts an editor's cursor behind its edit."""
     last = changes[0]
     end = last.begin + len(last.new) + sum(len(one.new) - one.end + one.begin for one in changes[1:])
-    peer.typed_end = end if len(changes) == 1 and last.begin == last.end and not last.new.endswith(b"\r") else None
+    peer.coalescing.ended_at(end, changes)
     peer.cursor, peer.anchor = end if peer.cursor is not None else None, None
 
 
-def _made(site: Site, changes: list[Change], made: list[list[Operation]]) -> int | None:
+def _made(site: Site, changes: list[Rewrite], made: list[list[Operation]]) -> int | None:
     """Makes changes at a site, from the last one to the first, and adds the messages of each; the number of a
     refusal."""
     for edited in _change_by_change(site, changes):
@@ -159,15 +193,18 @@ def _made(site: Site, changes: list[Change], made: list[list[Operation]]) -> int
     return None
 
 
-def _change_by_change(site: Site, changes: list[Change]) -> Iterator[Edited]:
+def _change_by_change(site: Site, changes: list[Rewrite]) -> Iterator[Edited]:
     """What becomes of each change as it is made."""
-    if len(changes) > 1 and all(one.end - one.begin <= MOST_RANGES for one in changes):
-        # None of these stretches can be too scattered for a message.
-        yield from site.replace([(one.begin, one.end, one.new) for one in changes])
+    if len(changes) > 1 and all(one.inside or one.end - one.begin <= MOST_RANGES for one in changes):
+        # None of the stretches that are cut can be too scattered for a message.
+        yield from site.replace(changes)
         return
     for one in changes:
+        if one.inside:
+            yield from site.replace([one])
+            continue
         cut = site.cut(one.begin, one.end) if one.begin < one.end else Edited([])
-        put = site.insert(one.begin, one.new) if one.new and cut.refused is None else Edited([])
+        put = site.insert(one.begin, one.data) if one.data and cut.refused is None else Edited([])
         yield Edited(cut.messages + put.messages, put.refused if cut.refused is None else cut.refused)
 
 

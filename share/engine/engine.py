@@ -2,7 +2,6 @@
 
 docs/ENGINE.md has the protocol. Nothing here reads or writes a line's bytes, or waits for an editor.
 """
-import hashlib
 import time
 from collections.abc import Callable
 from itertools import count
@@ -14,13 +13,15 @@ from share.engine.protocol import Wrong
 from share.engine.shared_note import HANDLERS, SharedNote
 from share.program.site import SLICE
 from share.program.trace import Traced, trace
+from share.store import notes
 from share.sync.session import Session
 from share.text.line import Line
 from share.text.rope import Measured
 
 # The time that one turn spends on taking in what came from others: while editors ask for something, and once none has for a while.
 TAKING_SECONDS, CALM_TAKING_SECONDS, CALM_AFTER_SECONDS = 0.06, 0.25, 2.0
-PALETTE = ("#c0392b", "#2471a3", "#1e8449", "#7d3c98", "#b9770e", "#148f77", "#a04000", "#515a5a", "#ad1457", "#4a6fa5")
+# How long it may be put off while editors type.
+PUT_OFF_SECONDS = 0.05
 
 
 class Engine:
@@ -31,13 +32,16 @@ class Engine:
     in the midst of a call that takes long, so that what editors are sent goes at once.
     """
 
-    def __init__(self, name: str, opens: Callable[[], Session], wake: Callable[[], None], send: Callable[[], None] = lambda: None):
-        self.name, self._opens, self._wake, self._send = name, opens, wake, send
+    def __init__(self, name: str, opens: Callable[[], Session], wake: Callable[[], None], send: Callable[[], None] = lambda: None,
+                 clock: Callable[[], float] = time.monotonic):
+        self.name, self._opens, self._wake, self._send, self._clock = name, opens, wake, send, clock
         self.peers: list[Peer] = []
         self._new_who = count(1).__next__
         self._note: SharedNote | None = None
         # When an editor asked for something last, and how long the last turn took beside taking in what came.
         self._asked = self._beside = 0.0
+        # When what came was taken in last; whether editors asked for something but edits since, and whether that is put off.
+        self._took_in, self._has_asked, self._is_put_off = 0.0, False, False
 
     @property
     def session(self) -> Session | None:
@@ -46,7 +50,7 @@ class Engine:
 
     def joined(self, write: Callable[[bytes], None], waiting: Callable[[], int]) -> Peer:
         """One more editor."""
-        peer = Peer(write, waiting, self._new_who())
+        peer = Peer(write, waiting, self._new_who(), self._clock)
         self.peers.append(peer)
         trace(Traced.EDITOR_JOINED, editors=len(self.peers))
         return peer
@@ -68,6 +72,7 @@ class Engine:
                 for one, made in self._note.edits.make(peer, request, waiting):
                     self._answer(peer, one, made)
                 return
+            self._has_asked = True
             answer = self._done(peer, request)
         except Wrong as why:
             answer = {"error": why.code, "words": str(why), **why.more}
@@ -77,23 +82,37 @@ class Engine:
         if answer is not None:
             self._answer(peer, request, answer)
 
-    def turn(self) -> None:
-        """Takes in what came from others, and sends the editors what is new."""
+    def turn(self, is_called: bool = True) -> None:
+        """Answers, takes in what came from others, and sends the editors what is new. Where nobody but editors that typed called for it
+        it is left at the answers for a moment, so that keys in a row are followed by one look at what came."""
         begin, note = time.monotonic(), self._note
+        if note and not note.arrivals.is_behind:
+            # Nobody waits for what others wrote until his own edit is answered.
+            self._for_each(self._flush)
+            self._send()
+            self._is_put_off = (not (is_called or self._has_asked or note.has_more())
+                                and begin < self._took_in + PUT_OFF_SECONDS)
+            if self._is_put_off:
+                return
         if note:
             note.session.turn_seconds = self._turn_seconds(begin)
             note.take_in()
+        self._for_each(self._flush)
+        if note:
+            self._for_each(note.show)
+            self._took_in, self._has_asked = time.monotonic(), False
+            self._beside = self._took_in - begin - note.session.turn_seconds
+            self._send()
+            note.session.tidy()
+
+    def _for_each(self, work: Callable[[Peer], None]) -> None:
+        """Does something for each editor. Where it fails for one the others go on."""
         for peer in self.peers:
             try:
-                self._flush(peer)
-                if note:
-                    note.show(peer)
+                work(peer)
             except Exception as fault:  # pylint: disable=broad-except
-                # The others go on.
                 peer.send({"notice": "says", "words": f"This editor is left, since something failed ({fault})."})
                 peer.closes = True
-        if note:
-            self._beside = time.monotonic() - begin - note.session.turn_seconds
 
     def _turn_seconds(self, now: float) -> float:
         """How long a turn takes in what came, which is no less than the rest of a turn takes."""
@@ -105,14 +124,16 @@ class Engine:
         return self._note is not None and self._note.has_more()
 
     def is_restless(self) -> bool:
-        """Whether something is to be said soon, though nothing comes."""
-        return self._note is not None and self._note.is_restless() or any(peer.has_cursors_to_show for peer in self.peers)
+        """Whether something is to be done or said soon, though nothing comes."""
+        is_restless = self._is_put_off or self._note is not None and self._note.is_restless()
+        return is_restless or any(peer.has_cursors_to_show for peer in self.peers)
 
     def progress(self, done: int, total: int) -> None:
         """Says how much of a long history is read."""
         if total > SLICE:
             for peer in self.peers:
-                peer.send({"notice": "opening", "done": done, "of": total})
+                if not peer.is_slow:
+                    peer.send({"notice": "opening", "done": done, "of": total})
 
     def close(self) -> None:
         """Closes the note; what isn't sent stays in its file."""
@@ -135,6 +156,7 @@ class Engine:
 
     def _done(self, peer: Peer, request: Line) -> Line | None:
         """Does a request; the answer, or None where that comes later."""
+        peer.see_that_it_is_served()
         what = request.get("do")
         if not isinstance(what, str) or not _is_known(what):
             raise Wrong("unknown", "There is no such request.")
@@ -151,9 +173,11 @@ class Engine:
         if peer.is_open:
             raise Wrong("order", "The note is open already.")
         units = peer.greet(request)
+        if request.get("new") is False and not (self._note or notes.is_here(self.name)):
+            raise Wrong("absent", f"There is no note {self.name} here.")
         if not self._note:
             self._note = self._opened()
-        peer.colour = peer.colour or PALETTE[hashlib.blake2b(peer.token).digest()[0] % len(PALETTE)]
+        self._note.presence.colour(peer)
         peer.open(units)
         return self._note.opened(peer)
 

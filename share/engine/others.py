@@ -81,14 +81,18 @@ class OtherEditors:
         for other in self._others.values():
             typed = bool(names) and change.begin == change.end == other.cursor and all(
                 one.site == other.said.site for one in names or ())
-            other.cursor, other.anchor = (None if place is None else change.moved(place)
-                                          for place in (other.cursor, other.anchor))
-            if typed and other.cursor is not None:
-                other.cursor += len(change.new)
+            if other.cursor is not None:
+                other.cursor, other.anchor = change.moved_both(other.cursor, other.anchor)
+            if typed:
+                other.cursor = change.begin + len(change.new)
 
     def names(self) -> dict[int, str]:
         """What they are called, by their sites."""
         return {other.said.site: other.said.name for other in self._others.values() if other.said.name}
+
+    def colours(self) -> list[str]:
+        """Their colours."""
+        return [other.said.colour for other in self._others.values()]
 
     def people(self) -> list[Line]:
         """Who they are."""

@@ -6,8 +6,10 @@ takes the engine from the others.
 """
 import contextlib
 import fcntl
+import math
 import os
 import pathlib
+import resource
 import select
 import selectors
 import signal
@@ -19,6 +21,7 @@ from collections.abc import Callable, Iterator
 from share.engine.editor import Peer
 from share.engine.engine import Engine
 from share.format.link import Link
+from share.log.bell import Bell
 from share.log.folder import make_folder
 from share.store import notes, read_only
 from share.sync.session import Bar, Session
@@ -31,11 +34,16 @@ START_SECONDS, TRY_SECONDS = 60, 0.01
 FIRST_EDITOR_SECONDS = 10
 # The longest time between two turns: where nothing comes, and where editors send without a pause or are to be told something soon.
 RESTING_SECONDS, PRESSED_SECONDS = 0.5, 0.05
-MOST_FILES = 1_024
+# The descriptors that an engine keeps for its note, the log and the program; and how many editors more than it then serves are told so at
+# once, while others wait.
+OWN_FILES, TOLD_AT_ONCE = 120, 16
+# More editors aren't served, however many the system allows.
+MOST_EDITORS = 10_000
 # The most bytes that a pipe which takes something takes without making the writer wait.
 OF_A_PIPE = 4_096
-# The most lines of an editor that wait to be done, before no more is read.
-MOST_UNDONE = 1_000
+# The most lines of an editor that wait to be done, before no more is read; and the most bytes that wait for it to read, and
+# requests that are being done, before no more is done for it.
+MOST_UNDONE, MOST_UNREAD, MOST_PENDING = 1_000, 32 << 20, 16
 CREDENTIALS = struct.Struct("iII")
 ServerOpens = Callable[[Bar, Callable[[], None]], Session]
 
@@ -116,12 +124,26 @@ def _started(name: str, opens: ServerOpens) -> int:
         for standard in range(3):
             os.dup2(nothing, standard)
         # Nobody who waits for the end of a file that the editor has open is to wait for the engine's.
-        os.closerange(3, MOST_FILES)
+        os.closerange(3, max(map(int, os.listdir("/proc/self/fd"))) + 1)
+        _allow_files()
         serve(name, opens)
         status = 0
     finally:
         # What the relay has to do at its end isn't the engine's.
         os._exit(status)
+
+
+def _allow_files() -> None:
+    """Lets this process have as many descriptors as it may have: each editor takes one."""
+    _, most = resource.getrlimit(resource.RLIMIT_NOFILE)
+    with contextlib.suppress(OSError, ValueError):
+        resource.setrlimit(resource.RLIMIT_NOFILE, (most, most))
+
+
+def _most_editors() -> int:
+    """How many editors an engine in this process can serve."""
+    files, _ = resource.getrlimit(resource.RLIMIT_NOFILE)
+    return MOST_EDITORS if files == resource.RLIM_INFINITY else max(1, min(files - OWN_FILES, MOST_EDITORS))
 
 
 def serve(name: str, opens: ServerOpens) -> None:
@@ -157,19 +179,26 @@ class Connection:
     def __init__(self, end: socket.socket):
         self.end = end
         self.out, self._assembler = bytearray(), Assembler()
-        # Whether nothing more comes, and whether nothing can be sent either.
+        # Whether nothing more comes, and whether nothing can be sent: what has come is done all the same.
         self.has_ended = self.is_broken = False
+        # What the server waits for there.
+        self.watched = 0
         # Lines that came and wait to be done; None is one that was too long.
         self.lines: list[bytes | None] = []
         end.setblocking(False)
 
     def write(self, data: bytes) -> None:
-        """Sends bytes, now or as soon as the editor reads."""
-        self.out += data
+        """Sends bytes, now or as soon as the editor reads, if it does."""
+        if not self.is_broken:
+            self.out += data
 
     def waiting(self) -> int:
         """How many bytes the editor hasn't read."""
         return len(self.out)
+
+    def is_stuck(self) -> bool:
+        """Whether it asks for more than it reads."""
+        return len(self.out) > MOST_UNREAD
 
     def send(self) -> None:
         """Sends as much as the editor takes."""
@@ -180,7 +209,7 @@ class Connection:
             pass
         except OSError:
             self.out.clear()
-            self.has_ended = self.is_broken = True
+            self.is_broken = True
 
     def receive(self) -> None:
         """Reads what has come."""
@@ -195,20 +224,20 @@ class Connection:
 
 
 class Server:
-    """An engine with its editors' connections. The thread that calls `run` is the engine's; `_wake` may be called by any, and by a
+    """An engine with its editors' connections. The thread that calls `run` is the engine's; any may ring the bell, and so may a
     signal."""
 
     def __init__(self, name: str, opens: ServerOpens):
         self._name = name
-        self._woken, self._waking = os.pipe()
-        os.set_blocking(self._woken, False)
-        os.set_blocking(self._waking, False)
-        self._engine = Engine(name, lambda: opens(self._progress, self._wake), self._wake, self._send_now)
+        self._bell = Bell()
+        self._engine = Engine(name, lambda: opens(self._progress, self._bell.ring), self._bell.ring, self._send_now)
         self._editors: dict[Connection, Peer] = {}
         self._selector = selectors.DefaultSelector()
-        self._selector.register(self._woken, selectors.EVENT_READ)
+        self._selector.register(self._bell, selectors.EVENT_READ)
         self._listener = socket.socket(socket.AF_UNIX, socket.SOCK_STREAM)
         self._stops = False
+        # How many editors it serves, and when it takes on more again, where the system has no descriptor for one now.
+        self._most, self._takes_on = _most_editors(), -math.inf
 
     def run(self) -> None:
         """Serves editors until the last one has left."""
@@ -222,12 +251,20 @@ class Server:
                 if self._editors:
                     end = 0
         finally:
-            self._listener.close()
-            self._engine.close()
+            self._close()
+
+    def _close(self) -> None:
+        """Closes all that is open. An editor that is still connected sees that the engine has ended."""
+        self._listener.close()
+        self._engine.close()
+        for editor in self._editors:
+            editor.end.close()
+        self._selector.close()
+        self._bell.close()
 
     def _stop(self) -> None:
         self._stops = True
-        self._wake()
+        self._bell.ring()
 
     def _is_left_alone(self) -> bool:
         """Stops listening, unless somebody has come in this moment; whether nobody has. Whoever comes later starts another engine,
@@ -236,7 +273,7 @@ class Server:
             os.unlink(path)
         self._accept()
         if self._editors:
-            self._selector.unregister(self._listener)
+            self._watch_listener(False)
             self._listener.close()
             self._listener = socket.socket(socket.AF_UNIX, socket.SOCK_STREAM)
             self._listen()
@@ -255,7 +292,15 @@ class Server:
             self._listener.listen()
             self._listener.setblocking(False)
             os.replace(fresh, path)
-        self._selector.register(self._listener, selectors.EVENT_READ)
+        self._watch_listener(True)
+
+    def _watch_listener(self, watches: bool) -> None:
+        """Watches whether somebody comes, or doesn't as long as nobody can be taken on."""
+        if watches != (self._listener in self._selector.get_map()):
+            if watches:
+                self._selector.register(self._listener, selectors.EVENT_READ)
+            else:
+                self._selector.unregister(self._listener)
 
     def _progress(self, done: int, total: int) -> None:
         """Tells editors how far a long history is read: as the note is opened, and where much comes at once."""
@@ -267,45 +312,53 @@ class Server:
         for editor in [*self._editors]:
             editor.send()
 
-    def _wake(self) -> None:
-        with contextlib.suppress(BlockingIOError):
-            os.write(self._waking, b"!")
-
     def _turn(self) -> None:
         for editor in self._editors:
             self._wait_for(editor)
-        goes_on = self._engine.has_more() or any(editor.lines for editor in self._editors)
+        self._watch_listener(self._has_room() and time.monotonic() >= self._takes_on)
+        goes_on = self._engine.has_more() or any(self._has_to_do(*each) for each in self._editors.items())
         seconds = 0 if goes_on else PRESSED_SECONDS if self._engine.is_restless() else RESTING_SECONDS
-        for key, events in self._selector.select(seconds):
+        found = self._selector.select(seconds)
+        for key, events in found:
             if key.fileobj is self._listener:
                 self._accept()
-            elif key.fileobj == self._woken:
-                with contextlib.suppress(BlockingIOError):
-                    os.read(self._woken, PIECE)
+            elif key.fileobj is self._bell:
+                self._bell.silence()
             elif events & selectors.EVENT_READ:
                 key.data.receive()
         self._do_lines()
-        self._engine.turn()
+        self._engine.turn(is_called=not all(key.data for key, _ in found) or not found)
         self._send()
 
     def _wait_for(self, editor: Connection) -> None:
         """Watches whether an editor sends something, or takes something, so that the next turn begins then."""
         # What is sent faster than it is done is read later.
-        reads = not editor.has_ended and len(editor.lines) < MOST_UNDONE
+        reads = not (editor.has_ended or editor.is_stuck()) and len(editor.lines) < MOST_UNDONE
         wanted = (selectors.EVENT_READ if reads else 0) | (selectors.EVENT_WRITE if editor.out else 0)
-        known = self._selector.get_map().get(editor.end.fileno())
-        if known and known.events == wanted:
+        if wanted == editor.watched:
             return
-        if known:
+        if editor.watched:
             self._selector.unregister(editor.end)
         if wanted:
             self._selector.register(editor.end, wanted, editor)
+        editor.watched = wanted
+
+    def _has_room(self) -> bool:
+        """Whether somebody can be taken on, be it to be told that he is one too many."""
+        return len(self._editors) < self._most + TOLD_AT_ONCE
 
     def _accept(self) -> None:
         """Takes on all who have come."""
-        with contextlib.suppress(OSError):
-            while True:
-                self._take_on(self._listener.accept()[0])
+        while self._has_room():
+            try:
+                end = self._listener.accept()[0]
+            except BlockingIOError:
+                return
+            except OSError:
+                # Whoever waits is taken on later.
+                self._takes_on = time.monotonic() + RESTING_SECONDS
+                return
+            self._take_on(end)
 
     def _take_on(self, end: socket.socket) -> None:
         _, user, _ = CREDENTIALS.unpack(end.getsockopt(socket.SOL_SOCKET, socket.SO_PEERCRED, CREDENTIALS.size))
@@ -313,13 +366,20 @@ class Server:
             end.close()
             return
         editor = Connection(end)
-        self._editors[editor] = self._engine.joined(editor.write, editor.waiting)
+        self._editors[editor] = peer = self._engine.joined(editor.write, editor.waiting)
+        if len(self._editors) > self._most:
+            peer.refuse(f"The note {self._name} is open in {self._most:,} editors, as many as this system lets it be. Quit one of them.")
+
+    @staticmethod
+    def _has_to_do(editor: Connection, peer: Peer) -> bool:
+        """Whether lines of an editor wait that may be done now."""
+        return bool(editor.lines) and not editor.is_stuck() and peer.waits < MOST_PENDING
 
     def _do_lines(self) -> None:
         """Does what has come, editor by editor, until it is time to take in what came from others."""
         end = time.monotonic() + PRESSED_SECONDS
         while time.monotonic() < end:
-            waiting = [editor for editor in self._editors if editor.lines]
+            waiting = [editor for editor, peer in self._editors.items() if self._has_to_do(editor, peer)]
             if not waiting:
                 break
             for editor in waiting:
@@ -329,9 +389,9 @@ class Server:
         for editor, peer in [*self._editors.items()]:
             editor.send()
             is_done = not (editor.lines or editor.out or peer.waits)
-            if editor.is_broken or is_done and (editor.has_ended or peer.closes):
+            if is_done and (editor.has_ended or peer.closes):
                 del self._editors[editor]
-                if editor.end.fileno() in self._selector.get_map():
+                if editor.watched:
                     self._selector.unregister(editor.end)
                 editor.end.close()
                 self._engine.left(peer)

@@ -87,12 +87,16 @@ class SharedNote:
 
     def close(self) -> None:
         """Closes the note; what isn't sent stays in its file."""
-        self.history.close()
-        self.session.close()
+        try:
+            self.history.close()
+        finally:
+            self.session.close()
 
 
 def _seen(peer: Peer, request: Line) -> Line:
-    peer.transformer.seen(protocol.number(request, "version"))
+    version = protocol.number(request, "version")
+    if not peer.transformer.is_past(version):
+        peer.transformer.seen(version)
     return {}
 
 
@@ -103,8 +107,8 @@ def _send_text(peer: Peer, request: Line) -> Line:
 
 # What an editor that has opened the note may ask for, but for edits; None is answered later.
 HANDLERS: dict[str, Callable[[SharedNote, Peer, Line], Line | None]] = {
-    "undo": lambda note, peer, _: note.by_name.undo(peer, redo=False),
-    "redo": lambda note, peer, _: note.by_name.undo(peer, redo=True),
+    "undo": lambda note, peer, request: note.by_name.undo(peer, False, request),
+    "redo": lambda note, peer, request: note.by_name.undo(peer, True, request),
     "looks": lambda note, peer, request: note.by_name.look(peer, request),
     "cursor": lambda note, peer, request: note.presence.cursor(peer, request),
     "seen": lambda _, peer, request: _seen(peer, request),

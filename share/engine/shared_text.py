@@ -26,14 +26,26 @@ class SharedText:
         # What undoes the changes that may turn out not to be kept, in the order of these; None where there are none.
         self._inverse: list[Change] | None = None
 
-    def place(self, peer: Peer, position: int) -> int:
-        """The place in bytes of a position in an editor's text."""
+    def place(self, peer: Peer, position: int, behind: bool = False) -> int:
+        """The place in bytes of a position in an editor's text, before or behind what came in there."""
         try:
-            return self.measured.place(peer.transformer.position(position), peer.transformer.units)
+            return self.measured.place(peer.transformer.position(position, behind), peer.transformer.units)
         except OutsideText as why:
             raise Wrong("outside", f"Position {position} is outside the text.") from why
         except Split as why:
             raise Wrong("split", f"Position {position} is inside a character.") from why
+
+    def has_lines(self, begin: int, end: int) -> bool:
+        """Whether a stretch begins at a line's begin and ends in a line end: what is at its begin for who doesn't know of it yet goes
+        behind it."""
+        new = Change(begin, begin, self.measured.slice(begin, end))
+        new.look(self.measured.slice(max(0, begin - 1), begin), self.measured.size - len(new.new))
+        return new.opens_line
+
+    def cursor(self, peer: Peer, position: int) -> int:
+        """The place of a cursor in an editor's text: at a line's begin that of the line."""
+        place, last = self.place(peer, position), self.place(peer, position, behind=True)
+        return last if self.has_lines(place, last) else place
 
     def changes_of(self, op: Op, units: Units) -> list[Change]:
         """The changes of an op in the note's bytes, from the last one to the first."""
@@ -74,6 +86,7 @@ class SharedText:
         """Shows what the site's text has become, perhaps because one of the editors asked for that."""
         if not isinstance(told, list):
             self.become(told)
+        if not told or not isinstance(told, list):
             return
         named = [(one, [] if not one.new else [one.names] if one.names else None) for one in told]
         self.change(named, undoes=undoes)
@@ -111,7 +124,8 @@ class SharedText:
         return begin, end, units.encode(readable(swapped(whole.new)))
 
     def _move(self, one: Change, names: list[Names] | None) -> None:
-        """Moves all places along with a change."""
+        """Moves all places along with a change that was made."""
+        one.look(self.measured.slice(max(0, one.begin - 1), one.begin), self.measured.size - len(one.new) + one.end - one.begin)
         for follow in self._followers:
             follow(one, names)
         for peer in self._peers:

@@ -8,11 +8,15 @@ it otherwise; its next edit names the version in which it was made, and so says 
 from collections.abc import Sequence
 
 from share.engine.protocol import Wrong
-from share.text.delta import NOTHING, Op, all_composed, growth, in_turn, moved, of_changes, transformed
+from share.text.delta import NOTHING, Op, all_composed, brought_to, growth, in_turn, moved, of_changes, transformed
 from share.text.units import Units
 
-# The most notices that are kept because an editor may not have taken them over.
+# The most notices that are kept one by one because an editor may not have taken them over.
 MOST_SENT = 2_000
+# The most notices, and bytes of them, that an editor may leave before it is sent the text.
+MOST_LEFT, MOST_LEFT_BYTES = 10_000, 32 << 20
+# What a number of an op takes, about, as bytes of it do.
+NUMBER_BYTES = 8
 
 
 class Transformer:
@@ -27,6 +31,12 @@ class Transformer:
         # What was sent since and may have been taken over, by version; and what wasn't sent.
         self._sent: list[tuple[int, Op]] = []
         self._unsent: list[Op] = []
+        # The version since which all is kept, how much of it wasn't sent, and how many bytes it has.
+        self._since = self._came = self._bytes = 0
+        # Whether it had left too much, and hasn't been sent the text since.
+        self.has_left_much = False
+        # The last edit, and what the engine's text had then that the editor's hadn't.
+        self._last: tuple[Op, Op] = NOTHING, NOTHING
 
     @property
     def is_void(self) -> bool:
@@ -34,10 +44,16 @@ class Transformer:
         return self._had is None and not self._sent
 
     def changed(self, op: Op) -> None:
-        """Takes over a change of the engine's text, which is to be sent."""
-        if op:
-            self._unsent.append(op)
-        if len(self._unsent) > MOST_SENT:
+        """Takes over a change of the engine's text, which is to be sent; with the text, where that is."""
+        if self.is_void or not op:
+            return
+        self._unsent.append(op)
+        self._came += 1
+        self._bytes += _size(op)
+        if self.version - self._since + self._came > MOST_LEFT or self._bytes > MOST_LEFT_BYTES:
+            self.void(self.edits)
+            self.has_left_much = True
+        elif len(self._unsent) > MOST_SENT:
             self._unsent = [all_composed(self._unsent, self.units)]
 
     def has_news(self) -> bool:
@@ -47,7 +63,7 @@ class Transformer:
 
     def send(self) -> Sequence[tuple[int, int, bytes]]:
         """The changes that are to be sent, as a new version."""
-        op, self._unsent = all_composed(self._unsent, self.units), []
+        op, self._unsent, self._came = all_composed(self._unsent, self.units), [], 0
         self._send(op)
         return in_turn(op, self.units)
 
@@ -57,6 +73,7 @@ class Transformer:
         return self.version
 
     def _send(self, op: Op) -> None:
+        self._last = NOTHING, NOTHING
         self.version += 1
         self._sent.append((self.version, op))
         if len(self._sent) > MOST_SENT:
@@ -70,7 +87,13 @@ class Transformer:
     def send_text(self) -> None:
         """Notes that the whole text is sent, as a new version."""
         self.version += 1
-        self._sent, self._unsent = [(self.version, NOTHING)], []
+        self._sent, self._unsent, self.has_left_much = [(self.version, NOTHING)], [], False
+        self._keeps_since(self.version)
+
+    def _keeps_since(self, version: int) -> None:
+        """Notes that all is kept since a version."""
+        self._since, self._came = version, len(self._unsent)
+        self._bytes = sum(map(_size, self._unsent)) + sum(_size(op) for _, op in self._sent)
 
     def void(self, edits: int) -> None:
         """Notes that it isn't known what the editor shows, and how many edits it has made."""
@@ -82,14 +105,19 @@ class Transformer:
         if place is not None:
             self._had = version
             del self._sent[:place + 1]
-        elif self._had is None and version <= self.version:
+            self._keeps_since(version)
+        elif self.is_past(version):
             raise Wrong("stale", "This was made before the text was taken over that was sent.")
         elif version != self._had:
             raise Wrong("version", f"There is no version {version} that this editor can have.")
 
-    def position(self, position: int) -> int:
-        """Where a position of the editor's text is in the engine's."""
-        return moved(position, self._pending(), self.units)
+    def is_past(self, version: int) -> bool:
+        """Whether an editor that has this version is sent the text, so that where something is in it isn't known any more."""
+        return self._had is None and version <= self.version and all(sent != version for sent, _ in self._sent)
+
+    def position(self, position: int, behind: bool = False) -> int:
+        """Where a position of the editor's text is in the engine's, before or behind what came in there."""
+        return moved(position, self._pending(), self.units, behind)
 
     def edit(self, version: int, changes: Sequence[tuple[int, int, str]], length: int) -> tuple[Op, Op]:
         """An edit that was made in a version, transformed for the engine's text, whose length in units is given; and what is to
@@ -97,12 +125,26 @@ class Transformer:
         self.seen(version)
         pending = self._pending()
         own = self._own(changes, length - growth(pending, self.units))
+        self._last = own, pending
         return transformed(own, pending, self.units)
 
     def edited(self, left: Op) -> None:
         """Counts the edit as the editor's next one; what it has yet to take over then is given."""
         self._sent, self._unsent = [], [left] if left else []
         self.edits += 1
+
+    def met(self) -> int:
+        """How many units the last edit met at its place, where it is one insertion and was counted just now."""
+        # What is to be sent counts in the editor's text, after its edit.
+        ends = [begin + self.units.count(data) for begin, _, data in in_turn(self._last[0], self.units) if data]
+        return sum(brought_to(ends[-1], op, self.units) for op in self._unsent)
+
+    def moved_behind(self, many: int) -> Op:
+        """Has what the last edit, which was counted just now, inserted stand behind so many units of what it met at its place; the
+        edit then."""
+        own, left = transformed(*self._last, self.units, many)
+        self._unsent = [left] if left else []
+        return own
 
     def _pending(self) -> Op:
         """What the engine's text has that the editor's hasn't."""
@@ -121,3 +163,8 @@ class Transformer:
             found.append((begin, end, data))
             length += self.units.count(data) - (end - begin)
         return of_changes(found, self.units)
+
+
+def _size(op: Op) -> int:
+    """How many bytes an op takes, about."""
+    return sum(len(part) if isinstance(part, bytes) else NUMBER_BYTES for part in op)

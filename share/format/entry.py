@@ -39,7 +39,7 @@ import hashlib
 import secrets
 import struct
 from abc import ABC, abstractmethod
-from collections.abc import Callable, Sequence
+from collections.abc import Sequence
 from enum import IntEnum
 from functools import lru_cache
 from typing import NamedTuple
@@ -80,14 +80,15 @@ class Kind(IntEnum):
 KINDS = {int(kind): kind for kind in Kind if kind is not Kind.NEWER}
 SAY_WHAT_THEY_BUILD_ON = (Kind.BUILDING, Kind.CHUNK_BUILDING)
 CHUNKS, ONE_BY_ONE = (Kind.CHUNK, Kind.CHUNK_BUILDING), (Kind.MESSAGES, Kind.BUILDING)
+WITH_MESSAGES = frozenset((*CHUNKS, *ONE_BY_ONE))
 # What says what became of messages or of the note, and is in no chain; and what doesn't show that its author goes on under
 # the number.
 SAY_WHAT_BECAME = (Kind.ANEW, Kind.COPIES, Kind.RENEWED)
 NOT_UNDER_A_NUMBER = (Kind.CLAIM, *SAY_WHAT_BECAME)
 # The most bytes that are said of a renewed note.
 LONGEST_SAID = 200
-# The hashes of the entries that were made, or came, last: of this many bytes of them.
-MOST_HASHED = 2**17
+# The hashes of the entries that were made, or came, last: of this many bytes of them, where fewer came at once.
+MOST_HASHED, MANY = 2**17, 200
 _hashes = Latest[bytes](MOST_HASHED)
 
 
@@ -274,13 +275,11 @@ class Form(ABC):
         """The author of such an entry."""
         return raw[HEAD.size:HEAD.size + self.author_bytes]
 
-    def open_many(self, raws: Sequence[bytes], hashes: Sequence[bytes] = (),
-                  check: "Callable[[Entry], object] | None" = None) -> list["Entry | Bad"]:
-        """What each of these bytes are, whose hashes may be known. What has the right form is checked in their order, by `check_entry`
-        or by what finds the same wrong."""
-        return [_as_checked(one, check or check_entry) for one in self._formed([*zip(raws, hashes or map(digest, raws), strict=True)])]
+    def open_many(self, raws: Sequence[bytes]) -> list["Entry | Bad"]:
+        """What each of these bytes are."""
+        return [_as_checked(one) for one in self.formed([(raw, digest(raw)) for raw in raws])]
 
-    def _formed(self, raws: Sequence[tuple[bytes, bytes]]) -> list["Entry | Bad"]:
+    def formed(self, raws: Sequence[tuple[bytes, bytes]]) -> list["Entry | Bad"]:
         """The entries of bytes and their hashes, whose messages nobody has looked at."""
         return [self._as_formed(*one) for one in raws]
 
@@ -333,6 +332,19 @@ class Plain(Form):
     def body(self, raw: bytes) -> bytes:
         return raw[HEAD.size + self.author_bytes:-DIGEST_BYTES]
 
+    def formed(self, raws: Sequence[tuple[bytes, bytes]]) -> list[Entry | Bad]:
+        # Nearly all are chunks, which are opened in one step here: a call for each of its parts takes most of the time.
+        begins, body, kind = bytes([self.number, Kind.CHUNK]) + self.note, HEAD.size + self.author_bytes, Kind.CHUNK
+        found = list[Entry | Bad]()
+        for raw, of in raws:
+            if raw.startswith(begins) and body + DIGEST_BYTES <= len(raw) <= MOST_BYTES and (
+                    hashlib.blake2b(raw[:-DIGEST_BYTES], digest_size=DIGEST_BYTES).digest() == raw[-DIGEST_BYTES:]):
+                _, _, _, site, first, count, before = HEAD.unpack_from(raw)
+                found.append(Entry(kind, site, first, count, before, raw[HEAD.size:body], b"", raw[body:-DIGEST_BYTES], raw, of))
+            else:
+                found.append(self._as_formed(raw, of))
+        return found
+
     def _unsigned(self, head: bytes, body: bytes) -> bytes:
         return head + body + _short_digest(head + body)
 
@@ -364,6 +376,13 @@ def digest(raw: bytes) -> bytes:
         if len(raw) <= MOST_BYTES:
             _hashes.put(raw, found)
     return found
+
+
+def digests(raws: Sequence[bytes]) -> list[bytes]:
+    """The hashes of entries' bytes. Where they are many nobody remembers them, since each would take another one's place."""
+    if len(raws) <= MANY:
+        return [*map(digest, raws)]
+    return [hashlib.blake2b(raw, digest_size=32).digest() for raw in raws]
 
 
 def _hashed(raw: bytes) -> bytes:
@@ -420,11 +439,11 @@ def _check_copies(entry: Entry) -> None:
         raise Bad("speaks of copies of others")
 
 
-def _as_checked(entry: Entry | Bad, check: Callable[[Entry], object]) -> Entry | Bad:
-    """An entry, or what a check finds wrong with it."""
+def _as_checked(entry: Entry | Bad) -> Entry | Bad:
+    """An entry, or what is wrong with it."""
     try:
         if not isinstance(entry, Bad):
-            check(entry)
+            check_entry(entry)
         return entry
     except Bad as why:
         return why

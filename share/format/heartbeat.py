@@ -1,9 +1,12 @@
 """What a replicator says of itself through a log: that it is on, and which entries it lacks.
 
-It says two things. One is what versions of before say and hear: a token, and how often it has asked. They read
-the whole log for it. The other one, of a length that those versions pass over, has besides which entries are lacked: by
-their hashes, or by that of the entry before them. Who has just these gives them again. Since a token of this version
-ends in zeros, the first of the two is known to be said for versions of before alone.
+A heartbeat has a token, a count that only rises, how often its replicator has asked, and for which entries: by their
+hashes, or by that of the entry before them. Who has just these gives them again. It also says how its replicator hears
+others, so that what goes by a log's channel goes by its table too while somebody is on who hears nothing else: who can't
+reach the channel, or a version of before, whose heartbeats have a zero there.
+
+In the table a second thing is said, for the versions before those: a token, and how often it has asked. They read the
+whole log for it. Since a token of this version ends in zeros, that is known to be said for them alone.
 """
 import secrets
 import struct
@@ -19,6 +22,7 @@ SAID_HEAD, LACK = struct.Struct(">16sII"), struct.Struct(">B32s")
 MOST_LACKS = 5
 # No version of before takes anything of this length for something that it knows, and it fits when it is sealed.
 BYTES = 216
+HEARS_AT = SAID_HEAD.size + MOST_LACKS * LACK.size
 
 
 class Way(IntEnum):
@@ -26,6 +30,16 @@ class Way(IntEnum):
 
     IT = 1
     AFTER = 2
+
+
+class Hears(IntEnum):
+    """How a replicator hears others: by the table alone; by the channel; by the channel from now on, so that others are to
+    say again what they show; or no more, since it leaves."""
+
+    TABLE = 0
+    CHANNEL = 1
+    CHANNEL_FROM_NOW = 2
+    NOTHING = 3
 
 
 class Lack(NamedTuple):
@@ -42,11 +56,17 @@ class Said(NamedTuple):
     number: int
     asks: int
     lacks: Sequence[Lack]
+    hears: Hears = Hears.TABLE
 
 
 def new_token() -> bytes:
     """A token that nobody else has."""
-    return secrets.token_bytes(RANDOM_BYTES).ljust(TOKEN_BYTES, b"\0")
+    return token_of(secrets.token_bytes(RANDOM_BYTES))
+
+
+def token_of(begin: bytes) -> bytes:
+    """The token that begins so."""
+    return begin.ljust(TOKEN_BYTES, b"\0")
 
 
 def is_of_now(token: bytes) -> bool:
@@ -58,14 +78,15 @@ def heartbeat_of(one: Said) -> bytes:
     """What a replicator says, as bytes."""
     lacks = b"".join(LACK.pack(*lack) for lack in one.lacks[:MOST_LACKS])
     # Of one length, so that a server's operator can't tell who lacks something.
-    return (SAID_HEAD.pack(one.token, one.number, one.asks) + lacks).ljust(BYTES, b"\0")
+    return (SAID_HEAD.pack(one.token, one.number, one.asks) + lacks.ljust(HEARS_AT - SAID_HEAD.size, b"\0") + bytes([one.hears])
+            ).ljust(BYTES, b"\0")
 
 
 def read_heartbeat(data: bytes) -> Said | None:
     """What a replicator has said; None where these bytes are something else."""
     if len(data) != BYTES:
         return None
-    ways, end = {int(way): way for way in Way}, SAID_HEAD.size + MOST_LACKS * LACK.size
-    lacks = [Lack(ways[way], of) for way, of in LACK.iter_unpack(data[SAID_HEAD.size:end]) if way in ways]
+    ways, hears = {int(way): way for way in Way}, {int(one): one for one in Hears}
+    lacks = [Lack(ways[way], of) for way, of in LACK.iter_unpack(data[SAID_HEAD.size:HEARS_AT]) if way in ways]
     token, number, asks = SAID_HEAD.unpack_from(data)
-    return Said(token, number, asks, lacks)
+    return Said(token, number, asks, lacks, hears.get(data[HEARS_AT], Hears.TABLE))

@@ -1,8 +1,10 @@
 """A note's link: all that a person needs to join it, but the log's password. Who has the link of a sealed note has
 its key.
 
-It is spelled `vialshoal:1:s:SECRET@URL`, with a `p` in place of the `s` for a plain note. SECRET is base64url of
-the secret and of four bytes that tell a link that was mistyped from another note's.
+It is spelled `vialshoal:1.1:s:SECRET@URL`, with a `p` in place of the `s` for a plain note. SECRET is base64url of
+the secret and of a checksum of all of the link, so that one that was cut short or mistyped is told. In a link of before, which
+has a `1` in place of the `1.1`, the checksum is of the secret alone. The 1 is the form of the note, and .1 the spelling of its link: a
+later form of notes begins at 2.
 """
 import base64
 import binascii
@@ -19,7 +21,10 @@ FORMS: dict[str, FormName] = {"p": "plain", "s": "sealed"}
 # A sealed note's secret is its key, a plain note's its identity.
 SECRET_BYTES: dict[FormName, int] = {"plain": 16, "sealed": 32}
 CHECK_BYTES = 4
-LINK = re.compile(r"vialshoal:1:([ps]):([A-Za-z0-9_-]+)@(.+)")
+# The spellings of a link: the one whose checksum has the URL, too, and that of before.
+CHECKED, UNCHECKED = "1.1", "1"
+LINK = re.compile(r"vialshoal:(1\.1|1):([ps]):([A-Za-z0-9_-]+)@(.+)")
+NEWER_LINK = re.compile(r"vialshoal:(?!1:|1\.1:)[0-9.]+:.+")
 SERVER = re.compile(r"([A-Za-z0-9.-]+|\[[0-9A-Fa-f:.]+\]):([0-9]{1,5})/?")
 # What a server's URL looks like where something of it was left out, so that no file is made by a slip.
 NEARLY = re.compile(r"(rediss?|unix|file|https?):.*|[A-Za-z0-9.-]+:[0-9]{1,5}", re.IGNORECASE)
@@ -38,25 +43,27 @@ class Link(NamedTuple):
         # Where it is printed by mistake, the secret isn't.
         return f"Link({self.form!r}, url={self.url!r})"
 
-    def spelled(self) -> str:
+    def spelled(self, spelling: str = CHECKED) -> str:
         """The link as text."""
-        checked = base64.urlsafe_b64encode(self.secret + _check(self.form, self.secret))
-        return f"vialshoal:1:{self.form[0]}:{checked.rstrip(b'=').decode()}@{self.url}"
+        checked = base64.urlsafe_b64encode(self.secret + _check(spelling, self.form, self.secret, self.url))
+        return f"vialshoal:{spelling}:{self.form[0]}:{checked.rstrip(b'=').decode()}@{self.url}"
 
 
 def read_link(text: str) -> Link:
     """The link that is spelled so, with space around it or none."""
+    if NEWER_LINK.fullmatch(text.strip()):
+        raise Trouble("That link is of a newer version of Vialshoal, which its note needs.")
     found = LINK.fullmatch(text.strip())
     if not found:
-        raise Trouble("That isn't a note's link, which begins with vialshoal:1: and ends with its log's URL. "
+        raise Trouble("That isn't a note's link, which begins with vialshoal:1.1: and ends with its log's URL. "
                       "Copy it whole, in one line.")
-    form = FORMS[found[1]]
-    secret = _secret(form, found[2])
-    link = Link(form, secret, url_of(found[3]))
+    form = FORMS[found[2]]
+    secret = _secret(found[1], form, found[3], found[4])
+    link = Link(form, secret, url_of(found[4]))
     if form == "plain" and is_network(link.url):
         raise Trouble("That link has a plain note on a server, and nothing goes to a server unsealed. Ask who "
                       "sent it for another one.")
-    if link.spelled() != text.strip():
+    if link.spelled(found[1]) != text.strip():
         raise Trouble("That link isn't spelled as bin/note link prints it. Copy it whole, in one line.")
     return link
 
@@ -109,19 +116,23 @@ def _refuse_passwords(rest: str) -> None:
                       "VIALSHOAL_PASSWORD.")
 
 
-def _secret(form: FormName, spelled: str) -> bytes:
+def _secret(spelling: str, form: FormName, spelled: str, url: str) -> bytes:
     size = SECRET_BYTES[form]
     try:
         data = base64.urlsafe_b64decode(spelled + "=" * (-len(spelled) % 4))
     except binascii.Error:
         data = b""
-    if len(data) != size + CHECK_BYTES or data[size:] != _check(form, data[:size]):
+    if len(data) != size + CHECK_BYTES or data[size:] != _check(spelling, form, data[:size], url):
         raise Trouble("That link has a mistake in it, or was cut short. Copy it whole, in one line.")
     return data[:size]
 
 
-def _check(form: FormName, secret: bytes) -> bytes:
-    return hashlib.blake2b(secret, digest_size=CHECK_BYTES, person=f"vialshoal {form[0]}".encode()).digest()
+def _check(spelling: str, form: FormName, secret: bytes, url: str) -> bytes:
+    """The checksum of a link: of what it has after its form, as it is spelled."""
+    if spelling == UNCHECKED:
+        return hashlib.blake2b(secret, digest_size=CHECK_BYTES, person=f"vialshoal {form[0]}".encode()).digest()
+    return hashlib.blake2b(secret + url.encode(), digest_size=CHECK_BYTES,
+                           person=f"vialshoal {form[0]} {spelling}".encode()).digest()
 
 
 def is_network(url: str) -> bool:

@@ -20,6 +20,7 @@ FORM = struct.Struct(">16s16sH3sBHIHI")
 # All that is said has this many bytes at most.
 MOST_PRESENCE = 256
 MOST_NAME, MOST_NAME_BYTES = 40, 160
+LEAVING_BYTES = FORM.size + MOST_NAME_BYTES + 1
 # What a name doesn't have: controls, and what turns the direction of writing for all that follows.
 _NO_NAME = re.compile("[\0-\x1f\x7f-\x9f\u061c\u200e\u200f\u2028-\u202e\u2066-\u2069\ud800-\udfff]")
 HAS_CURSOR, HAS_ANCHOR = 1, 2
@@ -74,3 +75,13 @@ def _is_place(place: NamedPlace) -> bool:
 def with_count(data: bytes, count: int) -> bytes:
     """What an editor says, with a count."""
     return data[:RANDOM_BYTES] + COUNT.pack(0, count) + data[TOKEN_BYTES:]
+
+
+def leaving(data: bytes) -> bytes:
+    """That an editor has left which said this last: a byte longer than versions of before take for presence."""
+    return data.ljust(LEAVING_BYTES, b"\0")
+
+
+def is_leaving(data: bytes) -> bool:
+    """Whether this says that an editor has left."""
+    return len(data) == LEAVING_BYTES

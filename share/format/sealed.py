@@ -54,13 +54,13 @@ class Sealed(Form):
     def new_author(self) -> Author:
         return Author(*bindings.crypto_sign_keypair())
 
-    def _formed(self, raws: Sequence[tuple[bytes, bytes]]) -> list[Entry | Bad]:
+    def formed(self, raws: Sequence[tuple[bytes, bytes]]) -> list[Entry | Bad]:
         # To check a signature takes most of the time, and other threads go on meanwhile.
         if len(raws) <= SHARE_OF_A_THREAD:
-            return super()._formed(raws)
+            return super().formed(raws)
         shares = [raws[begin:begin + SHARE_OF_A_THREAD] for begin in range(0, len(raws), SHARE_OF_A_THREAD)]
         with ThreadPoolExecutor(min(len(shares), os.cpu_count() or 1)) as threads:
-            return [one for share in threads.map(super()._formed, shares) for one in share]
+            return [one for share in threads.map(super().formed, shares) for one in share]
 
     def presence(self, data: bytes) -> bytes:
         nonce = secrets.token_bytes(NONCE_BYTES)

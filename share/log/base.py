@@ -8,6 +8,8 @@ from abc import ABC, abstractmethod
 from collections.abc import Sequence
 from typing import NamedTuple
 
+from share.log.bell import Bell
+
 # The place before all entries.
 START = ""
 # How many entries a reading gives at most.
@@ -35,9 +37,31 @@ class InLog(NamedTuple):
     raw: bytes | None
 
 
+class PresenceChannel(ABC):
+    """What is said to all who are on at once, and kept nowhere. It raises what a log does, and then has to be opened again."""
+
+    @abstractmethod
+    def say(self, presence: bytes) -> None:
+        """Says something to all who hear it, this one included."""
+
+    @abstractmethod
+    def hear(self, seconds: float, bell: Bell) -> list[bytes]:
+        """What was said since, as soon as there is something; nothing when the time is over, or the bell rings. What is too long
+        to be presence is left out."""
+
+    @abstractmethod
+    def close(self) -> None:
+        """Hears no more."""
+
+
 class Log(ABC):
     """A log of one note that one thread has opened. What can't be reached raises Unreachable, what has to be
     opened again LogLost, and what is no log, or another note's, Trouble."""
+
+    # How long it is watched before it is seen whether it still is the one that was read.
+    watch_seconds = 0.5
+    # Whether the last reading came to the end that the log had then.
+    at_end = False
 
     @abstractmethod
     def append(self, raws: Sequence[bytes]) -> None:
@@ -48,17 +72,29 @@ class Log(ABC):
         """What stands after a place, PAGE at most. Nothing that is longer than an entry may be is read."""
 
     @abstractmethod
-    def watch(self, after: str, seconds: float) -> None:
-        """Returns when something stands after a place, or when the time is over."""
+    def watch(self, after: str, seconds: float, bell: Bell | None = None) -> None:
+        """Returns when something stands after a place, when the time is over, or the bell rings."""
 
     @abstractmethod
     def size(self) -> int:
         """How many entries there are."""
 
     @abstractmethod
+    def size_to(self, after: str) -> int:
+        """How many entries there are up to a place."""
+
+    @abstractmethod
     def meet(self, token: bytes, presence: bytes) -> list[bytes]:
         """Says under a token that an editor is on, and gives what all who are on have said last, this one
         included."""
+
+    def met(self) -> list[bytes]:
+        """What all who are on have said last by `meet`, with nothing said; none where the log has no channel."""
+        return []
+
+    def channel(self) -> PresenceChannel | None:
+        """Begins to hear what is said to all; None where the log has no channel."""
+        return None
 
     def claimed(self) -> set[int] | None:
         """The sites that entries claim, whoever wrote these; None where it takes as long to say that as to read them all."""

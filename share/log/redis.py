@@ -10,6 +10,8 @@ from collections.abc import Iterator, Sequence
 from share.format.entry import MOST_BYTES, Kind
 from share.format.presence import MOST_PRESENCE
 from share.log.base import MOST_ON, ON_SECONDS, READ_AT_ONCE, START, InLog, Log, LogLost
+from share.log.bell import Bell
+from share.log.channel import Ear, RedisChannel
 from share.log.resp import Answer, TooLong, Wire
 
 # The most bytes of an append and of a reading, and what an entry costs beside its own bytes.
@@ -93,6 +95,16 @@ MEET_SCRIPT = """
     redis.call('EXPIRE', KEYS[2], 4 * on)
     return said
 """
+MET_SCRIPT = """
+    local now, on, most = tonumber(redis.call('TIME')[1]), tonumber(ARGV[1]), tonumber(ARGV[2])
+    local said = {}
+    for _, token in ipairs(redis.call('ZRANGEBYSCORE', KEYS[1], now - on, now, 'LIMIT', 0, tonumber(ARGV[3]))) do
+        if redis.call('HSTRLEN', KEYS[2], token) <= most then
+            said[#said + 1] = redis.call('HGET', KEYS[2], token)
+        end
+    end
+    return said
+"""
 LEAVE_SCRIPT = """
     redis.call('ZREM', KEYS[1], ARGV[1])
     redis.call('HDEL', KEYS[2], ARGV[1])
@@ -109,6 +121,8 @@ class Stream:
     def __init__(self, wire: Wire, key: str, field: str, most: int):
         self._wire, self._key, self._field, self._most = wire, key, field, most
         self._room = LEAST_ROOM
+        # Whether the last reading came to the end.
+        self.at_end = False
 
     def read(self, after: str) -> list[InLog]:
         """The entries after a place, PAGE at most."""
@@ -122,6 +136,7 @@ class Stream:
         # They can't be more: the server tells how many there are in one breath with the last ones.
         if size is not None and size != count + len(page):
             raise self._lost() if after != START else self._wire.strange()
+        self.at_end = size is not None
         return page
 
     def claimed(self) -> set[int]:
@@ -146,13 +161,15 @@ class Stream:
         elif seconds > SLOW_READING_SECONDS:
             self._room = max(self._room // 2, LEAST_ROOM)
 
-    def watch(self, after: str, seconds: float) -> None:
-        """Returns when there is an entry after a place, or when the time is over."""
+    def watch(self, after: str, seconds: float, bell: Bell | None) -> None:
+        """Returns when there is an entry after a place, when the time is over, or the bell rings."""
         last, _ = _stream_place(after)
         milliseconds = max(1, int(seconds * 1000))
+        if bell and bell.waits(0):
+            return
         try:
             self._wire.ask("XREAD", "COUNT", 1, "BLOCK", milliseconds, "STREAMS", self._key, last, waits=seconds,
-                           most=MOST_WATCHED)
+                           most=MOST_WATCHED, bell=bell)
         except TooLong:
             # Something is there, and the script that reads says what.
             return
@@ -186,13 +203,15 @@ class Stream:
 
 
 class RedisLog(Log):
-    """A log in a stream of a note's own."""
+    """A log in a stream of a note's own. What was lost is seen at once as something is appended, and else at the end of a watch."""
+
+    watch_seconds = 5.0
 
     def __init__(self, url: str, note: bytes, password: str | None = None):
-        self._wire = Wire(url, password)
+        self._wire, self._ear = Wire(url, password), Ear(url, password)
         # In braces, so that a cluster of servers keeps all keys of a note together.
-        self._entries, self._places, self._times, self._said = (
-            f"vialshoal:note:{{{note.hex()}}}:{part}" for part in ("entries", "places", "times", "said"))
+        self._entries, self._places, self._times, self._said, self._on = (
+            f"vialshoal:note:{{{note.hex()}}}:{part}" for part in ("entries", "places", "times", "said", "on"))
         self._stream = Stream(self._wire, self._entries, "e", MOST_BYTES)
         try:
             self._wire.ask("PING")
@@ -205,29 +224,47 @@ class RedisLog(Log):
             self._wire.run(APPEND_SCRIPT, (self._entries, self._places), part)
 
     def read(self, after: str) -> list[InLog]:
-        return self._stream.read(after)
+        page = self._stream.read(after)
+        self.at_end = self._stream.at_end
+        return page
 
-    def watch(self, after: str, seconds: float) -> None:
-        self._stream.watch(after, seconds)
+    def watch(self, after: str, seconds: float, bell: Bell | None = None) -> None:
+        self._stream.watch(after, seconds, bell)
 
     def size(self) -> int:
         return self._stream.size()
+
+    def size_to(self, after: str) -> int:
+        # The reading that came to this place has seen that they are there.
+        return _stream_place(after)[1]
 
     def claimed(self) -> set[int] | None:
         return self._stream.claimed()
 
     def meet(self, token: bytes, presence: bytes) -> list[bytes]:
-        answer = self._wire.run(MEET_SCRIPT, (self._times, self._said),
-                                (token, presence, ON_SECONDS, MOST_PRESENCE, MOST_ON))
-        if not isinstance(answer, list):
-            raise self._wire.strange()
-        return [said for said in answer[:MOST_ON] if isinstance(said, bytes) and len(said) <= MOST_PRESENCE]
+        return self._all_said(self._wire.run(MEET_SCRIPT, (self._times, self._said),
+                                             (token, presence, ON_SECONDS, MOST_PRESENCE, MOST_ON)))
+
+    def met(self) -> list[bytes]:
+        if not self._wire.ask("EXISTS", self._times):
+            return []
+        return self._all_said(self._wire.run(MET_SCRIPT, (self._times, self._said), (ON_SECONDS, MOST_PRESENCE, MOST_ON)))
+
+    def channel(self) -> RedisChannel:
+        return RedisChannel(self._wire, self._ear, self._on)
 
     def leave(self, token: bytes) -> None:
         self._wire.run(LEAVE_SCRIPT, (self._times, self._said), (token,))
 
     def close(self) -> None:
         self._wire.close()
+        self._ear.close()
+
+    def _all_said(self, answer: Answer) -> list[bytes]:
+        """What all said who are on, as a script gives it."""
+        if not isinstance(answer, list):
+            raise self._wire.strange()
+        return [said for said in answer[:MOST_ON] if isinstance(said, bytes) and len(said) <= MOST_PRESENCE]
 
 
 def _numbers(one: Answer) -> tuple[int, int] | None:

@@ -14,6 +14,7 @@ from typing import Union
 from urllib.parse import urlsplit
 
 from share.log.base import Unreachable
+from share.log.bell import Bell
 from share.text.errors import Trouble
 
 Word = Union[bytes, str, int]
@@ -61,10 +62,10 @@ class Wire:
         self._at = self._most = 0
         self._end = 0.0
 
-    def ask(self, *words: Word, waits: float = 0, most: int = MOST_ANSWER) -> Answer:
-        """The answer to a command, before which the server may wait."""
+    def ask(self, *words: Word, waits: float = 0, most: int = MOST_ANSWER, bell: Bell | None = None) -> Answer:
+        """The answer to a command, before which the server may wait; None where the bell rings first."""
         with self._told():
-            return self._asked(words, waits, most)
+            return self._asked(words, waits, most, bell)
 
     def run(self, script: str, keys: Sequence[Word], words: Sequence[Word], most: int = MOST_ANSWER) -> Answer:
         """The answer of a script, which the server may know already."""
@@ -81,7 +82,7 @@ class Wire:
         """Closes the connection, if there is one."""
         if self._line:
             self._line.close()
-        self._line = None
+        self._line, self._at = None, 0
         self._read.clear()
 
     def strange(self) -> Trouble:
@@ -92,21 +93,25 @@ class Wire:
     def _too_long(self) -> TooLong:
         return TooLong(f"{self.url} answers with more than was asked for. Look at the host and the port.")
 
-    def _asked(self, words: Sequence[Word], waits: float, most: int) -> Answer:
+    def _asked(self, words: Sequence[Word], waits: float, most: int, bell: Bell | None = None) -> Answer:
         self._connect()
-        answer = self._exchange(words, waits, most)
+        answer = self._exchange(words, waits, most, bell)
         if self._at != len(self._read):
             raise self.strange()
         self._read.clear()
         return answer
 
-    def _exchange(self, words: Sequence[Word], waits: float, most: int) -> Answer:
+    def _exchange(self, words: Sequence[Word], waits: float, most: int, bell: Bell | None = None) -> Answer:
         assert self._line
         self._most, self._at, sent = most, 0, _command(words)
         self._line.settimeout(REPLY_SECONDS + len(sent) / SLOWEST)
         self._line.sendall(sent)
         # What was sent may still be on its way.
         self._end = time.monotonic() + REPLY_SECONDS + len(sent) / SLOWEST + waits
+        if bell and bell.waits(waits, self._line):
+            # The answer is yet to come, so nothing else can be asked here.
+            self.close()
+            return None
         try:
             return self._answer(0)
         except _Refused:
@@ -131,25 +136,25 @@ class Wire:
     def _opened(self) -> socket.socket:
         parts = urlsplit(self.url)
         if parts.scheme == "unix":
-            line = socket.socket(socket.AF_UNIX)
-            line.settimeout(CONNECT_SECONDS)
-            try:
-                line.connect(self.url.removeprefix("unix://"))
-            except BaseException:
-                line.close()
-                raise
-            return line
+            return self._opened_by_path(self.url.removeprefix("unix://"))
         host = parts.hostname or ""
-        line = socket.create_connection((host, parts.port or 6379), CONNECT_SECONDS)
-        line.setsockopt(socket.IPPROTO_TCP, socket.TCP_NODELAY, 1)
-        if parts.scheme != "rediss":
-            return line
-        try:
-            # The certificate and the host's name in it are looked at.
-            return ssl.create_default_context().wrap_socket(line, server_hostname=host)
-        except BaseException:
-            line.close()
-            raise
+        with contextlib.ExitStack() as failing:
+            line = failing.enter_context(socket.create_connection((host, parts.port or 6379), CONNECT_SECONDS))
+            line.setsockopt(socket.IPPROTO_TCP, socket.TCP_NODELAY, 1)
+            if parts.scheme == "rediss":
+                # The certificate and the host's name in it are looked at.
+                line = ssl.create_default_context().wrap_socket(line, server_hostname=host)
+            failing.pop_all()
+        return line
+
+    @staticmethod
+    def _opened_by_path(path: str) -> socket.socket:
+        with contextlib.ExitStack() as failing:
+            line = failing.enter_context(socket.socket(socket.AF_UNIX))
+            line.settimeout(CONNECT_SECONDS)
+            line.connect(path)
+            failing.pop_all()
+        return line
 
     def _answer(self, depth: int) -> Answer:
         line = self._to_line_end()

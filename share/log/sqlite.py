@@ -10,6 +10,7 @@ from collections.abc import Iterator, Sequence
 from share.format.entry import HEAD, MOST_BYTES, NOTE_BYTES, digest
 from share.format.presence import MOST_PRESENCE
 from share.log.base import MOST_ON, ON_SECONDS, READ_AT_ONCE, START, InLog, Log, LogLost, Unreachable
+from share.log.bell import Bell
 from share.log.folder import Inode, held, inode_of, make_folder
 from share.log.sqlite_file import RETRY_SECONDS, SIDE_FILES, Busy, Malformed, SqliteFile, begins_as, beside, set_aside
 from share.text.errors import Trouble
@@ -44,6 +45,7 @@ class SqliteLog(Log):
 
     def __init__(self, path: pathlib.Path, note: bytes):
         self.path, self._note = path, note
+        self._beside = [str(beside(path, end)) for end in SIDE_FILES]
         # Whether the file was seen to be a log, so that it may be set aside where it is damaged.
         self._is_log = False
         self._size = 0
@@ -71,25 +73,31 @@ class SqliteLog(Log):
         with self._at_file():
             place = self._stands(after)
             rows = self._file.execute(AFTER, (MOST_BYTES, place, READ_AT_ONCE)).fetchall()
+        self.at_end = len(rows) < READ_AT_ONCE
         if rows and rows[-1][0] > GREATEST_LOG_PLACE:
             raise self._set_aside("has a place that can't be")
         return [InLog(f"{place}.{mark}", raw) for place, mark, raw in rows]
 
-    def watch(self, after: str, seconds: float) -> None:
-        end = time.monotonic() + seconds
-        place = _place_and_mark(after)[0]
+    def watch(self, after: str, seconds: float, bell: Bell | None = None) -> None:
+        with contextlib.nullcontext(bell) if bell else contextlib.closing(Bell()) as waking:
+            self._watch(_place_and_mark(after)[0], time.monotonic() + seconds, waking)
+
+    def _watch(self, place: int, end: float, bell: Bell) -> None:
         while True:
             with self._at_file():
                 # Where there are fewer, a reading says what happened.
                 if self._file.one("SELECT coalesce(max(place), 0) FROM entry") != place:
                     return
-            if time.monotonic() >= end:
+            if time.monotonic() >= end or bell.waits(RETRY_SECONDS):
                 return
-            time.sleep(RETRY_SECONDS)
 
     def size(self) -> int:
         with self._at_file():
             return self._file.one("SELECT count(*) FROM entry")
+
+    def size_to(self, after: str) -> int:
+        with self._at_file():
+            return self._file.one("SELECT count(*) FROM entry WHERE place <= ?", _place_and_mark(after)[0])
 
     def meet(self, token: bytes, presence: bytes) -> list[bytes]:
         now = time.time()
@@ -186,7 +194,7 @@ class SqliteLog(Log):
     def _helping(self) -> list[Inode | None]:
         """The files beside the log, which all who are at it have to have in common: who opens it when one was
         removed makes another one, and neither sees what the other commits."""
-        return [inode_of(beside(self.path, end)) for end in SIDE_FILES]
+        return [*map(inode_of, self._beside)]
 
     def _set_aside(self, what: str) -> Exception:
         """Renames a damaged log, so that a new one can be made in its place, and gives what is to be raised.

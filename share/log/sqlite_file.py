@@ -40,7 +40,7 @@ class SqliteFile:
     def __init__(self, path: pathlib.Path, writes: bool = True, bounded: bool = False):
         self.path = path
         self._ticks = 0
-        with faults():
+        with FAULTS:
             self._file = sqlite3.connect(_uri(path, f"mode={'rw' if writes else 'ro'}"), uri=True, timeout=LOCK_SECONDS,
                                          isolation_level=None)
         self._file.text_factory = as_text
@@ -51,16 +51,16 @@ class SqliteFile:
     def used(self) -> Iterator[None]:
         """What is done meanwhile is one reading; where it fails Busy or Malformed says so."""
         self._ticks = 0
-        with faults():
+        with FAULTS:
             yield
 
     def execute(self, question: str, values: Sequence[object] = ()) -> sqlite3.Cursor:
         """What SQLite answers."""
         return self._file.execute(question, values)
 
-    def executemany(self, question: str, rows: Iterable[Sequence[object]]) -> None:
-        """The same for each of some rows."""
-        self._file.executemany(question, rows)
+    def executemany(self, question: str, rows: Iterable[Sequence[object]]) -> int:
+        """The same for each of some rows; how many rows of the table that changed."""
+        return max(0, self._file.executemany(question, rows).rowcount)
 
     def one(self, question: str, *values: object) -> int:
         """The number that SQLite answers."""
@@ -118,6 +118,14 @@ class SqliteFile:
         """What is committed lasts over kills, and not over the loss of power."""
         self._file.execute("PRAGMA synchronous = NORMAL")
 
+    def keep_log_short(self, pages: int) -> None:
+        """Has what is written ahead go into the file as soon as it has this many pages."""
+        self._file.execute(f"PRAGMA wal_autocheckpoint = {pages}")
+
+    def shorten_log(self) -> None:
+        """Has what is written ahead go into the file now, as far as nobody reads what was there before."""
+        self._file.execute("PRAGMA wal_checkpoint(PASSIVE)").fetchall()
+
     def close(self) -> None:
         """Lets go of the file."""
         self._file.close()
@@ -127,16 +135,17 @@ class SqliteFile:
         return self._ticks > MOST_TICKS
 
 
-@contextlib.contextmanager
-def faults() -> Iterator[None]:
+class _Faults(contextlib.AbstractContextManager[None]):
     """Says of what SQLite raises whether the file is to blame."""
-    try:
-        yield
-    except sqlite3.ProgrammingError:
-        raise
-    except sqlite3.DatabaseError as why:
-        is_busy = isinstance(why, sqlite3.OperationalError) and not OTHER_TABLES.search(str(why))
-        raise (Busy if is_busy else Malformed)(str(why)) from why
+
+    def __exit__(self, _: object, why: BaseException | None, where: object) -> None:
+        if isinstance(why, sqlite3.DatabaseError) and not isinstance(why, sqlite3.ProgrammingError):
+            is_busy = isinstance(why, sqlite3.OperationalError) and not OTHER_TABLES.search(str(why))
+            raise (Busy if is_busy else Malformed)(str(why)) from why
+
+
+# It has nothing of its own, so there is one for all.
+FAULTS = _Faults()
 
 
 def as_text(data: bytes) -> str:

@@ -3,7 +3,6 @@ import contextlib
 import fcntl
 import os
 import pathlib
-import select
 import shlex
 import shutil
 import subprocess
@@ -11,6 +10,7 @@ import time
 from collections.abc import Callable
 
 from share.format.operation import TEXT
+from share.log.polling import ready
 from share.program.patience import BETWEEN_LOOKS_SECONDS, Patience
 from share.text.errors import Trouble
 
@@ -94,9 +94,13 @@ class Program:
                           "it.") from why
         assert self.process.stdin and self.process.stdout
         self._in, self._out = self.process.stdin.fileno(), self.process.stdout.fileno()
-        os.set_blocking(self._in, False)
-        for pipe in self._in, self._out:
-            _widen(pipe)
+        try:
+            os.set_blocking(self._in, False)
+            for pipe in self._in, self._out:
+                _widen(pipe)
+        except BaseException:
+            self.close()
+            raise
 
     def ask(self, events: list[bytes]) -> list[list[bytes]]:
         """The answer lines of each event. All events are on their way at once, and answers are read
@@ -108,7 +112,7 @@ class Program:
         part: list[bytes] = []
         patience = Patience(self.process.pid)
         while len(answers) < len(events):
-            read, write, _ = select.select([self._out], [self._in] if script else [], [], BETWEEN_LOOKS_SECONDS)
+            read, write = ready(BETWEEN_LOOKS_SECONDS, [self._out], [self._in] if script else [])
             if not (read or write):
                 self._wait(patience)
                 continue
@@ -169,6 +173,8 @@ class Program:
         for pipe in self.process.stdin, self.process.stdout:
             if pipe:
                 pipe.close()
+        # Another file may get their numbers.
+        self._in = self._out = -1
         try:
             self.process.wait(LAST_WAIT_SECONDS)
         except subprocess.TimeoutExpired:

@@ -23,13 +23,15 @@ DID = {INSERT: "typed", DELETE: "deleted", RESTORE: "restored", CHANGE_LOOKS: "l
 
 
 class HistoryStep(NamedTuple):
-    """Messages of a site in a row that go on with one another, what they did, and the number of bytes it was done to."""
+    """Messages of a site in a row that go on with one another, what they did, and the number of bytes it was done to; and how many
+    gave way to these."""
 
     begin: int
     end: int
     site: int
     did: str
     size: int
+    gave_way: int = 0
 
 
 class Wrote(NamedTuple):
@@ -94,24 +96,48 @@ class Replays:
 
 
 def steps(history: Messages, begin: int, most: int) -> list[HistoryStep]:
-    """The steps of a history from a message on, up to a number of them."""
+    """The steps of a history from a message on, up to a number of them. What replaces something is one, and so is what is typed
+    behind a character that is shown meanwhile."""
     found: list[HistoryStep] = []
+    # The first message of each, of several the first one.
+    firsts: list[Operation] = []
     last: Operation | None = None
     for one in history[begin:].runs():
         size = len(one.data) or sum(names.length for names in one.mentions)
         if last and _is_same_step(last, one):
             found[-1] = found[-1]._replace(end=begin + one.size, size=found[-1].size + size)
+        elif last and last.data and _replaces(firsts[-1], last, one):
+            found[-1] = found[-1]._replace(end=begin + one.size, gave_way=size)
+            if firsts[-2:-1] and _is_meanwhile(firsts[-2], one):
+                del firsts[-2]
+                found[-2:] = [found[-1]._replace(begin=found[-2].begin, gave_way=0)]
+            begin += one.size
+            continue
         elif len(found) == most:
             break
         else:
             found.append(HistoryStep(begin, begin + one.size, one.site, DID[one.kind], size))
+            firsts.append(one)
         last, begin = one, begin + one.size
     return found
 
 
 def as_line(step: HistoryStep) -> dict[str, int]:
     """A step as editors are told it: what wasn't done was done to 0 bytes."""
-    return {"begin": step.begin, "end": step.end, "site": step.site, **dict.fromkeys(DID.values(), 0), step.did: step.size}
+    line = {"begin": step.begin, "end": step.end, "site": step.site, **dict.fromkeys(DID.values(), 0), step.did: step.size}
+    return line | {DID[DELETE]: step.gave_way} if step.gave_way else line
+
+
+def _replaces(first: Operation, last: Operation, one: Operation) -> bool:
+    """Whether a message deletes what an insertion of its site just before it, of which these are the first and the last message, was
+    put inside."""
+    return (one.kind == DELETE and last.site == one.site and first.kind == INSERT and any(
+        names.site == cause.site and names.at <= cause.at < names.at + names.length for cause in first.mentions for names in one.mentions))
+
+
+def _is_meanwhile(before: Operation, one: Operation) -> bool:
+    """Whether a message hides what one of its site had shown."""
+    return (before.kind, before.site, before.mentions) == (RESTORE, one.site, one.mentions)
 
 
 def _is_same_step(last: Operation, one: Operation) -> bool:

@@ -19,7 +19,7 @@ from share.format.entry import Author, Copied, Copy, Entry, Form
 from share.format.operation import Operation
 from share.program.alike import Alike, One
 from share.program.effects import Stretch
-from share.program.site import Edited, Site, one_by_one
+from share.program.site import Edited, Rewrite, Site, one_by_one
 from share.text.errors import Refused, counted
 from share.text.line import Line
 from share.text.looks import DEFAULT, Dressed, Looks, dressed
@@ -352,7 +352,7 @@ class _Typist:
     def _type(self) -> Edited:
         """Types what waits."""
         waiting, self._waiting = self._waiting, {}
-        edits = self.site.replace([(place, place, message.data) for message, place in waiting.items()]) if waiting else []
+        edits = self.site.replace([Rewrite(place, place, message.data) for message, place in waiting.items()]) if waiting else []
         for message, edited in zip(waiting, edits):
             if edited.refused is not None:
                 raise Refused(edited.refused)

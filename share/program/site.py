@@ -8,6 +8,7 @@ import re
 import subprocess
 import time
 from collections.abc import Callable, Iterable, Iterator, Sequence
+from contextlib import ExitStack
 from itertools import accumulate, chain, islice
 from typing import NamedTuple
 
@@ -51,12 +52,23 @@ class Edited(NamedTuple):
     refused: int | None = None
 
 
+class Rewrite(NamedTuple):
+    """What is between two positions gives way to some bytes, which stand behind the first ones of it, where some are named, and
+    before the others: so what others put before or behind all of it at the same time doesn't come between."""
+
+    begin: int
+    end: int
+    data: bytes
+    inside: int = 0
+
+
 class Lasting:
     """The program, of which a fresh run takes over where one ended, or has read all the lines that it reads. That one is given what
     the one before it was handed and made, which is a history."""
 
     def __init__(self, number: int, folder: pathlib.Path | None, history: Messages, stands: Callable[[bool], None]):
         self._number, self._folder, self._history, self._stands, self._is_still = number, folder, history, stands, False
+        self._is_closed = False
         self.run = Program(number, folder, self._stands_still)
 
     @property
@@ -72,11 +84,18 @@ class Lasting:
         """The events that hand chunks in."""
         return [self.run.event("unpack", chunk.hex().encode()) for chunk, _ in chunks]
 
+    def see_that_it_knows_chunks(self) -> None:
+        """Tells of a program that doesn't."""
+        # These bytes are none.
+        if self.ask(self.unpacking([(b"\0", 0)]))[0][-1] != b"refused 1":
+            raise Trouble("The program is too old: it can't read chunks of messages. Build it anew, with "
+                          "bin/site_cli < demo/two-sites.script, and open the note again.")
+
     def ask(self, events: list[bytes]) -> list[list[bytes]]:
         """The program's answers. Where it ended it is started again: none of these events was kept, so they
         are asked anew."""
         try:
-            if self.run.lines + len(events) > MOST_LINES_READ:
+            if self._is_closed or self.run.lines + len(events) > MOST_LINES_READ:
                 self.start_again()
             try:
                 return self.run.ask(events)
@@ -91,6 +110,8 @@ class Lasting:
 
     def start_again(self) -> None:
         """Lets a fresh run do all that this one did."""
+        if self._is_closed:
+            raise Trouble("The program was ended, since the note is being closed or taken in anew. All that was typed before is kept.")
         self.run.close()
         self.run = Program(self._number, self._folder, self._stands_still)
         chunks = self._history.chunks()
@@ -100,6 +121,11 @@ class Lasting:
         except Ended as why:
             raise Trouble("The program ended and couldn't be started again. All that was typed before is "
                           "kept.") from why
+
+    def close(self) -> None:
+        """Ends the program, for good."""
+        self._is_closed = True
+        self.run.close()
 
     def _stands_still(self) -> None:
         if not self._is_still:
@@ -124,14 +150,14 @@ class Site:
         # All that the program was handed and made.
         self.history = Messages()
         self._program = Lasting(number, folder, self.history, stands)
-        # A program that doesn't know chunks is told of as the note is opened. These bytes are none.
-        if self._ask(self._program.unpacking([(b"\0", 0)]))[0][-1] != b"refused 1":
-            raise Trouble("The program is too old: it can't read chunks of messages. Build it anew, with "
-                          "bin/site_cli < demo/two-sites.script, and open the note again.")
-        before = len(packed) if packed else 0
-        if packed:
-            self._reopen(packed, progress)
-        self.take(messages, progress=lambda done: progress(before + done))
+        with ExitStack() as failing:
+            failing.callback(self.close)
+            self._program.see_that_it_knows_chunks()
+            before = len(packed) if packed else 0
+            if packed:
+                self._reopen(packed, progress)
+            self.take(messages, progress=lambda done: progress(before + done))
+            failing.pop_all()
 
     def _reopen(self, packed: Messages, progress: Progress) -> None:
         """Goes on from the packed file, or where that can't be has its messages handed in."""
@@ -165,15 +191,15 @@ class Site:
         changes = self._take_few(coming)
         return self.text() if changes is None else changes
 
-    def take_some(self, coming: Coming, seconds: float) -> Told:
-        """Takes in messages from the front, at least some, until the time is over; tells what the text has become."""
+    def take_some(self, coming: Coming, seconds: float, looks: bool = True) -> Told:
+        """Takes in messages from the front, at least some, until the time is over; tells one who looks what the text has become."""
         end = time.monotonic() + seconds
-        changes: list[Change] | None = [] if len(coming) <= SLICE else None
+        changes: list[Change] | None = [] if looks and len(coming) <= SLICE else None
         while coming:
             changes = self._take_first(coming, changes)
             if time.monotonic() >= end:
                 break
-        return self.text() if changes is None else changes
+        return self.text() if looks and changes is None else changes or []
 
     def _take_first(self, coming: Coming, changes: list[Change] | None) -> list[Change] | None:
         """Takes in a few operations from the front; the changes so far with theirs, None where one isn't known."""
@@ -202,7 +228,7 @@ class Site:
         return named.told([*map(stretches, earlier)], [*map(stretches, later)]) if is_new else None
 
     def insert(self, position: int, data: bytes) -> Edited:
-        """Types bytes at a position of the text. Each message has whole characters alone."""
+        """Types bytes at a position of the text."""
         parts = [*split(data)]
         places = accumulate(map(len, parts), initial=position)
         return one_by_one(self._edit("type", place, escaped(part)) for place, part in zip(places, parts))
@@ -211,22 +237,48 @@ class Site:
         """Deletes a stretch; where it is too scattered for one message, half by half."""
         return self._of_stretch("cut", begin, end)
 
-    def replace(self, changes: Sequence[tuple[int, int, bytes]]) -> list[Edited]:
-        """Makes changes, each in the text that those before it leave, and asks the program for all of them at once. It
-        may do those after one that it refuses. No stretch that goes is too scattered for a message."""
+    def replace(self, changes: Sequence[Rewrite]) -> list[Edited]:
+        """Makes changes, from the last one to the first or each where nothing goes, and asks the program for all of them at once.
+        It may do those after one that it refuses. No stretch that is cut is too scattered for a message."""
         if refused := self._full():
             return [Edited([], refused)]
-        asked = [[*self._replacing(*one)] for one in changes]
+        around = [self._program.event("names", one.begin, one.end) for one in changes if one.inside]
+        names = iter(self._ask(around) if around else [])
+        asked = [[*self._replacing(one, _names_in(next(names)) if one.inside else [])] for one in changes]
         answers = iter(self._ask([*chain.from_iterable(asked)]))
         return [self._sent([*islice(answers, len(events))]) for events in asked]
 
-    def _replacing(self, begin: int, end: int, data: bytes) -> Iterator[bytes]:
-        """The events of a change."""
-        if begin < end:
-            yield self._program.event("cut", begin, end)
+    def _replacing(self, change: Rewrite, around: list[Names]) -> Iterator[bytes]:
+        """The events of a change. What goes around what comes is deleted by its names, as one."""
+        if change.begin < change.end and not around:
+            yield self._program.event("cut", change.begin, change.end)
+        yield from self._typing(change.begin + change.inside, change.data)
+        names = united(around)
+        for first in range(0, len(names), MOST_RANGES):
+            yield self._program.event("delete", *chain.from_iterable(names[first:first + MOST_RANGES]))
+
+    def _typing(self, position: int, data: bytes) -> Iterator[bytes]:
+        """The events that type bytes at a position. Each message has whole characters alone."""
         for part in split(data):
-            yield self._program.event("type", begin, escaped(part))
-            begin += len(part)
+            yield self._program.event("type", position, escaped(part))
+            position += len(part)
+
+    def insert_behind(self, before: Sequence[Names], data: bytes, places: range) -> tuple[Edited, int]:
+        """Types bytes directly behind characters that may be hidden, which are shown meanwhile, where that is at one of some places,
+        and else at the first of these; and where that is."""
+        if refused := self._full():
+            return Edited([], refused), places.start
+        restore = self._program.event("restore", *chain.from_iterable(before))
+        shown, *found = self._ask([restore, *self._asking_where(before)])
+        brought = self._sent([shown])
+        came = [*chain.from_iterable(message.mentions for message in brought.messages)]
+        size, ends = sum(one.length for one in came), [one.position + len(one.data) for part in map(stretches, found) for one in part]
+        place = max(ends, default=0) - size
+        if not ends or place not in places:
+            place, size = places.start, size if places.start > place else 0
+        hide = [self._program.event("delete", *chain.from_iterable(came))] if came else []
+        typed = self._sent(self._ask([*self._typing(place + size, data), *hide]))
+        return Edited(brought.messages + typed.messages, typed.refused), place
 
     def _sent(self, answers: list[list[bytes]]) -> Edited:
         """What an edit has made that was answered so."""
@@ -254,13 +306,12 @@ class Site:
 
     def names(self, begin: int, end: int) -> list[Names]:
         """The names of what is shown from one position to a later one, in their order there."""
-        found = self._lines("names", begin, end) if begin < end else []
-        return [Names(int(site), int(at), int(length)) for _, _, site, at, length in found]
+        return _names_in(self._ask([self._program.event("names", begin, end)])[0]) if begin < end else []
 
     def runs(self) -> list[Run]:
         """Each longest stretch of equal looks."""
         return [Run(font, int(colour), int(offset), int(length))
-                for _, font, colour, offset, length in self._lines("runs")]
+                for _, font, colour, offset, length in _answered(self._ask([self._program.event("runs")])[0], "runs")]
 
     def text(self) -> bytes:
         """What the program shows."""
@@ -273,7 +324,7 @@ class Site:
 
     def close(self) -> None:
         """Ends the program."""
-        self._program.run.close()
+        self._program.close()
 
     def _hand_in(self, coming: Messages, progress: Progress = lambda done: None) -> None:
         """Hands operations to the program, and doesn't ask what they change."""
@@ -299,13 +350,6 @@ class Site:
 
     def _asking_where(self, names: Iterable[Names]) -> list[bytes]:
         return [self._program.event("where", *one) for one in names]
-
-    def _lines(self, verb: str, *words: int) -> list[list[str]]:
-        """The words of each line that a question is answered by."""
-        *found, end = self._ask([self._program.event(verb, *words)])[0]
-        if end != b"ok":
-            raise Trouble(f"The program was asked for {verb} and answered {end[:60].decode('ascii', 'replace')}.")
-        return [line.decode("ascii").split(" ") for line in found]
 
     def _by_names(self, verb: str, names: list[Names]) -> tuple[Edited, Told]:
         tells = sum(one.length for one in names) <= MOST_NAMES
@@ -352,6 +396,19 @@ def is_full(many: int) -> bool:
 def is_nearly_full(many: int) -> bool:
     """Whether a note has room for few messages more."""
     return many * ONE_IN >= MOST_MESSAGES * (ONE_IN - 1)
+
+
+def _answered(answer: list[bytes], verb: str) -> list[list[str]]:
+    """The words of each line by which a question is answered."""
+    *found, end = answer
+    if end != b"ok":
+        raise Trouble(f"The program was asked for {verb} and answered {end[:60].decode('ascii', 'replace')}.")
+    return [line.decode("ascii").split(" ") for line in found]
+
+
+def _names_in(answer: list[bytes]) -> list[Names]:
+    """The names that an answer to `names` has."""
+    return [Names(int(site), int(at), int(length)) for _, _, site, at, length in _answered(answer, "names")]
 
 
 def _not_taken(answer: bytes, operation: Operation) -> Trouble:

@@ -1,22 +1,26 @@
 """What an editor can take back of its own, and do again, by the characters' names: nobody else's text is touched."""
 from bisect import bisect_right
-from collections.abc import Iterable, Iterator
+from collections.abc import Iterable, Iterator, Set
 from dataclasses import dataclass, field
-from itertools import accumulate, chain
+from itertools import accumulate, chain, count
 
-from share.format.operation import Operation
+from share.format.operation import RESTORE, Operation
 from share.program.site import Edited, Site, Told, one_by_one
 from share.text.looks import Looked, Looks
 from share.text.names import Names, united, without
 
 
+_new_key = count().__next__
+
+
 @dataclass
 class Step:
-    """The names that an edit brought, those that it took away, and those whose looks it changed."""
+    """The names that an edit brought, those that it took away, and those whose looks it changed; and what tells it from others."""
 
     came: list[Names] = field(default_factory=list)
     went: list[Names] = field(default_factory=list)
     looked: list[Looked] = field(default_factory=list)
+    key: int = field(default_factory=_new_key)
 
     def does_something(self) -> bool:
         """Whether there is anything in it."""
@@ -24,7 +28,7 @@ class Step:
 
     def and_then(self, other: "Step") -> "Step":
         """Both as one edit."""
-        return Step(united(self.came + other.came), united(self.went + other.went), self.looked + other.looked)
+        return Step(united(self.came + other.came), united(self.went + other.went), self.looked + other.looked, self.key)
 
 
 class Undoing:
@@ -34,15 +38,17 @@ class Undoing:
         self._done: list[Step] = []
         self._undone: list[Step] = []
 
-    def made(self, operations: Iterable[Operation], joins: bool) -> None:
-        """Notes an edit, perhaps as one with the edit before it."""
-        step = Step()
+    def made(self, operations: Iterable[Operation], joins: bool) -> int:
+        """Notes an edit, perhaps as one with the edit before it; the key of its step."""
+        step, meanwhile = Step(), list[Names]()
         for one in operations:
-            (step.came if one.data else step.went).extend(one.names)
-        step = Step(united(step.came), united(step.went))
+            (step.came if one.data else meanwhile if one.kind == RESTORE else step.went).extend(one.names)
+        # What was shown while something was typed behind it was hidden before.
+        step = Step(united(step.came), without(united(step.went), united(meanwhile)) if step.went else [])
         if joins and self._done:
             step = self._done.pop().and_then(step)
         self.add(step)
+        return step.key
 
     def add(self, step: Step) -> None:
         """Notes an edit."""
@@ -53,14 +59,15 @@ class Undoing:
         """Forgets all: the names are of a number that isn't this editor's any more, or weren't kept."""
         self._done, self._undone = [], []
 
-    def next(self, redo: bool) -> Step | None:
-        """What is to be taken back, or done again."""
+    def next(self, redo: bool, among: Set[int] | None = None) -> Step | None:
+        """What is to be taken back, or done again; perhaps only one of the steps of these keys."""
         stack = self._undone if redo else self._done
-        return stack[-1] if stack else None
+        return next((step for step in reversed(stack) if among is None or step.key in among), None)
 
-    def done(self, redo: bool, changed: Step) -> None:
+    def done(self, redo: bool, step: Step, changed: Step) -> None:
         """Says that this was done, and what that changed, as the edit which brings it about or is taken back so."""
-        (self._undone if redo else self._done).pop()
+        stack = self._undone if redo else self._done
+        del stack[next(place for place, one in enumerate(stack) if one is step)]
         if changed.does_something():
             (self._done if redo else self._undone).append(changed)
 

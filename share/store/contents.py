@@ -1,4 +1,5 @@
-"""Prints a note: from its file and its log, without a number, and without changing or making anything."""
+"""Prints a note: from its file and its log, without a number. What the log had besides is kept in the file, and nothing else is changed
+or made."""
 from contextlib import closing
 from typing import NamedTuple
 
@@ -10,7 +11,7 @@ from share.program.site import Site
 from share.store import nicknames, notes, read_only, renewal
 from share.store.note_file import About
 from share.store.read_only import Judged, NoteText, Own, uncollected
-from share.store.with_log import with_log
+from share.store.with_log import keep_in, with_log
 from share.text.errors import Trouble
 from share.text.line import Line
 
@@ -60,6 +61,6 @@ def found_of(name: str, url: str | None, link: Link | None, password: str | None
     else:
         raise Trouble(f"There is no note {name} here. To print one that isn't here, give its link.")
     notes.check_agreement(here.about, name, url, link)
-    if url or here.about.url:
-        here = with_log(here, url or here.about.url, password)
-    return here
+    if not (at := url or here.about.url):
+        return here
+    return with_log(here, at, password, keep_in(path) if path.exists() else lambda new: None)

@@ -3,11 +3,11 @@ import contextlib
 import math
 import struct
 import zlib
-from collections.abc import Container, Iterable, Sequence
+from collections.abc import Collection, Container, Iterable, Iterator, Mapping, Sequence
 from typing import NamedTuple
 
 from share.admission.ledger import Row
-from share.format.entry import CHUNKS, HEAD, MOST_AUTHOR_BYTES, NO_HASH, Bad, Entry, Form, Kind, digest
+from share.format.entry import CHUNKS, HEAD, MOST_AUTHOR_BYTES, NO_HASH, ONE_BY_ONE, Bad, Entry, Form, Kind, digest
 from share.format.keystrokes import Keystrokes
 from share.store.guarded import GuardedFile
 
@@ -17,8 +17,11 @@ ENTRIES_SCHEMA = """
                         offered INTEGER NOT NULL DEFAULT 0);
     CREATE TABLE withdrawn (number INTEGER PRIMARY KEY AUTOINCREMENT, hash BLOB NOT NULL UNIQUE);
 """
-ADD_ENTRY = "INSERT INTO entry (hash, raw, body, sum, made, offered) VALUES (?, ?, ?, ?, ?, ?) ON CONFLICT (hash) DO NOTHING"
+ADD_ENTRY = ("INSERT INTO entry (hash, raw, body, sum, made, offered) VALUES (?, ?, nullif(?, 0), ?, ?, ?) "
+             "ON CONFLICT (hash) DO NOTHING")
 AFTER_PLACE = "SELECT place, hash, raw, body, sum, made FROM entry WHERE place > ? ORDER BY place LIMIT ?"
+GREATEST_PLACE = "SELECT coalesce(max(seq), 0) FROM sqlite_sequence WHERE name = 'entry'"
+ENDS = "SELECT (SELECT coalesce(max(place), 0) FROM entry), (SELECT coalesce(max(number), 0) FROM withdrawn)"
 AT_PLACE = "SELECT place, hash, raw, body, sum, made FROM entry WHERE place = ?"
 IN_SHORT = f"""SELECT place, hash, substr(raw, 1, {HEAD.size + MOST_AUTHOR_BYTES}), made, offered FROM entry
                WHERE place > ? AND hash NOT IN (SELECT hash FROM withdrawn) ORDER BY place LIMIT ?"""
@@ -29,7 +32,12 @@ TAKEN_BACK = "SELECT number, place FROM withdrawn JOIN entry USING (hash) WHERE 
 # What a log has after all counts, also where it was withdrawn here.
 BACK = ("DELETE FROM entry WHERE hash IN (SELECT hash FROM withdrawn WHERE hash = ?)",
         "DELETE FROM withdrawn WHERE hash = ?")
+ADDED = "SELECT count(*), coalesce(sum(made), 0), max(place) FROM entry WHERE place > ?"
+ADDED_ONE_BY_ONE = "SELECT place, hash, made FROM entry WHERE place > ? ORDER BY place"
 WITHDRAW = "INSERT OR IGNORE INTO withdrawn (hash) SELECT hash FROM entry WHERE hash = ? AND made AND NOT offered"
+# Of this person's edits. What the disk damaged may have another type.
+NEVER_OFFERED = f"""SELECT count(*) FROM entry WHERE made AND NOT offered AND hash NOT IN (SELECT hash FROM withdrawn) AND
+                    hex(substr(CAST(raw AS BLOB), 2, 1)) IN ({", ".join(f"'{kind:02X}'" for kind in (*CHUNKS, *ONE_BY_ONE))})"""
 OFFERED = "UPDATE entry SET offered = 1 WHERE place = ?"
 RAW_AT = "SELECT raw, hash FROM entry WHERE place = ? AND hash NOT IN (SELECT hash FROM withdrawn)"
 # Entries are read from the file in portions of this many, and asked for by no more hashes at once.
@@ -65,10 +73,22 @@ class Entries:
 
     def many_of(self, known: Container[bytes]) -> int:
         """How many of these entries the file has as they were written."""
+        return sum(is_right and of in known for of, is_right in self._looked_at())
+
+    def are_whole(self) -> bool:
+        """Whether all that the file has is as it was written."""
+        return all(is_right for _, is_right in self._looked_at())
+
+    def _looked_at(self) -> Iterator[tuple[bytes, bool]]:
+        """The hashes that the file has, each with whether its entry is as it was written."""
         with self._file.reading():
-            found = self._sql.execute("SELECT hash, raw, body, sum FROM entry")
-            return sum(of in known and isinstance(raw, bytes) and digest(raw) == of and zlib.crc32(body or b"") == check
-                       for of, raw, body, check in found)
+            for of, raw, body, check in self._sql.execute("SELECT hash, raw, body, sum FROM entry"):
+                yield of, isinstance(raw, bytes) and digest(raw) == of and zlib.crc32(body or b"") == check
+
+    def greatest_place(self) -> int:
+        """The greatest place that an entry ever had."""
+        with self._file.reading():
+            return self._sql.one(GREATEST_PLACE)
 
     def rows(self, after: int = 0, most: float = math.inf) -> list[Row]:
         """The entries after a place, also those that were withdrawn; all, or the first ones, until they have this many bytes.
@@ -83,8 +103,10 @@ class Entries:
                 after = found[-1][0]
         return rows
 
-    def rows_at(self, places: Iterable[int]) -> list[Row]:
+    def rows_at(self, places: Collection[int]) -> list[Row]:
         """The entries at these places."""
+        if not places:
+            return []
         with self._file.reading():
             found = [self._sql.execute(AT_PLACE, (place,)).fetchone() for place in places]
             return [row for one in found if one and (row := self._row(*one))]
@@ -121,9 +143,26 @@ class Entries:
         with self._file.reading():
             return sum(self._sql.one("SELECT count(*) FROM entry WHERE place = ?", place) for place in places)
 
+    def receive(self, rows: Sequence[Row]) -> tuple[int, list[Row]]:
+        """Adds entries that a log has, within a transaction; the last place before them, and with their places those that are new."""
+        before = self.last_place()
+        self.put([row.entry for row in rows], made=False)
+        many, made, last = self._sql.execute(ADDED, (before,)).fetchone()
+        if many == len(rows) and not made:
+            return before, [Row(place, row.entry, False, row.types_on) for place, row in enumerate(rows, last - many + 1)]
+        came = {row.entry.hash: row for row in rows}
+        found = self._sql.execute(ADDED_ONE_BY_ONE, (before,))
+        return before, [Row(place, came[of].entry, bool(made), came[of].types_on) for place, of, made in found]
+
     def last_place(self) -> int:
         """The place of the last entry, within a transaction."""
         return self._sql.one("SELECT coalesce(max(place), 0) FROM entry")
+
+    def ends(self) -> tuple[int, int]:
+        """The place of the last entry, and the number of the last one that was withdrawn."""
+        with self._file.reading():
+            place, number = self._sql.execute(ENDS).fetchone()
+        return place, number
 
     def taken_back(self, after: int) -> list[tuple[int, int]]:
         """The numbers and the places of the entries that were withdrawn, after a number."""
@@ -135,17 +174,19 @@ class Entries:
         with self._file.reading():
             return self._sql.execute("SELECT number, hash FROM withdrawn WHERE number > ?", (after,)).fetchall()
 
-    def put(self, entries: Sequence[Entry], made: bool) -> None:
-        """Adds entries, within a transaction."""
+    def put(self, entries: Sequence[Entry], made: bool) -> int:
+        """Adds entries, within a transaction; how many it lacked."""
         # What a log has counts, also where it was withdrawn here, and was made here all the same.
         back = set() if made else self._taken_from_withdrawn(entries)
-        self._sql.executemany(ADD_ENTRY, [entry_values(entry, made or entry.hash in back, entry.hash in back, self._sealed)
-                                          for entry in entries])
+        return self._sql.executemany(ADD_ENTRY, (entry_values(entry, made or entry.hash in back, entry.hash in back, self._sealed)
+                                                 for entry in entries))
 
-    def restore(self, rows: Iterable[Row], withdrawn: Iterable[bytes]) -> None:
-        """Puts back what the file lacks of these, within a transaction. A log may have been offered any of it."""
+    def restore(self, rows: Mapping[bytes, Row], withdrawn: Iterable[bytes]) -> None:
+        """Puts back what the file lacks of these, by their hashes, within a transaction. A log may have been offered any of it."""
         self._sql.executemany("INSERT OR IGNORE INTO withdrawn (hash) VALUES (?)", ((one,) for one in withdrawn))
-        self._sql.executemany(ADD_ENTRY, (entry_values(row.entry, row.made, True, self._sealed) for row in rows))
+        there = {of for of, in self._sql.execute("SELECT hash FROM entry")}
+        lacking = (rows[of] for of in rows if of not in there)
+        self._sql.executemany(ADD_ENTRY, (entry_values(row.entry, row.made, True, self._sealed) for row in lacking))
 
     def withdraw(self, hashes: Iterable[bytes], in_log: Iterable[bytes] = ()) -> list[bytes]:
         """Takes back those of these entries that no log was ever offered, and gives them. Those that are in the log
@@ -213,9 +254,10 @@ class Entries:
 
 
 def entry_values(entry: Entry, made: bool, offered: bool, sealed: bool) -> tuple[object, ...]:
-    """An entry's row: a sealed one has its body unsealed beside it."""
-    body = entry.body if sealed else None
-    return entry.hash, entry.raw, body, zlib.crc32(body or b""), made, offered
+    """What an entry's row is made of: a sealed one has its body unsealed beside it."""
+    # Of all but numbers, words and byte arrays Python looks first how they are to be adapted, for longer than they take to be written.
+    body = bytearray(entry.body) if sealed else None
+    return (bytearray(entry.hash), bytearray(entry.raw), 0 if body is None else body, zlib.crc32(body or b""), int(made), int(offered))
 
 
 def _marks(values: Sequence[bytes]) -> str:

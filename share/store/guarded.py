@@ -6,8 +6,13 @@ from collections.abc import Callable, Collection, Iterator
 from typing import NoReturn
 
 from share.log.folder import inode_of
-from share.log.sqlite_file import Busy, Malformed, SqliteFile, application_without_log, faults
+from share.log.sqlite_file import FAULTS, Busy, Malformed, SqliteFile, application_without_log
 from share.store import unchanged
+
+
+# The pages that SQLite's log has before they go into the file: all of it is looked at for each key. While there is time they go there as
+# soon as it has this many bytes more.
+LOG_PAGES, LOG_BYTES = 250, 2**18
 
 
 class Unkept(Exception):
@@ -27,7 +32,7 @@ class GuardedFile:
     say Unkept, Damaged or Changed."""
 
     def __init__(self, path: pathlib.Path, application: int, tables: Collection[str]):
-        self.path, self._application = path, application
+        self.path, self._name, self._application = path, str(path), application
         # Empty, SQLite would take it for a new one, and remove what belongs to it.
         if not path.exists() or not path.stat().st_size:
             raise Damaged(f"{path} isn't there" if not path.exists() else f"{path} is empty")
@@ -35,8 +40,8 @@ class GuardedFile:
         self._left: unchanged.FileWatch | None = None
         if fault := unchanged.fault(path):
             raise Changed(fault)
-        self._version = 0
-        with self._told():
+        self._version = self._shortened = 0
+        with self.reading():
             self.sql = SqliteFile(path)
         try:
             with self.reading():
@@ -50,6 +55,7 @@ class GuardedFile:
         if self.sql.application() != self._application:
             raise Damaged(f"{self.path} isn't a note's file")
         self.sql.safe()
+        self.sql.keep_log_short(LOG_PAGES)
         if not self.sql.has_tables(tables):
             raise Damaged(f"{self.path} lacks some of its tables")
         # Read once, it has beside it what belongs to it.
@@ -58,10 +64,17 @@ class GuardedFile:
     @contextlib.contextmanager
     def reading(self) -> Iterator[None]:
         """What is asked meanwhile is asked of a file of which nothing was cut off or taken away: a process that reads an index that was
-        cut off is ended for it."""
+        cut off is ended for it. Says Unkept or Damaged of what SQLite can't do."""
         self._see()
-        with self._told():
-            yield
+        try:
+            with FAULTS:
+                yield
+        except Busy as why:
+            if self.path.exists():
+                raise Unkept(f"{self.path}: {why}") from why
+            self._doubted(why)
+        except Malformed as why:
+            self._doubted(why)
 
     @contextlib.contextmanager
     def writing(self) -> Iterator[None]:
@@ -75,19 +88,48 @@ class GuardedFile:
         with self._left.written() if self._left else contextlib.nullcontext(), self.sql.transaction():
             yield
 
-    def look(self, read_again: Callable[[], None]) -> None:
-        """Sees that the file is what was written; where another program wrote to it, by what reading it again says."""
-        if not self.is_in_place():
-            raise Damaged(f"{self.path} was taken away")
+    def look(self, read_again: Callable[[], None], at_end: bool = False) -> None:
+        """Sees that a file that is in its place is what was written; where another program wrote to it, by what reading it again says. At
+        the end that is done, too, where SQLite wrote there what wasn't looked at."""
         self._see()
-        if self._left and (state := self._left.unknown()):
-            if fault := self._left.fault_of_log():
-                raise Changed(fault)
+        if self._left and (fault := self._left.fault_of_log(at_end)):
+            raise Changed(fault)
+        if self._left and (state := self._left.unknown(at_end)):
             try:
                 read_again()
             except Damaged as why:
                 raise Changed(f"another program wrote to it: {why}") from why
             self._left.knows(state)
+
+    def look_at_unseen(self, read: Callable[[], None]) -> bool:
+        """Looks at what was written and nobody has looked at, and reads what of that is in the file itself; whether there was any. All that
+        have it open hear what is wrong with it."""
+        if self._left and not self._left.sum_up():
+            raise Damaged(f"the log beside {self.path} was written to")
+        if not self._left or not (state := self._left.unseen()):
+            return False
+        try:
+            read()
+        except Damaged:
+            self._left.doubts()
+            raise
+        self._left.saw(state)
+        return True
+
+    def has_long_log(self) -> bool:
+        """Whether SQLite's log has become long since it was last shortened, if it was."""
+        ahead = self._left.ahead() if self._left else 0
+        # It is shorter where it has begun anew.
+        self._shortened = min(self._shortened, ahead)
+        return ahead >= self._shortened + LOG_BYTES
+
+    def shorten_log(self) -> None:
+        """Has what SQLite's log has go into the file, so that what writes next needn't do so, and has less to look at. What is in the
+        log was looked at just now."""
+        if self._left:
+            self._shortened = self._left.ahead()
+            with self.reading(), self._left.written():
+                self.sql.shorten_log()
 
     def check(self) -> None:
         """Looks whether all of the file can be read."""
@@ -101,7 +143,7 @@ class GuardedFile:
 
     def is_in_place(self) -> bool:
         """Whether the file is still the one under its name."""
-        return inode_of(self.path) == self.inode
+        return inode_of(self._name) == self.inode
 
     def has_changed(self) -> bool:
         """Whether another connection wrote since this was last asked."""
@@ -112,26 +154,15 @@ class GuardedFile:
 
     def close(self) -> None:
         """Lets go of the file."""
+        left, self._left = self._left, None
         # With the last of those that have it open goes what belongs to it.
-        self._left = None
+        if left:
+            left.let_go()
         self.sql.close()
 
     def _see(self) -> None:
         if self._left and (fault := self._left.fault()):
             raise Changed(fault)
-
-    @contextlib.contextmanager
-    def _told(self) -> Iterator[None]:
-        """Says Unkept or Damaged of what SQLite can't do."""
-        try:
-            with faults():
-                yield
-        except Busy as why:
-            if self.path.exists():
-                raise Unkept(f"{self.path}: {why}") from why
-            self._doubted(why)
-        except Malformed as why:
-            self._doubted(why)
 
     def _doubted(self, why: Exception) -> NoReturn:
         # Another thread that has it open may have seen none of it.

@@ -9,22 +9,24 @@ import os
 import pathlib
 import secrets
 import sqlite3
-from collections.abc import Collection, Iterable, Sequence
+from collections.abc import Callable, Iterable, Mapping, Sequence
 from dataclasses import dataclass, replace
 
 from share.admission.ledger import Row
-from share.format.entry import NOTE_BYTES, Copy, Entry, Form, Plain
+from share.format.entry import NOTE_BYTES, Copy, Entry, Form, Plain, digest
 from share.log.folder import Inode, held, inode_of, make_folder
 from share.log.sqlite_file import SIDE_FILES, Busy, Malformed, SqliteFile, beside, set_aside
-from share.store.entries import ADD_ENTRY, ENTRIES_SCHEMA, Entries, entry_values
+from share.store.entries import ADD_ENTRY, ENTRIES_SCHEMA, NEVER_OFFERED, Entries, entry_values
 from share.store.guarded import Damaged, GuardedFile, Unkept
 from share.store.locks import Locks
 from share.store.own import ADD_ANEW, ADD_CLIENT, OWN_SCHEMA, Anew, Client, OwnTables
+from share.text.errors import entries as many_entries
 
 # Tells a note's file from other files of SQLite, in its header.
 NOTE_APPLICATION = 0x56534E32
 NOTE_SCHEMA = f"CREATE TABLE about (name TEXT PRIMARY KEY, value BLOB NOT NULL); {ENTRIES_SCHEMA} {OWN_SCHEMA}"
 NOTE_TABLES = "about", "entry", "withdrawn", "client", "anew"
+IN_DOUBT = "in doubt"
 # How long a sealed note's key is.
 SEALED_KEY_BYTES = 32
 
@@ -52,17 +54,20 @@ class Disk:
     def __init__(self, path: pathlib.Path):
         self.path = path
         self._file = GuardedFile(path, NOTE_APPLICATION, NOTE_TABLES)
+        self._locks = Locks(path)
         try:
             with self._file.reading():
                 self.about = about_of(self._file.sql)
             self.form = self.about.form()
+            self.inode = self._file.inode
+            self.entries = Entries(self._file, self.form, self.about.sealed)
+            self.own = OwnTables(self._file)
+            self._noted_of = noted_of(self.form, self.inode)
         except BaseException:
-            self._file.close()
+            self.close()
             raise
-        self.inode = self._file.inode
-        self.entries = Entries(self._file, self.form, self.about.sealed)
-        self.own = OwnTables(self._file)
-        self._locks = Locks(path)
+        # Whether it was seen that it has all that is noted.
+        self._is_whole = False
 
     def again(self) -> "Disk":
         """The same file, for another thread."""
@@ -72,17 +77,27 @@ class Disk:
         """Whether the file is still the one under its name, and the locks are where others look for them."""
         return self._file.is_in_place() and self._locks.is_in_place()
 
-    def look(self, known: Collection[bytes]) -> None:
-        """Sees that the file is what was written, and where another program wrote to it that it has these entries."""
+    def look(self, has_all: Callable[["Disk"], bool], at_end: bool = False) -> None:
+        """Sees that the file is what was written, and where another program wrote to it that it has all that is to be there."""
         if not self.is_in_place():
             raise Damaged(f"{self.path} was taken away")
-        self._file.look(lambda: self._has_still(known))
+        self._file.look(lambda: self._has_still(has_all), at_end)
 
-    def _has_still(self, known: Collection[bytes]) -> None:
+    def look_at_unseen(self) -> bool:
+        """Looks whether all can be read that SQLite wrote to the file itself, where nobody has since; any thread may do so."""
+        return self._file.look_at_unseen(lambda: self._has_still(lambda again: again.entries.are_whole()))
+
+    def _has_still(self, has_all: Callable[["Disk"], bool]) -> None:
         with contextlib.closing(self.again()) as again:
             again.check()
-            if again.entries.many_of(known) < len(known):
-                raise Damaged(f"{self.path} lacks entries that it had")
+            if not has_all(again):
+                raise Damaged(f"{self.path} lacks what it had")
+
+    def lacks(self) -> int:
+        """How many entries it had, as was noted beside it, and hasn't."""
+        # What is noted meanwhile is there.
+        noted = self._locks.noted(self._noted_of)
+        return max(0, noted - self.entries.greatest_place())
 
     def check(self) -> None:
         """Looks whether all of the file can be read."""
@@ -92,7 +107,7 @@ class Disk:
         """Whether another connection wrote since this was last asked."""
         return self._file.has_changed()
 
-    def restore(self, rows: Iterable[Row], withdrawn: Iterable[bytes], hidings: Iterable[Copy] = (),
+    def restore(self, rows: Mapping[bytes, Row], withdrawn: Iterable[bytes], hidings: Iterable[Copy] = (),
                 clients: Iterable[Client] = (), anew: Iterable[tuple[bytes, int, int]] = ()) -> None:
         """Puts back what the file had, where it lacks it. A log may have been offered any of it."""
         with self._file.writing():
@@ -106,19 +121,43 @@ class Disk:
         self.about = replace(self.about, url=url)
 
     def keep(self, entries: Sequence[Entry], made: bool, client: Client | None = None, retired: Sequence[Client] = (),
-             anew: Sequence[Anew] = (), hidings: Sequence[Copy] = ()) -> int:
+             anew: Sequence[Anew] = (), hidings: Sequence[Copy] = ()) -> range:
         """Writes entries; with them, all or nothing, a number that was claimed, those that are given up,
-        what was made anew, and which messages hide copies. Gives the place of the last entry."""
-        if not self.is_in_place():
-            raise Damaged(f"{self.path} was taken away")
+        what was made anew, and which messages hide copies. Gives the places of those that it lacked."""
+        self._be_whole()
         with self._file.writing():
             if client:
                 self.own.add_client(client)
-            self.own.retire(retired)
-            self.entries.put(entries, made)
-            self.own.add_anew(anew)
+            if retired:
+                self.own.retire(retired)
+            many = self.entries.put(entries, made)
+            if anew:
+                self.own.add_anew(anew)
             self.own.add_hidings(hidings)
-            return self.entries.last_place()
+            last = self.entries.last_place()
+        # Where what is committed is lost with SQLite's log, the next opening tells.
+        self._locks.note(self._noted_of, last)
+        return range(last - many + 1, last + 1)
+
+    def receive(self, rows: Sequence[Row]) -> tuple[int, list[Row]]:
+        """Writes entries that a log has; the last place before them, and with their places, which follow it, those that are new."""
+        self._be_whole()
+        with self._file.writing():
+            before, new = self.entries.receive(rows)
+        self._locks.note(self._noted_of, before + len(new))
+        return before, new
+
+    def _be_whole(self) -> None:
+        """Raises Damaged where nothing may be written: what came to the places of what was lost would hide that."""
+        if not self.is_in_place():
+            raise Damaged(f"{self.path} was taken away")
+        if not self._is_whole and (many := self.lacks()):
+            raise Damaged(f"{self.path} has lost {many_entries(many)} that it had")
+        self._is_whole = True
+
+    def share_name(self) -> bool:
+        """Keeps the file from being renamed or deleted as long as this is open; whether nobody is about to."""
+        return self._locks.share_name()
 
     def lock(self, site: int) -> bool:
         """Keeps others from writing under a number as long as this file is open; whether nobody did."""
@@ -132,7 +171,29 @@ class Disk:
         """Goes on with the locks of the file that was open before, so that nobody has them meanwhile."""
         self._locks.take(other._locks)
         if not self.is_in_place():
-            self._locks.close()
+            self._locks.leave()
+            self._locks.share_name()
+
+    def unsent(self) -> int:
+        """How many edits of this file's person aren't known to be in the log, as far as the file says."""
+        with self._file.reading():
+            return unsent_of(self._file.sql)
+
+    def note_unsent(self, unsent: int, is_new: bool) -> None:
+        """Notes, for who looks without the log, how many of the edits that it lacks it was offered: it may have been gone by then.
+        Where that isn't new, only if some were noted. Versions of before pass over it."""
+        with self._file.reading():
+            noted = in_doubt_of(self._file.sql)
+        if is_new or noted:
+            with self._file.writing():
+                now = max(0, unsent - self._file.sql.one(NEVER_OFFERED))
+                self._file.sql.execute("INSERT OR REPLACE INTO about VALUES (?, ?)", (IN_DOUBT, now))
+
+    def tidy(self, look: Callable[[], None]) -> None:
+        """Does what writing would do now and then, while there is time, where there is something to do and nothing wrong is seen."""
+        if self._file.has_long_log():
+            look()
+            self._file.shorten_log()
 
     def quick(self) -> None:
         """What is written from now on lasts over kills, and not over the loss of power."""
@@ -142,6 +203,11 @@ class Disk:
         """Lets go of the file and of the locks."""
         self._file.close()
         self._locks.close()
+
+
+def noted_of(form: Form, inode: Inode | None) -> bytes:
+    """What tells of which file it is noted how many entries it had: another one that took its name has others at its places."""
+    return digest(form.note + repr(inode).encode())
 
 
 def about_of(file: SqliteFile) -> About:
@@ -154,6 +220,17 @@ def about_of(file: SqliteFile) -> About:
     if not isinstance(secret, bytes) or len(secret) != size or not isinstance(url, str):
         raise Damaged("it doesn't say which note it is of")
     return About(bool(found["sealed"]), secret, url)
+
+
+def unsent_of(file: SqliteFile) -> int:
+    """How many edits of a file's person aren't known to be in a log, as far as the file says."""
+    return file.one(NEVER_OFFERED) + in_doubt_of(file)
+
+
+def in_doubt_of(file: SqliteFile) -> int:
+    """How many of them were offered."""
+    found = file.execute("SELECT value FROM about WHERE name = ?", (IN_DOUBT,)).fetchone()
+    return found[0] if found and isinstance(found[0], int) else 0
 
 
 def make_note(path: pathlib.Path, about: About, rows: Iterable[Row] = (), clients: Iterable[Client] = (),

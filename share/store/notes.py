@@ -4,6 +4,7 @@ import os
 import pathlib
 import re
 import secrets
+import time
 from collections.abc import Callable, Iterable, Iterator, Mapping, Sequence
 from dataclasses import replace
 from itertools import chain, count
@@ -30,6 +31,8 @@ from share.store.with_log import with_log
 from share.text.errors import Trouble
 
 NOTE_SUFFIX = ".note"
+# How long opening waits for who renames or deletes a note, and the time between two tries.
+NAME_SECONDS, TRY_NAME_SECONDS = 10, 0.01
 
 
 def data_folder() -> pathlib.Path:
@@ -58,6 +61,12 @@ def is_here(name: str) -> bool:
     return path_of(name).exists() or old.is_old_note(data_folder(), name)
 
 
+def names() -> list[str]:
+    """The names of the notes that are here in the form of today."""
+    found = (path.name[:-len(NOTE_SUFFIX)] for path in (data_folder() / "notes").glob(f"*{NOTE_SUFFIX}"))
+    return sorted(filter(is_name, found))
+
+
 class Renewed(NamedTuple):
     """The name that a note has that was copied into a new one, None where it was of the form of before and is where
     it was; what isn't in the new one, in words; and what was left out of the old one for good."""
@@ -76,8 +85,10 @@ def open_note(name: str, url: str | None, link: Link | None, password: str | Non
         if not path.exists():
             for words in _make_first(name, path, url, link, password):
                 tell(words)
-        disk = Disk(path)
+        disk = _named(name, path)
     except Damaged as why:
+        if not path.exists():
+            raise _is_gone(name) from why
         raise Trouble(f"{why}. bin/note recover {path.parent} brings back what can be read of it; or move it away, "
                       "and join the note again by its link.") from why
     except OSError as why:
@@ -90,6 +101,21 @@ def open_note(name: str, url: str | None, link: Link | None, password: str | Non
         disk.close()
         raise
     return disk
+
+
+def _named(name: str, path: pathlib.Path) -> Disk:
+    """A note's file, which keeps its name as long as it is open."""
+    disk, end = Disk(path), time.monotonic() + NAME_SECONDS
+    while not disk.share_name() and time.monotonic() < end:
+        time.sleep(TRY_NAME_SECONDS)
+    if not (disk.share_name() and disk.is_in_place()):
+        disk.close()
+        raise _is_gone(name)
+    return disk
+
+
+def _is_gone(name: str) -> Trouble:
+    return Trouble(f"The note {name} is being renamed or deleted, or was just now.")
 
 
 def link_to(name: str) -> str:
@@ -186,13 +212,17 @@ def about_new(url: str | None) -> About:
 
 def of_before(name: str, url: str | None, password: str | None) -> Old | None:
     """The messages of a note of the form of before, where there is one."""
-    if not url or not is_network(url):
-        return old.messages_of_old_note(data_folder(), name)
     try:
-        return old.messages_of_old_server(url, name, password, data_folder())
+        return _of_before(name, url, password)
     except Unreachable as why:
         raise Trouble(f"{why}. Whether the note {name} is on the server in the form of before can't be seen. Try again "
                       "when it can be reached.") from why
+
+
+def _of_before(name: str, url: str | None, password: str | None) -> Old | None:
+    if not url or not is_network(url):
+        return old.messages_of_old_note(data_folder(), name)
+    return old.messages_of_old_server(url, name, password, data_folder())
 
 
 def existing(name: str) -> pathlib.Path:
@@ -233,12 +263,18 @@ def _make_first(name: str, path: pathlib.Path, url: str | None, link: Link | Non
     if not url and (kept := of_before(name, None, password)):
         _make_new(path, about_new(None), kept.messages)
         return kept.left_out
-    if url and is_network(url) and of_before(name, url, password):
+    told = []
+    try:
+        is_on_server = url and is_network(url) and _of_before(name, url, password)
+    except Unreachable as why:
+        # Nobody else has the new note, so nothing has to be known of the server.
+        is_on_server, told = None, [f"{why}. {name} is a new note, which is sent once its log can be reached."]
+    if is_on_server:
         raise Trouble(f"The note {name} on this server is of the form of before, which isn't sealed, and is read only. "
                       f"bin/note renew {name} --log {url} copies it into a sealed one, for which you give the others "
                       f"the link; bin/note {name} --log {url} --print prints it.")
     _make_new(path, about_new(url), {})
-    return ()
+    return told
 
 
 def _make_new(path: pathlib.Path, about: About, messages: Mapping[int, Sequence[Operation]]) -> None:

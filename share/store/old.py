@@ -48,7 +48,12 @@ class Old(NamedTuple):
 
 def is_old_note(data: pathlib.Path, name: str) -> bool:
     """Whether a data folder has the log of a note of this name, in the form of before."""
-    return bool(NOTE_NAME.fullmatch(name)) and _log_of(data, name).is_file()
+    return log_of_old_note(data, name) is not None
+
+
+def log_of_old_note(data: pathlib.Path, name: str) -> pathlib.Path | None:
+    """The log of a note of one machine in the form of before, where a data folder has it."""
+    return path if NOTE_NAME.fullmatch(name) and (path := _log_of(data, name)).is_file() else None
 
 
 def messages_of_old_note(data: pathlib.Path, name: str) -> Old | None:

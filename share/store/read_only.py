@@ -7,16 +7,21 @@ import sqlite3
 import struct
 import zlib
 from collections.abc import Callable, Iterable, Iterator
+from functools import partial
 from typing import Any, NamedTuple, TypeVar
 
 from share.admission.judge import Judge
 from share.admission.ledger import Row
+from share.admission.runs import runs
 from share.format.entry import Bad, Entry, Form, digest
 from share.format.keystrokes import Keystrokes
-from share.log.sqlite_file import Busy, Malformed, SqliteFile, faults
+from share.log.folder import inode_of
+from share.log.sqlite_file import FAULTS, Busy, Malformed, SqliteFile
 from share.program.site import Site
+from share.store.entries import GREATEST_PLACE
 from share.store.guarded import Damaged
-from share.store.note_file import NOTE_APPLICATION, About, about_of
+from share.store.locks import noted_beside, place_noted
+from share.store.note_file import NOTE_APPLICATION, About, about_of, noted_of, unsent_of
 from share.store.old import copied
 from share.store.own import COPIED
 from share.text.errors import NEWER, Trouble, entries
@@ -33,6 +38,8 @@ JUDGED_AT_ONCE = 2_000
 
 # The bytes of an entry as a file has them, its hash, its body unsealed, and a sum of that. What the disk damaged may have other types.
 Kept = tuple[Any, ...]
+# What says what a file of a note has lost.
+Lacking = Callable[[About, SqliteFile], list[str]]
 
 
 class FoundEntries(NamedTuple):
@@ -55,11 +62,16 @@ class Judged(NamedTuple):
         """Whether an entry was read."""
         return of in self.judge or of in self.others
 
-    def add(self, row: Row) -> None:
-        """Adds an entry."""
-        self.judge.add(row.entry, row.place, row.made, row.types_on)
-        if not row.entry.size and row.entry.hash not in self.judge:
-            self.others.add(row.entry.hash)
+    def add(self, rows: Iterable[Row]) -> None:
+        """Adds entries, and lets through what can be."""
+        for run in runs(self.judge.unknown(rows)):
+            if len(run) > 1 and self.judge.extend(run):
+                continue
+            for row in run:
+                self.judge.add(row.entry, row.place, row.made, row.types_on)
+                if not row.entry.size and row.entry.hash not in self.judge:
+                    self.others.add(row.entry.hash)
+        self.judge.let_through()
 
 
 class Faults:
@@ -100,6 +112,11 @@ def about(path: pathlib.Path) -> About:
     return _with_file(path, about_of)
 
 
+def about_and_unsent(path: pathlib.Path) -> tuple[About, int]:
+    """Which note a file is of, and how many edits of its person aren't known to be in its log."""
+    return _with_file(path, _about_and_unsent)
+
+
 def own_sites(path: pathlib.Path) -> set[int]:
     """The numbers that the person of a file has claimed."""
     return {site for site, _ in own(path).clients if isinstance(site, int)}
@@ -115,13 +132,15 @@ def own(path: pathlib.Path) -> Own:
 
 def found_in(path: pathlib.Path) -> FoundEntries:
     """What a file has, as far as it can be read. Each entry is judged as one that came from a stranger."""
-    return _with_file(path, _found)
+    noted = noted_beside(path)
+    return _with_file(path, lambda file: _found(file, partial(_lost, path, noted)))
 
 
 def judged(path: pathlib.Path) -> Judged:
     """What a file of this person has, judged as it is read: so no more of it is in memory than of a note that is open. Who signed what was
     seen as it was kept, and isn't looked at again, but for what the disk damaged."""
-    return _with_file(path, _judged)
+    noted = noted_beside(path)
+    return _with_file(path, lambda file: _judged(file, partial(_lost, path, noted)))
 
 
 def text_of(found: FoundEntries) -> NoteText:
@@ -160,24 +179,38 @@ def entries_of(about_it: About, raws: list[bytes], of: str) -> tuple[list[Entry]
     return right, faults.words()
 
 
-def _found(file: SqliteFile) -> FoundEntries:
+def _about_and_unsent(file: SqliteFile) -> tuple[About, int]:
+    about_it = about_of(file)
+    return about_it, unsent_of(file) if about_it.url else 0
+
+
+def _lost(path: pathlib.Path, noted: bytes, about_it: About, file: SqliteFile) -> list[str]:
+    """What a file had by what was noted beside it before it was read, and hasn't, in words."""
+    lost = place_noted(noted, noted_of(about_it.form(), inode_of(path))) - file.one(GREATEST_PLACE)
+    return [f"The file has lost {entries(lost)} that it had."] if lost > 0 else []
+
+
+def _found(file: SqliteFile, lacks: Lacking) -> FoundEntries:
     about_it, broken = about_of(file), list[str]()
     right, faults = entries_of(about_it, [raw for raw, in _rows_of(file, RAW, broken)], "the file")
-    return FoundEntries(about_it, right, broken + faults)
+    return FoundEntries(about_it, right, broken + faults + lacks(about_it, file))
 
 
-def _judged(file: SqliteFile) -> Judged:
+def _judged(file: SqliteFile, lacks: Lacking) -> Judged:
     about_it, broken, wrong = about_of(file), list[str](), Faults("the file")
     form, keystrokes = about_it.form(), Keystrokes()
     found = Judged(about_it, Judge(form=form), [], set())
-    for number, row in enumerate(_rows_of(file, RAW + KEPT_COLUMNS, broken), 1):
+    page = list[Row]()
+    for row in _rows_of(file, RAW + KEPT_COLUMNS, broken):
         try:
-            found.add(_as_kept(form, keystrokes, row))
+            page.append(_as_kept(form, keystrokes, row))
         except Bad as why:
             wrong.add(why)
-        if number % JUDGED_AT_ONCE == 0:
-            found.judge.let_through()
-    return found._replace(faults=broken + wrong.words())
+        if len(page) == JUDGED_AT_ONCE:
+            found.add(page)
+            page.clear()
+    found.add(page)
+    return found._replace(faults=broken + wrong.words() + lacks(about_it, file))
 
 
 def _rows_of(file: SqliteFile, columns: str, broken: list[str]) -> Iterator[Kept]:
@@ -225,7 +258,7 @@ def _with_file(path: pathlib.Path, read: Callable[[SqliteFile], Read]) -> Read:
 def _read(path: pathlib.Path, copy: pathlib.Path, read: Callable[[SqliteFile], Read]) -> Read:
     """What is read of a file by a copy of it, or by itself."""
     try:
-        with faults(), contextlib.closing(SqliteFile(copy, writes=False, bounded=True)) as file:
+        with FAULTS, contextlib.closing(SqliteFile(copy, writes=False, bounded=True)) as file:
             if file.application() != NOTE_APPLICATION:
                 raise Trouble(f"{path} isn't a note's file.")
             return read(file)

@@ -6,12 +6,13 @@ The file itself isn't opened for it, and what the system says of it is looked at
 away from all that have it open in the same process.
 """
 import contextlib
+import math
 import os
 import pathlib
 import struct
 import threading
+import time
 import weakref
-import zlib
 from collections.abc import Iterator
 from typing import NamedTuple
 
@@ -24,87 +25,156 @@ INDEX_BYTES = 32_768
 # with, the salts and the sums so far.
 LOG_HEAD, FRAME = struct.Struct(">8I"), struct.Struct(">6I")
 SUMMED_HEAD, SUMMED_FRAME, WORD = 24, 8, 0xFFFFFFFF
+SALTS_OF_LOG, SALTS_OF_FRAME = slice(16, 24), slice(8, 16)
 # How it begins says in which order bytes are summed.
 ORDERS = {0x377F0682: "<", 0x377F0683: ">"}
+# Of how many pages that is looked at each time, which takes a tenth of a millisecond a page.
+SUMMED_AT_ONCE = 4
+# How much of it is compared in one go, and how many pages are read.
+COMPARED_AT_ONCE, FRAMES_AT_ONCE = 2**18, 16
+# What is written within this time of another writing may leave a file with the same time.
+TICK_SECONDS = 0.05
+# The file itself is read through once nothing was written there for this time: who reads it keeps the log from beginning anew.
+QUIET_SECONDS = 1.0
+# After this time without a change of the log its sums are looked at: who types on makes none so long.
+SUMMED_AFTER_SECONDS = 0.5
 
 
 class FileState(NamedTuple):
-    """How a file was left: its bytes, when it was written last, and when the log beside it was."""
+    """How a file was left: its bytes, and when something of it was changed last."""
 
     size: int
-    written: int
-    logged: int
+    changed: int
 
 
 # No file is so.
-UNKNOWN = FileState(-1, 0, 0)
+UNKNOWN = FileState(-1, 0)
 
 
 class Ahead:
-    """How far the log beside a file was seen to be committed, and the sum of that. There are no locks on the log."""
+    """What the log beside a file was seen to have committed. There are no locks on the log."""
 
     def __init__(self, path: pathlib.Path):
         self._file = os.open(beside(path, WRITTEN_AHEAD), os.O_RDONLY | os.O_CLOEXEC)
-        weakref.finalize(self, os.close, self._file)
-        self._head, self._end, self._sum = b"", 0, 0
-        self.note()
+        # Its head and pages, up to the end of the last commit; how many of these bytes SQLite's own sums are known to be right of, and
+        # the last of these sums.
+        self._seen, self._summed = bytearray(), 0
+        # Into what each part of it is read that is compared: to make room takes longer than to compare.
+        self._part = memoryview(bytearray(COMPARED_AT_ONCE))
+        self._sums: tuple[int, ...] = (0, 0)
+        # When it was changed last as far as was seen, and when that was seen first; and whether nothing can have been written since
+        # it was compared that this time doesn't show.
+        self._changed, self._since, self._is_settled = -1, 0.0, False
+        try:
+            self.note()
+        except BaseException:
+            self.close()
+            raise
 
-    def note(self) -> None:
-        """Takes over what was committed since; all of it where the log begins anew."""
+    def close(self) -> None:
+        """Lets go of the file."""
+        os.close(self._file)
+
+    def __len__(self) -> int:
+        return len(self._seen)
+
+    def note(self) -> bool:
+        """Takes over what was committed since, all of it where the log begins anew; whether something was."""
         head = self._read(0, LOG_HEAD.size)
-        if head != self._head:
-            self._head, self._end, self._sum = head, len(head), zlib.crc32(head)
-        end, total = self._end, self._sum
-        for frame, commits in self._frames(self._end):
-            end, total = end + len(frame), zlib.crc32(frame, total)
+        if head != self._seen[:LOG_HEAD.size]:
+            if not self._may_begin(head):
+                return False
+            self._seen, self._summed, self._sums = bytearray(head), LOG_HEAD.size, LOG_HEAD.unpack(head)[6:]
+        before = end = len(self._seen)
+        for frame, commits in self._frames(before):
+            self._seen += frame
             if commits:
-                self._end, self._sum = end, total
+                end = len(self._seen)
+        del self._seen[end:]
+        return end > before
 
-    def begins_rightly(self) -> bool:
-        """Whether the log begins as it was seen, or as SQLite begins one anew."""
-        head = self._read(0, LOG_HEAD.size)
-        if head == self._head:
-            return True
-        order = ORDERS.get(LOG_HEAD.unpack(head)[0]) if len(head) == LOG_HEAD.size else None
-        return order is not None and _summed(head[:SUMMED_HEAD], (0, 0), order) == LOG_HEAD.unpack(head)[6:]
+    def changed(self) -> int:
+        """When it was changed last."""
+        return os.fstat(self._file).st_ctime_ns
 
-    def is_as_noted(self) -> bool:
+    def rested(self) -> float:
+        """For how many seconds it wasn't changed, as far as was seen."""
+        now, changed = time.monotonic(), self.changed()
+        if changed != self._changed:
+            self._changed, self._since, self._is_settled = changed, now, False
+        return now - self._since
+
+    def is_there(self) -> bool:
         """Whether what was seen is there still."""
-        return zlib.crc32(self._read(0, self._end)) == self._sum
+        rested = self.rested()
+        if self._is_settled:
+            return True
+        found = self._is_as_seen() or self.is_right()
+        self._is_settled = found and rested > TICK_SECONDS
+        return found
+
+    def _is_as_seen(self) -> bool:
+        self.note()
+        return all(map(self._has, range(0, len(self._seen), COMPARED_AT_ONCE)))
+
+    def _has(self, begin: int) -> bool:
+        """Whether the part that begins there is there still."""
+        part = self._part[:len(self._seen) - begin]
+        # Two views would be compared byte by byte, which takes eighty times as long.
+        return os.preadv(self._file, [part], begin) == len(part) and self._seen.startswith(part, begin)
 
     def is_right(self) -> bool:
-        """Whether SQLite's own sums say that what was seen, or what begins anew, is what was written. Another process may have
-        been about to write as it was seen. This takes long."""
-        before, self._head = self._head, self._read(0, LOG_HEAD.size)
-        if len(self._head) < LOG_HEAD.size or not (order := ORDERS.get(LOG_HEAD.unpack(self._head)[0])):
-            return before == self._head
-        sums, end = _summed(self._head[:SUMMED_HEAD], (0, 0), order), LOG_HEAD.size
-        if sums != LOG_HEAD.unpack(self._head)[6:]:
+        """Whether it is what SQLite wrote, by its own sums. Another process may have been about to write as it was seen."""
+        before, head = len(self._seen), self._seen[:LOG_HEAD.size]
+        del self._seen[self._summed:]
+        return self._is_as_seen() and self.adds_up() and (len(self._seen) >= before or head != self._seen[:LOG_HEAD.size])
+
+    def adds_up(self, most: float = math.inf) -> bool:
+        """Whether the next pages of what was seen have the sums that SQLite wrote beside them."""
+        if not self._seen:
+            return True
+        begins, _, page = LOG_HEAD.unpack_from(self._seen)[:3]
+        size = FRAME.size + page
+        while self._summed < len(self._seen) and most > 0:
+            frame = self._seen[self._summed:self._summed + size]
+            sums = _summed(frame[:SUMMED_FRAME] + frame[FRAME.size:], self._sums, ORDERS[begins])
+            if sums != FRAME.unpack_from(frame)[4:]:
+                return False
+            self._summed, self._sums, most = self._summed + size, sums, most - 1
+        return True
+
+    def _may_begin(self, head: bytes) -> bool:
+        """Whether the log may begin so: as SQLite begins it, and not as it did before."""
+        order = ORDERS.get(LOG_HEAD.unpack(head)[0]) if len(head) == LOG_HEAD.size else None
+        if order is None or _summed(head[:SUMMED_HEAD], (0, 0), order) != LOG_HEAD.unpack(head)[6:]:
             return False
-        for frame, _ in self._frames(end):
-            sums = _summed(frame[:SUMMED_FRAME] + frame[FRAME.size:], sums, order)
-            if end >= self._end or sums != FRAME.unpack_from(frame)[4:]:
-                break
-            end += len(frame)
-        return before != self._head or end >= self._end
+        # The first salt is one more each time.
+        before = LOG_HEAD.unpack_from(self._seen)[4] if self._seen else 0
+        return not self._seen or 0 < (LOG_HEAD.unpack(head)[4] - before & WORD) <= WORD // 2
 
     def _read(self, begin: int, size: int) -> bytes:
         return os.pread(self._file, size, begin)
 
     def _frames(self, begin: int) -> Iterator[tuple[bytes, int]]:
         """The pages that follow from a place on, each with what is before it, and whether it ends a commit."""
-        if len(self._head) < LOG_HEAD.size:
+        if not self._seen:
             return
-        _, _, page, _, *salts = LOG_HEAD.unpack(self._head)[:6]
-        while len(frame := self._read(begin, FRAME.size + page)) == FRAME.size + page:
-            _, commits, *found = FRAME.unpack_from(frame)
-            if found[:2] != salts:
+        _, _, page, _, *salts = LOG_HEAD.unpack_from(self._seen)[:6]
+        size = FRAME.size + page
+        # Mostly there is none.
+        while self._read(begin, FRAME.size)[SALTS_OF_FRAME] == self._seen[SALTS_OF_LOG]:
+            frames = self._read(begin, FRAMES_AT_ONCE * size)
+            for at in range(0, len(frames) // size * size, size):
+                _, commits, *found = FRAME.unpack_from(frames, at)
+                if found[:2] != salts:
+                    return
+                yield frames[at:at + size], commits
+            if len(frames) < size:
                 return
-            begin += len(frame)
-            yield frame, commits
+            begin += len(frames) // size * size
 
 
-def _summed(data: bytes, sums: tuple[int, ...], order: str) -> tuple[int, ...]:
+def _summed(data: bytes | bytearray, sums: tuple[int, ...], order: str) -> tuple[int, ...]:
     """The sums of a log with some bytes more."""
     one, other = sums
     for first, second in struct.iter_unpack(f"{order}2I", data):
@@ -124,59 +194,111 @@ class FileWatch:
         self._sizes = dict(zip(self._inodes, (1, 0, INDEX_BYTES)))
         self._writing = threading.RLock()
         self._state, self._ahead = self._now(), Ahead(path)
+        # Whether a commit that was made isn't in the log, and whether that is damaged; and when what nobody has looked at yet was seen in
+        # the file itself.
+        self._awaits, self._is_damaged, self._moved = False, False, math.inf
+        # How many have the file open.
+        self._users = 0
+
+    def use(self) -> "FileWatch":
+        """Counts one more who has the file open, and lets go of this when he does. It is called with `_knowing` held."""
+        self._users += 1
+        return self
+
+    def let_go(self) -> None:
+        """One less has the file open; with the last one nothing is known of it any more."""
+        with _knowing:
+            self._users -= 1
+            if not self._users:
+                if _known.get(self._inodes[self._path]) is self:
+                    del _known[self._inodes[self._path]]
+                self._ahead.close()
 
     def fault(self) -> str | None:
         """What another program did to the file, in words, where that is seen at once: SQLite cuts none of these off. Nothing,
         where another file took the name."""
         for path, inode in self._inodes.items():
             # It may grow while it is looked at, and another thread see that.
-            least, name = self._sizes[path], os.path.basename(path)
+            least = self._sizes[path]
             try:
                 found = os.stat(path)
             except OSError:
-                return None if path == self._path else f"{name} was taken away"
+                return None if path == self._path else f"{os.path.basename(path)} was taken away"
             if (found.st_dev, found.st_ino) != inode:
-                return None if path == self._path else f"{name} was replaced"
+                return None if path == self._path else f"{os.path.basename(path)} was replaced"
             if found.st_size < least:
-                return f"{name} was cut off" if found.st_size else f"{name} was emptied"
-            self._sizes[path] = max(least, found.st_size)
+                return f"{os.path.basename(path)} was {'cut off' if found.st_size else 'emptied'}"
+            if found.st_size > least:
+                self._sizes[path] = found.st_size
         return None
 
     @contextlib.contextmanager
     def written(self) -> Iterator[None]:
-        """Takes note of what is written meanwhile. Only one thread writes at a time."""
+        """Takes note of what is written meanwhile. Only one thread writes at a time; what another program writes meanwhile isn't taken
+        over."""
         with self._writing:
-            is_known = self._state == self._now()
+            is_known, before = self._state == self._now(), self._ahead.changed()
             try:
                 yield
+                self._awaits |= not self._ahead.note() and self._ahead.changed() != before
             finally:
-                # Another program may have written meanwhile: what then begins wrongly is not taken over, and so is looked at.
-                if is_known and self._ahead.begins_rightly():
-                    self._ahead.note()
-                    self._state = self._now()
+                # SQLite itself may have moved pages of the log into the file.
+                if is_known and self._state != (now := self._now()):
+                    self._knows(now)
 
-    def unknown(self) -> FileState | None:
-        """How the file is, where another process has written to it, or to more than the end of the log."""
-        if self._state == self._now() != UNKNOWN:
+    def unknown(self, at_end: bool = False) -> FileState | None:
+        """How the file is, where another process has written to it, or at the end where that isn't looked at yet."""
+        if self._state == self._now() != UNKNOWN and not at_end:
             return None
         with self._writing:
             now = self._now()
-            if now.logged != self._state.logged and self._ahead.is_as_noted():
-                self._ahead.note()
-                self._state = self._state._replace(logged=now.logged)
-            return None if self._state == now else now
+            return now if self._state != now or at_end and self._moved < math.inf else None
 
-    def fault_of_log(self) -> str | None:
-        """What another program did to the log, in words."""
+    def fault_of_log(self, at_end: bool = False) -> str | None:
+        """What another program did to the log, in words; at the end SQLite's own sums say it, too."""
         with self._writing:
-            if self._ahead.is_as_noted() or self._ahead.is_right():
-                self._ahead.note()
-                return None
-        return f"{os.path.basename(self._log)} was written to"
+            # Another process may have been about to commit.
+            lacks = self._awaits and not self._ahead.note()
+            self._awaits = False
+            self._is_damaged = self._is_damaged or lacks or not self._ahead.is_there() or at_end and not self._adds_up(math.inf)
+        return f"{os.path.basename(self._log)} was written to" if self._is_damaged else None
+
+    def sum_up(self) -> bool:
+        """Whether the log is as it was left, and its next pages by SQLite's own sums, too. That is seen between keys, so that the next one
+        needn't wait for it; the sums take so long that they wait for a pause."""
+        with self._writing:
+            rested = self._ahead.rested()
+            if rested > TICK_SECONDS:
+                self._is_damaged = self._is_damaged or not self._ahead.is_there()
+            if rested > SUMMED_AFTER_SECONDS:
+                self._is_damaged = self._is_damaged or not self._adds_up(SUMMED_AT_ONCE)
+        return not self._is_damaged
+
+    def ahead(self) -> int:
+        """How many bytes the log was seen to have."""
+        return len(self._ahead)
+
+    def _adds_up(self, most: float) -> bool:
+        return self._ahead.adds_up(most) or self._ahead.is_right()
+
+    def unseen(self) -> FileState | None:
+        """How the file is, where something was written that nobody has looked at, and whatever else is written shows."""
+        with self._writing:
+            return self._state if self._moved < time.monotonic() - QUIET_SECONDS else None
+
+    def saw(self, state: FileState) -> None:
+        """Says that a file that was left so is right."""
+        with self._writing:
+            if self._state == state:
+                self._moved = math.inf
 
     def knows(self, state: FileState) -> None:
-        """Says that a file that is so is right."""
-        self._state = state
+        """Says that a file that is so is right, but for what was written in the same moment."""
+        with self._writing:
+            self._knows(state)
+
+    def _knows(self, state: FileState) -> None:
+        self._state, self._moved = state, time.monotonic()
 
     def doubts(self) -> None:
         """Forgets how the file was left."""
@@ -184,10 +306,10 @@ class FileWatch:
 
     def _now(self) -> FileState:
         try:
-            found, log = os.stat(self._path), os.stat(self._log)
+            found = os.stat(self._path)
         except OSError:
             return UNKNOWN
-        return FileState(found.st_size, found.st_mtime_ns, log.st_mtime_ns)
+        return FileState(found.st_size, found.st_ctime_ns)
 
 
 _known: "weakref.WeakValueDictionary[Inode, FileWatch]" = weakref.WeakValueDictionary()
@@ -211,11 +333,11 @@ def doubt(path: pathlib.Path) -> None:
 
 
 def left(path: pathlib.Path) -> FileWatch | None:
-    """How the file of this name was left, which has just been opened and read; None where nothing is beside it, so that one
-    process alone can have it open."""
+    """How the file of this name was left, which has just been opened and read, until it is let go of; None where nothing is beside it,
+    so that one process alone can have it open."""
     inode = inode_of(path) or (0, 0)
     with _knowing, contextlib.suppress(OSError):
         if not (found := _known.get(inode)):
             found = _known[inode] = FileWatch(path)
-        return found
+        return found.use()
     return None

@@ -1,13 +1,15 @@
-"""What a note's file and its log have together, read without a number, and without changing or making anything."""
+"""What a note's file and its log have together, read without a number."""
 import pathlib
-from collections.abc import Iterator
-from contextlib import ExitStack, closing, contextmanager
+from collections.abc import Callable, Iterator
+from contextlib import ExitStack, closing, contextmanager, suppress
 
 from share.admission.ledger import Row
-from share.format.entry import Bad, digest
+from share.format.entry import Bad, Entry, digest
 from share.format.link import is_network
 from share.log.base import START, InLog, Log, LogLost, Unreachable
 from share.log.opening import open_log
+from share.store.guarded import Damaged, Unkept
+from share.store.note_file import Disk
 from share.store.old import copied
 from share.store.read_only import Faults, Judged
 from share.text.errors import Trouble, entries
@@ -16,8 +18,8 @@ from share.text.errors import Trouble, entries
 READ_TRIES = 3
 
 
-def with_log(found: Judged, url: str, password: str | None) -> Judged:
-    """What a file has and what a log has besides, which is judged a page at a time."""
+def with_log(found: Judged, url: str, password: str | None, keep: Callable[[list[Entry]], None] = lambda new: None) -> Judged:
+    """What a file has and what a log has besides, which is judged a page at a time, and may be kept."""
     wrong, strange = Faults("the log"), set[str]()
     unread: list[str] = []
     form, seen = found.about.form(), set[bytes]()
@@ -26,17 +28,31 @@ def with_log(found: Judged, url: str, password: str | None) -> Judged:
             raws = {digest(one.raw): one.raw for one in page if one.raw is not None}
             strange |= {one.place for one in page if one.raw is None}
             new = [raw for of, raw in raws.items() if not found.has(of) and of not in seen]
-            for raw, one in zip(new, form.open_many(new)):
+            opened = form.open_many(new)
+            for raw, one in zip(new, opened):
                 if isinstance(one, Bad):
                     wrong.add(one)
                     seen.add(digest(raw))
-                else:
-                    found.add(Row(0, one, False))
-            found.judge.let_through()
+            right = [one for one in opened if not isinstance(one, Bad)]
+            found.add(Row(0, one, False) for one in right)
+            keep(right)
     except (Unreachable, Trouble) as why:
         unread = [f"The log can't be read ({why}); what was printed is what is here."]
     told = [f"{entries(len(strange))} of the log can't be read."] if strange else []
     return found._replace(faults=[*found.faults, *unread, *wrong.words(), *told])
+
+
+def keep_in(path: pathlib.Path) -> Callable[[list[Entry]], None]:
+    """What puts entries that came from a log into a note's file, as far as that can be. Whoever has the note open does so by itself."""
+
+    def keep(new: list[Entry]) -> None:
+        with suppress(Unkept, Damaged, Trouble, OSError):
+            if new:
+                with closing(Disk(path)) as disk:
+                    if not disk.locked():
+                        disk.keep(new, made=False)
+
+    return keep
 
 
 def _pages(url: str, note: bytes, password: str | None) -> Iterator[list[InLog]]:

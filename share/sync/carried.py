@@ -13,6 +13,7 @@ IN_LOG = WAS_READ | WAS_GIVEN | WAS_HAD
 _AFTER_BEGIN = bytes(mark & OWN_EDIT | (WAS_HAD if mark & IN_LOG else 0) for mark in range(256))
 _AFTER_END = bytes(mark & (OWN_EDIT | WAS_READ | WAS_GIVEN) for mark in range(256))
 _LET_GO = bytes(mark & ~HELD_BACK for mark in range(256))
+_MARKED = {bit: bytes(mark | bit for mark in range(256)) for bit in (WAS_READ, WAS_GIVEN, OWN_EDIT, HELD_BACK)}
 
 
 class Carried:
@@ -32,11 +33,23 @@ class Carried:
         # No place before this one is lacking.
         self._first = 1
         self._unsent = 0
+        # No more of this person's edits than this can be unsent, by what the file says.
+        self._most_unsent = 0
 
     @property
     def unsent(self) -> int:
         """How many edits of this person the log isn't known to have."""
         return self._unsent
+
+    @property
+    def unsent_by_file(self) -> int:
+        """The same, where until the log was read whole the file says what it may lack."""
+        return self._unsent if self.whole else min(self._unsent, self._most_unsent)
+
+    def file_says(self, unsent: int) -> None:
+        """Takes over how many of the edits that were found the log may lack, by what the file says."""
+        with self._lock:
+            self._most_unsent = unsent
 
     def has(self, place: int) -> bool:
         """Whether the log is known to have what is at a place."""
@@ -51,14 +64,14 @@ class Carried:
     def found(self, last: int, own: Iterable[int]) -> None:
         """Takes over that the file was looked at up to a place, and where this person's edits are."""
         with self._lock:
-            self._mark(own, OWN_EDIT)
+            self._mark_own(own)
             self._grow(last)
             self.looked = max(self.looked, last)
 
     def made(self, own: Iterable[int]) -> None:
         """Takes over that this person made edits, which are at these places."""
         with self._lock:
-            self._mark(own, OWN_EDIT)
+            self._mark_own(own)
 
     def took_back(self, number: int, places: Iterable[int]) -> None:
         """Takes over which places were withdrawn, up to a number: nothing has to be sent of these."""
@@ -144,9 +157,20 @@ class Carried:
     def _grow(self, last: int) -> None:
         self._marks.extend(bytes(max(0, last + 1 - len(self._marks))))
 
+    def _mark_own(self, places: Iterable[int]) -> None:
+        before = self._unsent
+        self._mark(places, OWN_EDIT)
+        self._most_unsent += self._unsent - before
+
     def _mark(self, places: Iterable[int], bit: int) -> None:
         places = [*places]
         self._grow(max(places, default=-1))
+        if places and places == [*range(places[0], places[0] + len(places))]:
+            stretch = slice(places[0], places[-1] + 1)
+            self._unsent -= _many_unsent(self._marks[stretch])
+            self._marks[stretch] = self._marks[stretch].translate(_MARKED[bit])
+            self._unsent += _many_unsent(self._marks[stretch])
+            return
         for place in places:
             self._change(place, self._marks[place] | bit)
 
@@ -158,3 +182,8 @@ class Carried:
     def _change(self, place: int, mark: int) -> None:
         self._unsent += (mark & ~HELD_BACK == OWN_EDIT) - (self._marks[place] & ~HELD_BACK == OWN_EDIT)
         self._marks[place] = mark
+
+
+def _many_unsent(marks: bytearray) -> int:
+    """How many of these places have an edit of this person that the log isn't known to have."""
+    return marks.count(OWN_EDIT) + marks.count(OWN_EDIT | HELD_BACK)

@@ -4,6 +4,9 @@ from collections.abc import Callable, Sequence
 from share.format.chunk import packed_in_parts
 from share.format.entry import Copy, Entry, Form
 from share.format.operation import Operation
+from share.program import retyping
+from share.program.alike import One
+from share.program.retyping import Lost
 from share.program.site import Edited, Site
 from share.program.trace import Traced, trace
 from share.store.guarded import Unkept
@@ -63,6 +66,20 @@ class OwnEdits:
             self._keep_or_go_back(edited.messages, says, before)
         return edited
 
+    def type_again(self, found: Sequence[Lost]) -> None:
+        """Types again what was left out."""
+        copies = list[tuple[One, Operation]]()
+
+        def work(site: Site) -> Edited:
+            gone = self._holdings.withdrawn()
+            here = [row.entry for row in self._holdings.rows.each() if row.entry.hash not in gone]
+            typed = retyping.type_again(found, here, self._holdings.judge, site)
+            copies.extend(typed.copies)
+            return typed.edited
+
+        # Who has a copy has the word of it, too.
+        self.make(work, lambda last: retyping.words_of(copies, self._form, self.author.author, last))
+
     def make_room(self, length: int = 0) -> None:
         """Goes on under another number where this one has little room left beside this many characters, or can make no
         more edits."""
@@ -80,22 +97,22 @@ class OwnEdits:
         last = made[-1] if made else self.last
         said = says(last)
 
-        def keep() -> int:
+        def keep() -> range:
             if self._numbers.is_taken:
                 raise Unkept("another editor of yours got this one's number")
             self._file.look()
             return self._file.disk.keep([*said, *made], True, anew=anew, hidings=hidings)
 
         trace(Traced.EDIT, messages=len(messages), entries=len(made))
-        place = self._file.mended(keep)
+        places = self._file.mended(keep)
         self.last = last
-        self._holdings.add([*said, *made])
+        self._holdings.add([*said, *made], places)
         self._holdings.made_anew(anew, hidings)
         found = self._holdings.count()
         self._replica.made(messages, found)
         if found.anew:
             self._numbers.is_settled = False
-        self._replicator.made(range(place - len(made) + 1, place + 1))
+        self._replicator.made(places[len(places) - len(made):])
 
     def _in_entries(self, messages: Sequence[Operation]) -> list[Entry]:
         """Messages as entries that follow the last one."""

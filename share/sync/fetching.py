@@ -3,7 +3,8 @@ import time
 from collections.abc import Sequence
 from contextlib import closing
 
-from share.format.entry import Bad, Entry, Form, before_of, digest
+from share.admission.ledger import Row
+from share.format.entry import Bad, Form, before_of, digests
 from share.format.keystrokes import Keystrokes
 from share.log.base import START, InLog, Log
 from share.program.trace import Traced, trace
@@ -16,10 +17,10 @@ from share.sync.meeting import Meeting
 from share.sync.threads import Ends, Task, Threads
 from share.text.errors import entries
 
-# The longest that a log is watched before it is seen whether it still is the one that was read.
-LOG_WATCH_SECONDS = 0.5
 # After a reading from the front the next one begins only once this many times as long has passed, up to a most.
 RESTS, MOST_REST_SECONDS = 5, 30
+# Of more entries that come together one in this number is looked for in the file before all are.
+PROBE = 100
 # The most of what a log has that is no entry that are remembered, so that each is told once.
 MOST_LEFT_OUT = 10_000
 
@@ -51,17 +52,22 @@ class Fetcher:
         """Reads and watches until all stop."""
         with closing(self._ends.disk()) as disk, closing(self._ends.log()) as log:
             carried = self._known.of(disk)
-            while not self._threads.stopped.is_set() and self._known.is_of_now(disk, carried):
+            while self._goes_on(disk, carried):
                 if self._known.reads_from_front or self._read_for is not carried:
                     self._begin_reading(log, carried)
                 has_more = self._read_on(disk, log, carried)
                 if self._goal is not None and (self.size >= self._goal or not has_more):
                     self._end_reading(disk, carried)
-                elif not has_more and log.size() != self.size:
+                elif not has_more and log.size_to(self._after) != self.size:
                     # Something was taken out of the log, or put back.
                     self._known.reads_from_front = True
                 elif not has_more and not self._known.reads_from_front:
-                    log.watch(self._after, LOG_WATCH_SECONDS)
+                    log.watch(self._after, log.watch_seconds, self._known.bell)
+
+    def _goes_on(self, disk: Disk, carried: Carried) -> bool:
+        # What the bell rings for is looked at after this.
+        self._known.bell.silence()
+        return not self._threads.stopped.is_set() and self._known.is_of_now(disk, carried)
 
     def _begin_reading(self, log: Log, carried: Carried) -> None:
         """Goes back to the front of the log. A reading that the log's absence has cut off goes on where it was."""
@@ -102,41 +108,47 @@ class Fetcher:
         self._threads.tell(f"The log has lost {entries(many)} that it had. It is filled again from here.")
 
     def _read_on(self, disk: Disk, log: Log, carried: Carried) -> bool:
-        """Reads a page more; whether there was one."""
+        """Reads a page more; whether there may be another one."""
         given = carried.given()
         page = log.read(self._after)
         self._threads.works(Task.FETCH)
         if page:
             self._take(disk, carried, page)
             self._after, self.size = page[-1].place, self.size + len(page)
-        else:
-            self._came_to_end(carried, given)
-        return bool(page)
+            if not log.at_end:
+                return True
+        self._came_to_end(carried, given)
+        return False
 
     def _take(self, disk: Disk, carried: Carried, page: Sequence[InLog]) -> None:
         """Puts what came into the file, where it is right, and notes that the log has it."""
-        raws = {digest(one.raw): one.raw for one in page if one.raw is not None}
-        held = disk.entries.in_log(raws)
+        came = [one.raw for one in page if one.raw is not None]
+        raws = dict(zip(digests(came), came))
+        # Where nothing of a page seems to be in the file, what is put there says what was.
+        may_be_held = len(raws) <= PROBE or disk.entries.in_log([*raws][::PROBE])
+        held = disk.entries.in_log(raws) if may_be_held else {}
         opened, damaged = self._opened({of: raw for of, raw in raws.items() if of not in held and of not in self._left_out})
         for one in page:
             if one.raw is None:
                 self._leave_out(one.place, f"Entry {one.place} of the log can't be one and was left out.")
         trace(Traced.FETCHED, entries=len(page), new=len(opened))
-        self._known.came(disk, carried, opened, held)
+        self._known.came(disk, carried, opened, held.values())
         # What stands there may be asked for by what is before it, where that came.
         self._meeting.damaged(disk.entries.places_of(damaged))
         if opened:
             self._threads.wake()
 
-    def _opened(self, raws: dict[bytes, bytes]) -> tuple[list[Entry], list[bytes]]:
-        """The right ones of what came, and what is before those that are damaged."""
-        opened, damaged = list[Entry](), list[bytes]()
-        for of, found in zip(raws, self._form.open_many([*raws.values()], [*raws], self._keystrokes.type_on)):
-            if isinstance(found, Bad):
-                self._leave_out(of, f"An entry of the log {found} and was left out.")
+    def _opened(self, raws: dict[bytes, bytes]) -> tuple[list[Row], list[bytes]]:
+        """The right ones of what came, which have no place in the file yet; and what is before those that are damaged."""
+        opened, damaged = list[Row](), list[bytes]()
+        for of, found in zip(raws, self._form.formed([(raw, of) for of, raw in raws.items()])):
+            try:
+                if isinstance(found, Bad):
+                    raise found
+                opened.append(Row(0, found, False, self._keystrokes.type_on(found)))
+            except Bad as why:
+                self._leave_out(of, f"An entry of the log {why} and was left out.")
                 damaged.append(before_of(raws[of]))
-            else:
-                opened.append(found)
         return opened, damaged
 
     def _leave_out(self, what: bytes | str, words: str) -> None:

@@ -4,7 +4,7 @@ import time
 from contextlib import closing
 
 from share.format.entry import Form, digest
-from share.log.base import ON_SECONDS, Log
+from share.log.base import Log, Unreachable
 from share.program.trace import Traced, trace
 from share.store.note_file import Disk
 from share.sync.backoff import Losses
@@ -17,6 +17,8 @@ from share.sync.threads import Ends, Task, Threads
 GIVEN_AT_ONCE = 200
 # Nothing more is given while about this much was given and wasn't read in the log yet.
 MOST_GIVEN = 20_000
+# How often others are answered that lack something.
+ANSWER_SECONDS = 1.5
 # The longest wait for something to give, and the wait while the log is about to be read from its front.
 IDLE_SECONDS, ABOUT_TO_READ_SECONDS = 0.5, 0.03
 
@@ -45,13 +47,12 @@ class Giver:
             self._claim(disk, log, carried)
             while not self._threads.stopped.is_set() and self._known.is_of_now(disk, carried):
                 if time.monotonic() >= due:
-                    self._meet(disk, log, carried)
-                    due = time.monotonic() + ON_SECONDS / 10
+                    self._answer(disk, log, carried)
+                    due = time.monotonic() + ANSWER_SECONDS
                 self._threads.works(Task.GIVE)
                 self._work.clear()
                 if not self._give_more(disk, log, carried):
                     self._work.wait(ABOUT_TO_READ_SECONDS if self._known.reads_from_front else IDLE_SECONDS)
-            self._meeting.leave(log)
 
     def _claim(self, disk: Disk, log: Log, carried: Carried) -> None:
         """Gives the log the claims of this person before it was read, where the log can say which numbers are claimed: who
@@ -77,29 +78,39 @@ class Giver:
 
     def _give(self, disk: Disk, log: Log, carried: Carried) -> bool:
         """Gives the log some of what it lacks; whether there may be more."""
-        if (place := carried.next_lacking()) is None:
-            return False
+        if (place := carried.next_lacking()) is not None:
+            self._give_from(place, disk, log, carried)
+        if carried.next_lacking() is not None:
+            return True
+        disk.note_unsent(carried.unsent, is_new=False)
+        return False
+
+    def _give_from(self, place: int, disk: Disk, log: Log, carried: Carried) -> None:
+        """Gives the log what it lacks of what is from a place on."""
         found = disk.entries.places(place - 1, GIVEN_AT_ONCE)
         had = {one.place for one in found if carried.has(one.place)}
         lacks = {one.hash: one.place for one in found if one.place not in had and self._known.may_give(one)}
         raws = disk.entries.offer([*lacks.values()])
         given = {lacks[of] for of in map(digest, raws) if of in lacks}
         if raws:
-            log.append(raws)
+            try:
+                log.append(raws)
+            except Unreachable:
+                # It may have come there, or not.
+                disk.note_unsent(carried.unsent, is_new=True)
+                raise
             trace(Traced.GIVEN, entries=len(raws))
             carried.gave(given)
             self._threads.wake()
         # Of what was withdrawn, dropped or damaged there is nothing at its place.
         last = found[-1].place if found else carried.looked
         carried.holds_back({*range(place, last + 1)} - had - given)
-        return True
 
-    def _meet(self, disk: Disk, log: Log, carried: Carried) -> None:
-        """Meets the others, and gives the log again what they lack, of what it seemed to have."""
-        self._meeting.meet(log)
+    def _answer(self, disk: Disk, log: Log, carried: Carried) -> None:
+        """Gives the log again what others lack, of what it seemed to have."""
         places, reads = self._meeting.answers(disk)
         if reads:
-            self._known.reads_from_front = True
+            self._known.read_from_front()
         if had := [place for place in places if carried.has(place)]:
             log.append(disk.entries.offer(had))
             trace(Traced.GIVEN_AGAIN, entries=len(had))

@@ -1,18 +1,21 @@
 """What replicators say of themselves through a log: that they are on, and which entries they lack; and who was heard.
 
-Who can write to the log can put there again what was said before, under any name. So what is said has a token and a
-count that only rises, inside what is sealed: what isn't above the greatest that was heard under its token is nothing.
-What has passed since can't be told from what is said to somebody who has just come; so what is heard first under a
+What is said goes by the log's channel, to those who are on at that moment, or by its table, where it is met by all.
+
+Who can write to the log can say there again what was said before, under any name. So what is said has a token and a
+count that only rises, inside what is sealed: what isn't above the greatest that was heard under its token, whichever way,
+is nothing. What has passed since can't be told from what is said to somebody who has just come; so what is heard first under a
 token asks for nothing.
 """
+import math
 import time
-from collections.abc import Iterable, Sequence
+from collections.abc import Callable, Iterable, Iterator, Sequence
 from enum import IntEnum
 from typing import NamedTuple
 
-from share.format.heartbeat import OF_BEFORE, Lack, Said, is_of_now, read_heartbeat
-from share.format.presence import COUNT, FORM, MOST_NAME_BYTES, RANDOM_BYTES, TOKEN_BYTES, with_count
-from share.log.base import ON_SECONDS
+from share.format.heartbeat import OF_BEFORE, Hears, Lack, Said, is_of_now, read_heartbeat, token_of
+from share.format.presence import COUNT, FORM, LEAVING_BYTES, RANDOM_BYTES, TOKEN_BYTES, is_leaving, with_count
+from share.log.base import MOST_ON, ON_SECONDS
 
 # The most tokens that are remembered; the one that was silent longest is forgotten first.
 MOST_TOKENS = 4_096
@@ -43,6 +46,10 @@ class Voices:
             del self._greatest[next(iter(self._greatest))]
         return Heard.MORE if known else Heard.FIRST
 
+    def left(self, token: bytes) -> None:
+        """Takes over that whoever has a token isn't on any more."""
+        self._greatest[token] = self._greatest[token][0], -math.inf
+
     def is_on(self, token: bytes) -> bool:
         """Whether more was heard under a token lately."""
         known = self._greatest.get(token)
@@ -57,36 +64,72 @@ class Asked(NamedTuple):
 
 
 class Others:
-    """The replicators of others, by what they say. The giver's thread alone calls it."""
+    """The replicators of others, by what they say. The presence's thread alone calls it."""
 
     def __init__(self, token: bytes) -> None:
         self._token = token
         self._voices, self._asking = Voices(), Voices()
-        # How many are on, this one included.
-        self.on = 1
+        # Those who said by the channel that they are on, and those in the table.
+        self._by_channel: dict[bytes, None] = {}
+        self._in_table: set[bytes] = set()
+        # Whether somebody is on who hears the table alone; and whether somebody has come who is to be told what is shown here,
+        # and this replicator was heard itself, until who asks takes it back.
+        self.need_table = self.has_come = self.was_heard = False
+
+    @property
+    def on(self) -> int:
+        """How many are on, this one included."""
+        return 1 + len(self._in_table | {token for token in self._by_channel if self._voices.is_on(token)})
+
+    def is_on(self, token: bytes) -> bool:
+        """Whether a replicator says by the channel that it is on."""
+        return token in self._by_channel and self._voices.is_on(token)
 
     def heard(self, said: Iterable[bytes]) -> Asked:
-        """Takes over what all say who are on; what is asked for since."""
-        on: set[bytes] = set()
+        """Takes over what was said by the channel; what is asked for."""
         asked = Asked([], False)
+        for one in filter(None, map(read_heartbeat, said)):
+            if one.token == self._token:
+                self.was_heard = True
+            elif self._voices.hears(one.token, one.number) is not Heard.NOTHING:
+                self._by_channel.pop(one.token, None)
+                if one.hears is Hears.NOTHING:
+                    self._voices.left(one.token)
+                else:
+                    self._by_channel[one.token] = None
+                self.has_come |= one.hears is Hears.CHANNEL_FROM_NOW
+                asked.lacks.extend(self._asked_by(one))
+        while len(self._by_channel) > MOST_ON:
+            del self._by_channel[next(iter(self._by_channel))]
+        return asked
+
+    def met(self, said: Iterable[bytes]) -> Asked:
+        """Takes over what all say in the table who are on; what is asked for since."""
+        on: set[bytes] = set()
+        asked, self.need_table = Asked([], False), False
         for data in said:
             if one := read_heartbeat(data):
-                asked.lacks.extend(self._heard(one, on))
+                asked.lacks.extend(self._met(one, on))
             elif len(data) == OF_BEFORE.size:
                 token, asks = OF_BEFORE.unpack(data)
                 if not is_of_now(token):
                     on.add(token)
+                    self.need_table = True
                     asked = asked._replace(all=self._asking.hears(token, asks) is Heard.MORE or asked.all)
-        self.on = 1 + len(on)
+        self._in_table = on
         return asked
 
-    def _heard(self, one: Said, on: set[bytes]) -> Sequence[Lack]:
+    def _met(self, one: Said, on: set[bytes]) -> Sequence[Lack]:
         if one.token == self._token:
             return ()
         is_more = self._voices.hears(one.token, one.number) is not Heard.NOTHING
         if self._voices.is_on(one.token):
             on.add(one.token)
-        return one.lacks if is_more and self._asking.hears(one.token, one.asks) is Heard.MORE else ()
+            self.need_table |= one.hears is Hears.TABLE
+        return self._asked_by(one) if is_more else ()
+
+    def _asked_by(self, one: Said) -> Sequence[Lack]:
+        return one.lacks if self._asking.hears(one.token, one.asks) is Heard.MORE else ()
 
 
 class Shows:
@@ -94,19 +137,40 @@ class Shows:
 
     def __init__(self, engine: bytes) -> None:
         self._engine, self._voices = engine[:RANDOM_BYTES], Voices()
-        self._now: dict[bytes, bytes] = {}
+        # What each has said last by the channel, and what the table has.
+        self._by_channel: dict[bytes, bytes] = {}
+        self._in_table: dict[bytes, bytes] = {}
 
-    def heard(self, said: Iterable[bytes]) -> list[bytes]:
-        """Takes over what all say who are on; what each editor of others has said last. What was said before that, or comes
-        again once its editor has left, is nothing."""
+    def heard(self, said: Iterable[bytes]) -> None:
+        """Takes over what was said by the channel."""
+        for token, count, data in self._of_others(said):
+            if count is not None and self._voices.hears(token, count) is not Heard.NOTHING:
+                self._by_channel.pop(token, None)
+                # What the table has of it was said before that.
+                self._in_table.pop(token, None)
+                if not is_leaving(data):
+                    self._by_channel[token] = data
+        while len(self._by_channel) > MOST_ON:
+            del self._by_channel[next(iter(self._by_channel))]
+
+    def met(self, said: Iterable[bytes]) -> None:
+        """Takes over what all say in the table who are on. What was said before that, or comes again once its editor has left,
+        is nothing."""
         now: dict[bytes, bytes] = {}
-        for data in said:
-            if not FORM.size <= len(data) <= FORM.size + MOST_NAME_BYTES or data.startswith(self._engine):
-                continue
-            zeros, count = COUNT.unpack_from(data, RANDOM_BYTES)
-            token = data[:RANDOM_BYTES] + data[TOKEN_BYTES:2 * TOKEN_BYTES]
-            is_new = bool(zeros) or self._voices.hears(token, count) is not Heard.NOTHING
-            if is_new or token not in now and self._now.get(token) == data and self._voices.is_on(token):
+        for token, count, data in self._of_others(said):
+            is_new = count is None or self._voices.hears(token, count) is not Heard.NOTHING
+            if is_new or token not in now and self._in_table.get(token) == data and self._voices.is_on(token):
                 now[token] = data
-        self._now = now
-        return [data if COUNT.unpack_from(data, RANDOM_BYTES)[0] else with_count(data, 0) for data in now.values()]
+        self._in_table = {token: data for token, data in now.items() if not is_leaving(data)}
+
+    def now(self, is_on: Callable[[bytes], bool]) -> list[bytes]:
+        """What each editor of others has said last, whose replicator is on or is met in the table."""
+        on = {token: data for token, data in self._by_channel.items() if is_on(token_of(token[:RANDOM_BYTES]))}
+        return [data if COUNT.unpack_from(data, RANDOM_BYTES)[0] else with_count(data, 0) for data in (on | self._in_table).values()]
+
+    def _of_others(self, said: Iterable[bytes]) -> Iterator[tuple[bytes, int | None, bytes]]:
+        """What others say of editors: under which token, and with which count, which those of before don't have."""
+        for data in said:
+            if FORM.size <= len(data) <= LEAVING_BYTES and not data.startswith(self._engine):
+                zeros, count = COUNT.unpack_from(data, RANDOM_BYTES)
+                yield data[:RANDOM_BYTES] + data[TOKEN_BYTES:2 * TOKEN_BYTES], None if zeros else count, data

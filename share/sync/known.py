@@ -1,31 +1,42 @@
 """What a log is known to have of the file that is in its place now: one owner for all threads."""
 import threading
-from collections.abc import Callable, Iterable, Mapping, Sequence
+from collections.abc import Callable, Iterable, Sequence, Set
 
-from share.format.entry import NOT_UNDER_A_NUMBER, SAY_WHAT_BECAME, Entry, Kind
+from share.admission.ledger import Row
+from share.format.entry import NOT_UNDER_A_NUMBER, SAY_WHAT_BECAME, WITH_MESSAGES, Kind
+from share.log.bell import Bell
+from share.log.folder import Inode
 from share.store.entries import Located
 from share.store.guarded import Damaged, Unkept
 from share.store.note_file import Disk
 from share.sync.carried import Carried
+from share.sync.handover import Handover
 
 # The most entries of the file that are looked at in one go.
 LOOKED_AT_ONCE = 2_000
-MESSAGES = (Kind.MESSAGES, Kind.BUILDING, Kind.CHUNK, Kind.CHUNK_BUILDING)
 
 
 class Known:
     """Owns what the log has of the file. Any thread may call it. Its lock has one thread at a time look at the file for
     what is to be sent, or put into it what came."""
 
-    def __init__(self, has_log: bool) -> None:
-        self._has_log = has_log
+    def __init__(self, has_log: bool, handover: Handover, bell: Bell) -> None:
+        self._has_log, self._handover = has_log, handover
         # Of the file that is in its place now; of no file until a thread has looked at one.
         self.now = Carried(None)
         self._lock = threading.Lock()
-        # Whether the log is to be read from its front. Any thread may ask for that; the fetcher's does it.
+        # The last edit that was made here: its file and place.
+        self.made_last: tuple[Inode | None, int] = None, 0
+        # Whether the log is to be read from its front. Any thread may ask for that; the fetcher's does it, which the bell wakes.
         self.reads_from_front = False
+        self.bell = bell
         # The authors of this person's numbers under which somebody else writes, too.
         self._shared: set[bytes] = set()
+
+    def read_from_front(self) -> None:
+        """Has the log be read from its front."""
+        self.reads_from_front = True
+        self.bell.ring()
 
     def of(self, disk: Disk) -> Carried:
         """What is known of the log and this file: nothing yet, where the file was written anew."""
@@ -33,6 +44,7 @@ class Known:
             if self.now.file != disk.inode and disk.is_in_place():
                 new = Carried(disk.inode)
                 self._look_on(disk, new)
+                new.file_says(disk.unsent())
                 self.now = new
             return self.now
 
@@ -45,17 +57,30 @@ class Known:
         with self._lock:
             self._look_on(disk, carried)
 
-    def came(self, disk: Disk, carried: Carried, opened: Sequence[Entry], held: Mapping[bytes, int]) -> None:
-        """Puts entries that came from the log into the file, and notes that the log has them and those that were held."""
+    def came(self, disk: Disk, carried: Carried, opened: Sequence[Row], held: Iterable[int]) -> None:
+        """Puts entries that came from the log into the file, and notes that the log has them and what is held at some places."""
         # Between the two nobody is to take what came for something that the log lacks.
         with self._lock:
-            if opened:
-                disk.keep(opened, made=False)
-            new = disk.entries.places_of(entry.hash for entry in opened)
-            carried.read([*held.values(), *new.values()])
+            new = self._put(disk, carried, opened) if opened else ()
+            carried.read([*held, *new])
 
-    def made(self, disk: Disk, places: Iterable[int]) -> None:
+    def _put(self, disk: Disk, carried: Carried, opened: Sequence[Row]) -> Sequence[int]:
+        """Puts entries into the file, from where the editor's thread has them as they are here; their places."""
+        before, rows = disk.receive(opened)
+        if rows and carried.looked >= before:
+            own = [row.place for row in rows if row.made and row.entry.kind in WITH_MESSAGES]
+            self._saw(disk, carried, rows[-1].place, own, {(row.entry.kind, row.entry.author) for row in rows if not row.made})
+        self._handover.put(disk.inode, before, rows)
+        places = [row.place for row in rows]
+        if len(rows) < len(opened):
+            # Some were there, or another process of this person was quicker.
+            new = {row.entry.hash for row in rows}
+            places += disk.entries.in_log(row.entry.hash for row in opened if row.entry.hash not in new).values()
+        return places
+
+    def made(self, disk: Disk, places: Sequence[int]) -> None:
         """Takes over that this person made edits, at these places of the file."""
+        self.made_last = (disk.inode, places[-1]) if places else self.made_last
         if self.now.file == disk.inode:
             self.now.made(places)
 
@@ -76,9 +101,13 @@ class Known:
 
     def _look_on(self, disk: Disk, carried: Carried) -> None:
         while self._has_log and (found := disk.entries.places(carried.looked, LOOKED_AT_ONCE)):
-            carried.found(found[-1].place, [one.place for one in found if one.made and one.kind in MESSAGES])
-            own = {one.author.name for one in disk.own.clients()}
-            self._shared |= {one.author for one in found
-                             if not one.made and one.kind not in NOT_UNDER_A_NUMBER and one.author in own}
+            self._saw(disk, carried, found[-1].place, [one.place for one in found if one.made and one.kind in WITH_MESSAGES],
+                      {(one.kind, one.author) for one in found if not one.made})
         if gone := disk.entries.taken_back(carried.withdrawn):
             carried.took_back(gone[-1][0], [place for _, place in gone])
+
+    def _saw(self, disk: Disk, carried: Carried, last: int, own_edits: Iterable[int], by_others: Set[tuple[Kind, bytes]]) -> None:
+        """Takes over what the file has up to a place: where this person's edits are, and the kinds and authors of what others made."""
+        carried.found(last, own_edits)
+        if authors := {author for kind, author in by_others if kind not in NOT_UNDER_A_NUMBER}:
+            self._shared |= authors & {one.author.name for one in disk.own.clients()}

@@ -1,15 +1,16 @@
 """Who is on, through a log, and what each of them lacks."""
 import random
+import threading
 import time
 from collections.abc import Callable, Iterable, Iterator, Sequence
 
 from share.format import heartbeat
 from share.format.entry import Form
-from share.format.heartbeat import MOST_LACKS, OF_BEFORE, Lack, Said, Way
+from share.format.heartbeat import MOST_LACKS, OF_BEFORE, Hears, Lack, Said, Way
 from share.format.presence import RANDOM_BYTES
 from share.log.base import Log
 from share.store.note_file import Disk
-from share.sync.heard import Others
+from share.sync.heard import Asked, Others
 
 # The pause before the others are asked again for what is missing, which doubles up to a most.
 ASK_SECONDS, MOST_ASK_SECONDS = 2, 600
@@ -24,13 +25,14 @@ ASKING = b"asking\0\0"
 
 
 class Meeting:
-    """Says that this replicator is on and what it lacks, and hears the same of others. The giver's thread calls `meet`,
-    `answers` and `leave`; the editor's thread `ask`, and the fetcher's `damaged`."""
+    """Says that this replicator is on and what it lacks, and hears the same of others. The presence's thread says and hears;
+    the giver's calls `answers`, the editor's `ask`, and the fetcher's `damaged`."""
 
     def __init__(self, form: Form, token: bytes, counts: Iterator[int], wake: Callable[[], None]):
-        self.on = 1
+        self.on, self.others = 1, Others(token)
+        # Called by any thread, as soon as there is something to ask for.
+        self.has_to_ask: Callable[[], None] = lambda: None
         self._form, self._token, self._counts, self._wake = form, token, counts, wake
-        self._others = Others(token)
         # How often the others were asked, and from when on they are asked again; what they are asked for now, and next.
         self._asks, self._asked = 0, 0.0
         self._lacks: Sequence[Lack] = ()
@@ -38,6 +40,7 @@ class Meeting:
         # The entries after which something damaged came, and how often that is to be asked for yet.
         self._damaged: dict[bytes, int] = {}
         # What others have asked for; whether one couldn't say what it lacks; and from when on this is looked at again.
+        self._lock = threading.Lock()
         self._wanted: dict[Lack, None] = {}
         self._is_asked, self._answers_again = False, 0.0
 
@@ -48,48 +51,73 @@ class Meeting:
             self._wake()
 
     def ask(self, lacked: Callable[[], Sequence[bytes]]) -> None:
-        """Asks all who are on for entries of these hashes, the next time that it is heard. Who asks often does so ever more
-        rarely."""
+        """Asks all who are on for entries of these hashes, the next time that something is said. Who asks often does so ever
+        more rarely."""
         if time.monotonic() >= self._asked:
             self._lacked = lacked()
+            self.has_to_ask()
 
     def damaged(self, before: Iterable[bytes]) -> None:
         """Asks the others for what stands after these entries, where something damaged came."""
         self._damaged |= dict.fromkeys([*before][:MOST_DAMAGED - len(self._damaged)], ASKS_FOR_DAMAGED)
+        if self._damaged:
+            self.has_to_ask()
 
-    def meet(self, log: Log) -> None:
-        """Says that this one is on, and what it lacks; hears who else is, and what they lack."""
-        self._ask_for_more()
-        mine = Said(self._token, next(self._counts), self._asks, self._lacks)
-        log.meet(self._token[:RANDOM_BYTES] + ASKING, self._form.presence(heartbeat.heartbeat_of(mine)))
-        said = log.meet(self._token, self._form.presence(OF_BEFORE.pack(self._token, self._asks)))
-        asked = self._others.heard(found for raw in said if (found := self._form.present(raw)))
-        for one in asked.lacks[:MOST_WANTED - len(self._wanted)]:
-            self._wanted[one] = None
-        self._is_asked |= asked.all
-        self.is_on(self._others.on)
+    def asks(self) -> bool:
+        """Whether the others are to be asked for more now."""
+        return bool(self._lacked or self._damaged) and time.monotonic() >= self._asked
 
-    def answers(self, disk: Disk) -> tuple[list[int], bool]:
-        """The places of what others lack, and whether the log is to be read for one that can't say what it lacks."""
-        places = {*disk.entries.places_of([one.hash for one in self._wanted if one.way is Way.IT]).values()}
-        after, reads = [one.hash for one in self._wanted if one.way is Way.AFTER], False
-        if (after or self._is_asked) and time.monotonic() >= self._answers_again:
-            self._answers_again = time.monotonic() + WHOLE_ANSWER_SECONDS
-            places |= {*disk.entries.places_after(after, WANTED_AT_ONCE)}
-            reads, self._is_asked, after = self._is_asked, False, []
-        self._wanted = dict.fromkeys(Lack(Way.AFTER, of) for of in after)
-        return sorted(places), reads
+    def heartbeat(self, hears: Hears) -> bytes:
+        """What this one says of itself."""
+        # What others hear first under its token asks for nothing.
+        if hears is not Hears.CHANNEL_FROM_NOW and self.asks():
+            self._ask_for_more()
+        return self._form.presence(heartbeat.heartbeat_of(Said(self._token, next(self._counts), self._asks, self._lacks, hears)))
+
+    def meet(self, log: Log, hears: Hears) -> list[bytes]:
+        """Says it in the table, to all versions; what all say there."""
+        log.meet(self._token[:RANDOM_BYTES] + ASKING, self.heartbeat(hears))
+        return log.meet(self._token, self._form.presence(OF_BEFORE.pack(self._token, self._asks)))
 
     def leave(self, log: Log) -> None:
-        """Says that this one is on no more."""
+        """Says in the table that this one is there no more."""
         for token in self._token, self._token[:RANDOM_BYTES] + ASKING:
             log.leave(token)
 
+    def heard(self, said: Iterable[bytes]) -> None:
+        """Takes over what was said by the channel."""
+        self._take(self.others.heard(said))
+
+    def met(self, said: Iterable[bytes]) -> None:
+        """Takes over what all say in the table."""
+        self._take(self.others.met(said))
+
+    def _take(self, asked: Asked) -> None:
+        with self._lock:
+            for one in asked.lacks[:MOST_WANTED - len(self._wanted)]:
+                self._wanted[one] = None
+            self._is_asked |= asked.all
+        self.is_on(self.others.on)
+
+    def answers(self, disk: Disk) -> tuple[list[int], bool]:
+        """The places of what others lack, and whether the log is to be read for one that can't say what it lacks."""
+        wanted, reads = self._take_wanted()
+        places = {*disk.entries.places_of([one.hash for one in wanted if one.way is Way.IT]).values()}
+        return sorted(places | {*disk.entries.places_after([one.hash for one in wanted if one.way is Way.AFTER], WANTED_AT_ONCE)}), reads
+
+    def _take_wanted(self) -> tuple[list[Lack], bool]:
+        """What others want and is to be looked for now."""
+        with self._lock:
+            wanted, later, reads = [*self._wanted], [one for one in self._wanted if one.way is Way.AFTER], False
+            if (later or self._is_asked) and time.monotonic() >= self._answers_again:
+                self._answers_again = time.monotonic() + WHOLE_ANSWER_SECONDS
+                reads, self._is_asked, later = self._is_asked, False, []
+            self._wanted = dict.fromkeys(later)
+            return [one for one in wanted if one not in self._wanted], reads
+
     def _ask_for_more(self) -> None:
-        """Puts what is lacked now into what is said next, where it is time for that."""
+        """Puts what is lacked now into what is said next."""
         lacks = [Lack(Way.IT, of) for of in self._lacked] + [Lack(Way.AFTER, of) for of in [*self._damaged]]
-        if not lacks or time.monotonic() < self._asked:
-            return
         self._lacks, self._lacked = random.sample(lacks, min(len(lacks), MOST_LACKS)), ()
         for _, of in self._lacks:
             if (times := self._damaged.pop(of, 0) - 1) > 0:

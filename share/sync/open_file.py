@@ -2,8 +2,8 @@
 import math
 import pathlib
 import time
-from collections.abc import Callable
-from contextlib import suppress
+from collections.abc import Callable, Sequence
+from contextlib import ExitStack, suppress
 from typing import TypeVar
 
 from share.admission.judge import Counted
@@ -40,6 +40,10 @@ class OpenFile:
         # Called with the file that has taken this one's place, and None while the note is opened.
         self.moved: Callable[[Disk], None] | None = None
         self._looked = 0.0
+        # Whether another connection wrote something that isn't read.
+        self._is_unread = True
+        # Whether it was looked at for what others did to it, before the pages that are read now or next.
+        self._was_looked_at = False
         # How many bytes of entries are read and judged in one go while editors wait, and now.
         self._page, self._most = Pace(*PAGES), math.inf
 
@@ -53,12 +57,18 @@ class OpenFile:
                 break
         self._most = math.inf
 
-    def read_on(self, seconds: float) -> tuple[list[Row], Counted]:
-        """The rows that the file has more, as far as there is time to read them, and what counts now."""
-        end, rows, messages, is_anew = time.monotonic() + seconds, list[Row](), Messages(), False
+    def read_on(self, seconds: float) -> tuple[list[Sequence[Row]], Counted]:
+        """The rows that the file has more, as `runs` has them and as far as there is time to read them, and what counts now."""
+        try:
+            return self._pages(time.monotonic() + seconds)
+        finally:
+            self._was_looked_at = False
+
+    def _pages(self, end: float) -> tuple[list[Sequence[Row]], Counted]:
+        new, messages, is_anew = list[Sequence[Row]](), Messages(), False
         while True:
             begin, self._most = time.thread_time(), self._page.most
-            rows += self.read()
+            new += self.read()
             found, self._most = self._holdings.count(), math.inf
             if found.anew:
                 messages, is_anew = Messages(), True
@@ -66,17 +76,17 @@ class OpenFile:
             if self._holdings.has_more:
                 self._page.took(time.thread_time() - begin)
             if not self._holdings.has_more or time.monotonic() >= end:
-                return rows, Counted(messages, is_anew)
+                return new, Counted(messages, is_anew)
 
-    def read(self) -> list[Row]:
-        """The rows that the file has more."""
+    def read(self) -> list[Sequence[Row]]:
+        """The rows that the file has more, as `runs` has them."""
         try:
             new = self.mended(self._read)
         except Unkept as why:
             self.unread = f"The note's file can't be read now ({why})."
             return []
         self.unread = None
-        if any(row.entry.kind is Kind.NEWER for row in new):
+        if any(run[0].entry.kind is Kind.NEWER for run in new):
             self._notices.tell_once(NEWER)
         if self.disk.entries.damaged:
             self._notices.tell(f"The disk has damaged {entries(self.disk.entries.damaged)} of the note's file. They are "
@@ -84,9 +94,23 @@ class OpenFile:
             self.disk.entries.damaged, self.lacks = 0, True
         return new
 
-    def look(self) -> None:
-        """Raises Damaged where the file isn't what is in memory."""
-        self.disk.look(self._holdings.rows)
+    def look(self, at_end: bool = False) -> None:
+        """Raises Damaged where the file isn't what is in memory. What is read next, as after an edit, needn't be looked at again."""
+        self.disk.look(self._has_all, at_end)
+        self._was_looked_at = True
+
+    def tidy(self) -> None:
+        """Does what can be done while there is time, so that the next edit needn't."""
+        with suppress(Unkept, Damaged):
+            # The next look tells what is wrong.
+            self.disk.tidy(self.look)
+
+    def _has_all(self, file: Disk) -> bool:
+        """Whether a file has all that is in memory."""
+        holdings, own = self._holdings, {one.author for one in file.own.clients()}
+        return (file.entries.many_of(holdings.rows) == len(holdings.rows) and holdings.anew <= file.own.anew()
+                and holdings.withdrawn() <= {of for _, of in file.entries.withdrawn()}
+                and own.issuperset(one.author for one in holdings.clients.values()))
 
     def mended(self, call: Callable[[], OfCall]) -> OfCall:
         """What a call on the file gives; the file is written anew from memory where it is gone or damaged."""
@@ -99,28 +123,55 @@ class OpenFile:
             except Damaged as again:
                 raise Unkept(str(again)) from again
 
-    def _read(self) -> list[Row]:
-        self.look()
-        new = self._holdings.read(self.disk, self._most)
+    def _read(self) -> list[Sequence[Row]]:
+        if self.moved and not self._was_looked_at:
+            self.look()
+        new = self._read_on()
+        if not self.moved and not self._holdings.has_more:
+            # Only now is there something in memory of which the file can be written anew.
+            self._look_what_is_lost()
+            self.look()
         if time.monotonic() - self._looked > TAKEN_OUT_SECONDS:
             self._looked = time.monotonic()
             if self.disk.entries.size() < len(self._holdings.rows) + self._holdings.waiting_for_room():
                 raise Damaged(f"{self.disk.path} lacks entries that it had")
         return new
 
+    def _read_on(self) -> list[Sequence[Row]]:
+        """The same, where another connection wrote since all was read: what this one writes is taken over as it is written."""
+        self._is_unread = self.disk.has_changed() or self._is_unread
+        if not (self._is_unread or self._holdings.has_more):
+            return []
+        before = self._holdings.place
+        new = self._holdings.read(self.disk, self._most)
+        # A portion may have been all that was read in one go.
+        self._is_unread = self._holdings.place != before or self.disk.entries.damaged > 0
+        return new
+
+    def _look_what_is_lost(self) -> None:
+        """Has the file written anew where it lost entries while nobody had it open. What is lost may have been sent: so nothing more is
+        typed under the numbers that it has."""
+        if many := self.disk.lacks():
+            holdings, self.lacks = self._holdings, True
+            holdings.gave_up([one for one in holdings.clients.values() if not one.retired and self.disk.lock(one.site)])
+            self._notices.tell(f"The note's file has lost {entries(many)} that it had. They are taken from whoever has them.")
+            raise Changed(f"it has lost {entries(many)}")
+
     def _mend(self, why: Damaged) -> None:
         """Puts the note's file in its place again, with all that is in memory."""
         holdings, path = self._holdings, self.disk.path
         disk = self._in_place(why)
-        if disk.about.secret != self.disk.about.secret:
-            disk.close()
-            raise Trouble(f"{path} is another note's file now. Save this note as a file, and look who moved it.")
-        disk.take_locks(self.disk)
+        with ExitStack() as failing:
+            failing.callback(disk.close)
+            if disk.about.secret != self.disk.about.secret:
+                raise Trouble(f"{path} is another note's file now. Save this note as a file, and look who moved it.")
+            disk.take_locks(self.disk)
+            failing.pop_all()
         self.disk.close()
         self.disk = disk
         if self.moved:
             self.moved(disk)
-        disk.restore(holdings.rows.values(), holdings.withdrawn(), holdings.hidings, holdings.clients.values(), holdings.anew)
+        disk.restore(holdings.rows, holdings.withdrawn(), holdings.hidings, holdings.clients.values(), holdings.anew)
         holdings.read_again()
 
     def _in_place(self, why: Damaged) -> Disk:
@@ -131,11 +182,10 @@ class OpenFile:
             if isinstance(why, Changed) and inode == self.disk.inode:
                 raise why
             disk = Disk(path)
-            try:
+            with ExitStack() as failing:
+                failing.callback(disk.close)
                 disk.check()
-            except BaseException:
-                disk.close()
-                raise
+                failing.pop_all()
             return disk
         except Damaged:
             aside = make_note(path, self.disk.about, self._rows_and(path), holdings.clients.values(),
@@ -148,7 +198,7 @@ class OpenFile:
     def _rows_and(self, damaged: pathlib.Path) -> list[Row]:
         """All that is in memory, and as the note is opened what can be read of its damaged file besides."""
         holdings = self._holdings
-        rows = [*holdings.rows.values()]
+        rows = [*holdings.rows.each()]
         # What has no room in memory, or only a newer version knows, is there alone.
         is_more_there = not self.moved or holdings.waiting_for_room() or holdings.judge.has_newer()
         if is_more_there and damaged.exists():

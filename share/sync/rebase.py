@@ -14,7 +14,9 @@ from share.admission.judge import Judge
 from share.admission.ledger import Row
 from share.format.entry import Copy, Entry, Form, Kind
 from share.format.operation import CHANGE_LOOKS, DELETE, RESTORE, Operation
+from share.program.alike import One
 from share.program.effects import Stretch
+from share.program.retyping import words_of
 from share.program.site import Edited, Site
 from share.program.undo import looks_of
 from share.store.own import Anew
@@ -43,15 +45,15 @@ class Rebased:
     def __init__(self, holdings: Holdings, lost: Sequence[ToRebase], done: Sequence[Done], last: Entry):
         self._holdings, self._lost, self._last = holdings, lost, last
         # What was typed in one go may have come apart, and be several messages now.
-        self._made: dict[Operation, list[int]] = {}
+        self._made: dict[Operation, list[Operation]] = {}
         for one in done:
-            self._made.setdefault(one.old, []).extend([one.new.seq] if one.new else [])
+            self._made.setdefault(one.old, []).extend([one.new] if one.new else [])
 
     def _each(self) -> Iterator[tuple[Entry, Operation, list[int]]]:
         """The lost messages, with the seqs of those that stand for them now."""
         for entry, messages in self._lost:
             for message in messages:
-                yield entry, message, self._made.get(message, [])
+                yield entry, message, [one.seq for one in self._made.get(message, ())]
 
     def anew(self) -> list[Anew]:
         """What the note's file has of it for versions that don't know copies."""
@@ -73,7 +75,18 @@ class Rebased:
             for of, old in holdings.standing.originals(entry, message.seq, holdings.rows):
                 if seqs or holdings.judge.entry_of(holdings.rows[of].entry.site, old) != of:
                     pairs.setdefault(of, []).extend((old, seq) for seq in seqs or [0])
-        return said_of_copies(form, holdings.clients, holdings.rows, last, pairs, holdings.withdrawn())
+        said = said_of_copies(form, holdings.clients, holdings.rows, last, pairs, holdings.withdrawn())
+        return said + words_of(self._typed_for_others(), form, holdings.clients[who(last)].author, last)
+
+    def _typed_for_others(self) -> Iterator[tuple[One, Operation]]:
+        """The messages of others for which what was lost had been typed again, and what stands for these now."""
+        holdings = self._holdings
+        for entry, messages in self._lost:
+            for message in messages if entry.size else ():
+                for new in self._made.get(message, ()):
+                    copy = Copy(entry.author, message.site, message.seq)
+                    for of, last in holdings.recovered.originals(copy, entry.hash, holdings.judge):
+                        yield One(of, message, last), new
 
 
 def at_once(lost: Sequence[ToRebase]) -> tuple[Sequence[ToRebase], bool]:
@@ -126,8 +139,13 @@ def rebase(rows: Sequence[Row], lost: Sequence[Operation], judge: Judge, site: S
     gone = [message for message in lost if seen_ones.get((message.site, message.seq)) != message]
     differing = _differing(seen, judge)
     with closing(Site(lost[0].site, seen)) as old:
-        done = [*_deleted_and_restored(here, differing, old, site)]
-        done += _typed_again(here, differing, old, site)
+        hidden = [*_hidden(here, differing, old)]
+        done = [*_restored(here, differing, old, site)]
+        typed = _typed(here, old)
+        # It is shown in both texts while that is typed, so that what was typed inside it stands there again.
+        old.restore(chain.from_iterable(names for _, names in hidden))
+        done += _typed_again(typed, differing, old, site)
+        done += [one for message, names in hidden for one in _all_of(message, site.delete(names)[0])]
         done += _looked(here, differing, old, site)
         done += _at_the_end(gone, site)
     made = {one.old for one in done}
@@ -148,30 +166,38 @@ def _differing(seen: Sequence[Operation], judge: Judge) -> _Differing:
         for names in message.mentions))
 
 
-def _deleted_and_restored(lost: Sequence[Operation], differing: _Differing, old: Site, site: Site) -> list[Done]:
-    """Deletes again what is hidden in the old text and shown in the new one, and the other way round."""
-    done = []
+def _shown(names: Sequence[Names], old: Site) -> list[Names]:
+    """Those of these characters that the old text shows."""
+    return united(Names(one.site, stretch.at, len(stretch.data))
+                  for one, stretches in zip(names, old.where(names)) for stretch in stretches)
+
+
+def _hidden(lost: Sequence[Operation], differing: _Differing, old: Site) -> Iterator[tuple[Operation, list[Names]]]:
+    """What lost messages deleted and the old text hides, which is deleted again."""
     for message in lost:
-        if message.kind not in (DELETE, RESTORE):
-            continue
-        names = message.mentions
-        shown = united(Names(one.site, stretch.at, len(stretch.data))
-                       for one, stretches in zip(names, old.where(names)) for stretch in stretches)
-        edited, _ = (site.delete(differing.common(without(names, shown))) if message.kind == DELETE else
-                     site.restore(differing.common(shown)))
-        done += _all_of(message, edited)
-    return done
+        if message.kind == DELETE:
+            yield message, differing.common(without(message.mentions, _shown(message.mentions, old)))
 
 
-def _typed_again(lost: Sequence[Operation], differing: _Differing, old: Site, site: Site) -> list[Done]:
-    """Types again what is shown of lost messages in the old text."""
+def _restored(lost: Sequence[Operation], differing: _Differing, old: Site, site: Site) -> list[Done]:
+    """Brings back what lost messages brought back and the old text shows."""
+    return [one for message in lost if message.kind == RESTORE
+            for one in _all_of(message, site.restore(differing.common(_shown(message.mentions, old)))[0])]
+
+
+def _typed(lost: Sequence[Operation], old: Site) -> list[tuple[Operation, Names]]:
+    """What is shown of lost messages in the old text."""
+    return [(message, part) for message in lost if message.new for part in _shown([message.new], old)]
+
+
+def _typed_again(typed: Sequence[tuple[Operation, Names]], differing: _Differing, old: Site, site: Site) -> list[Done]:
+    """Types again what lost messages typed."""
     was, now = _positions(old, differing.named), _positions(site, differing.named)
     gone = sorted([*_positions(old, differing.seen).values(), *(at for name, at in was.items() if name not in now)])
     come = sorted([*_positions(site, differing.counted).values(), *(at for name, at in now.items() if name not in was)])
-    typing = [(message, one) for message in lost if (one := message.new)]
-    found = old.where([one for _, one in typing]) if typing else []
+    found = old.where([one for _, one in typed]) if typed else []
     stretches = sorted((stretch.position, stretch.data, message)
-                       for (message, _), shown in zip(typing, found) for stretch in shown)
+                       for (message, _), shown in zip(typed, found) for stretch in shown)
     done, more, looks = [], 0, dressed(old.runs(), MOST_DRESSED_AGAIN) if stretches else []
     for position, data, message in stretches:
         place = _place_in_new(position - bisect_left(gone, position), come) + more

@@ -98,7 +98,7 @@ class Rebaser:
         """Rebases, under this number, what was made under others and doesn't count, and whose turn it is."""
         holdings, own = self._holdings, self._turns.is_own_due()
         lost, is_all = at_once(self._numbers.lost(own))
-        rows = [*holdings.rows.values()]
+        rows = [*holdings.rows.each()]
         messages = [*dict.fromkeys(message for one in lost for message in one.messages)]
         self._edits.make_room(length_of(messages))
         done = rebase(rows, messages, holdings.judge, self._replica.site,

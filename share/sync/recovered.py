@@ -25,6 +25,8 @@ class _Said(NamedTuple):
     by: Copy
     own: bool
     last: bytes
+    # The last entry that has what was typed for them.
+    until: bytes
 
     def copy(self, seq: int) -> Copy | None:
         """What was typed for the message of a seq."""
@@ -47,6 +49,8 @@ class Recovered:
         # By whose messages they stand for; and those of which a copy was made here.
         self._said: dict[Who, list[_Said]] = {}
         self._own: set[Who] = set()
+        # The same by who typed it again, with whose messages these stand for.
+        self._by: dict[Who, list[tuple[Who, _Said]]] = {}
         # What others typed of it, message by message; and what may be made to hide copies of others, by whoever says so.
         self._others: list[_Typed] = []
         self.hidings: set[Copy] = set()
@@ -60,8 +64,10 @@ class Recovered:
         if (entry.site, entry.author) == (copied.by_site, copied.by) != whose:
             said = self._said.setdefault(whose, [])
             if own or len(said) < MOST_SAID:
-                said.extend(_Said(seq, size, Copy(copied.by, copied.by_site, by), own, entry.before)
-                            for seq, by, size in copied.stretches if by)
+                new = [_Said(seq, size, Copy(copied.by, copied.by_site, by), own, entry.before, copied.last)
+                       for seq, by, size in copied.stretches if by]
+                said += new
+                self._by.setdefault((copied.by_site, copied.by), []).extend((whose, one) for one in new)
             if own:
                 self._own.add(whose)
             for seq, by, size in copied.stretches if not own else ():
@@ -69,6 +75,12 @@ class Recovered:
                 self._others += [_Typed(whose, seq + at, Copy(copied.by, copied.by_site, by + at), entry.before) for at in range(size)]
             if len(self.hidings) < MOST_OF_OTHERS and len(copied.stretches) == 1 == copied.stretches[0][2]:
                 self.hidings.add(Copy(copied.by, copied.by_site, copied.stretches[0][1]))
+
+    def originals(self, copy: Copy, of: bytes, judge: Judge) -> Iterator[tuple[Copy, bytes]]:
+        """The messages for which one of an entry was typed again, each with the last entry of its history."""
+        for (site, author), one in self._by.get((copy.site, copy.author), ()):
+            if one.by.seq <= copy.seq < one.by.seq + one.size and judge.is_chained(of, one.until):
+                yield Copy(author, site, one.seq + copy.seq - one.by.seq), one.last
 
     def fronts(self, counts_up_to: Callable[[bytes, int], int]) -> list[int]:
         """What is to be looked at again where it changes: how far those count that were typed again, and all that was said of

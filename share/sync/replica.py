@@ -2,7 +2,7 @@
 import math
 import pathlib
 from collections.abc import Callable, Sequence
-from contextlib import suppress
+from contextlib import closing, suppress
 
 from share.admission import ledger
 from share.admission.judge import Counted
@@ -17,10 +17,12 @@ from share.store.guarded import Damaged, Unkept
 from share.sync.numbers import READING, Numbers
 from share.sync.open_file import OpenFile
 from share.sync.state import Holdings
-from share.text.change import Change, change
+from share.text.change import Change, change_of_words
 from share.text.errors import Trouble
 
 Bar = Callable[[int, int], None]
+# The longest history that is run once more to tell what differs.
+MOST_SHOWN_AGAIN = 5_000
 
 
 class Replica:
@@ -36,6 +38,9 @@ class Replica:
         self._coming, self._came, self._has_own = Coming(), 0, False
         # What was shown when the site began anew, until it is told what differs.
         self._was: Shown | None = None
+        # The history of what was shown as it was told last, and how many messages of it that had; whether it was told since.
+        self._shown: tuple[Messages, int] | None = None
+        self._is_told = True
         # How many messages the snapshot has.
         self.packed = 0
         messages = holdings.count().messages
@@ -60,10 +65,10 @@ class Replica:
         if messages:
             trace(Traced.COUNTED, messages=len(messages))
 
-    def take_in(self, seconds: float) -> Told:
+    def take_in(self, seconds: float, looks: bool = True) -> Told:
         """Takes in what came, as far as there is time; all of it where some is of this number, since what is typed follows
-        that."""
-        told = self.site.take_some(self._coming, math.inf if self._has_own else seconds)
+        that. To one who looks at the text it tells what that has become."""
+        told = self.site.take_some(self._coming, math.inf if self._has_own else seconds, looks)
         if self._came > SLICE:
             self._bar(self._came - len(self._coming), self._came)
         if not self._coming:
@@ -72,8 +77,9 @@ class Replica:
 
     def made(self, messages: Sequence[Operation], found: Counted) -> None:
         """Takes over what counts, after messages that the site made were kept."""
-        self.comes(Messages(parts=(one for one in found.messages.parts() if not self._is_own(one))))
-        history, own = self.site.history, Messages(parts=filter(self._is_own, found.messages.parts()))
+        parts = [(self._is_own(one), one) for one in found.messages.parts()]
+        self.comes(Messages(parts=(one for is_own, one in parts if not is_own)))
+        history, own = self.site.history, Messages(parts=(one for is_own, one in parts if is_own))
         if not found.anew and history[len(history) - len(messages):] == messages and own == messages:
             # As entries have it, it takes less memory.
             history.cut(len(history) - len(messages))
@@ -88,8 +94,7 @@ class Replica:
         with suppress(Trouble):
             # Where the program has ended it is told as a whole.
             self._was = self._was or shown_by(self.site)
-        self.site.close()
-        self.site = self._new_site(messages)
+        self._replace(lambda: self._new_site(messages))
 
     def go_on_under_another_number(self) -> None:
         """Goes on under the number of now with all that the site has."""
@@ -98,8 +103,16 @@ class Replica:
             # Some of it may be of the new number.
             self.is_stale = True
             return
+        self._replace(lambda: Site(self.number, history, folder=self._folder(), stands=lambda stands: self.stands(stands)))
+
+    def _replace(self, new: Callable[[], Site]) -> None:
         self.site.close()
-        self.site = Site(self.number, history, folder=self._folder(), stands=lambda stands: self.stands(stands))
+        try:
+            self.site = new()
+        except BaseException:
+            # The next taking in begins one anew.
+            self.is_stale = True
+            raise
 
     def pack(self, least: int) -> None:
         """Writes the snapshot where it lacks at least this many messages."""
@@ -115,19 +128,33 @@ class Replica:
         """Notes what is shown now, with which later text is compared."""
         self._was = shown_by(self.site)
 
-    def forget(self) -> None:
-        """Ends that."""
-        self._was = None
+    def begin_telling(self) -> None:
+        """Notes that what the site has now is shown, but where it wasn't told what it became."""
+        if self._is_told:
+            self._was, self._shown, self._is_told = None, (self.site.history, len(self.site.history)), False
+
+    def end_telling(self) -> None:
+        """Notes that it is told what the site has become."""
+        self._is_told = True
 
     def differing(self, before: bytes, now: bytes) -> list[Change]:
         """What differs between the text that was shown before and the one that is shown now: character by character, where
-        the site began anew meanwhile."""
-        was, self._was = self._was, None
+        the site began anew meanwhile; else as one stretch of words."""
         with suppress(Trouble):
+            was, self._was, self._is_told = self._was or self._shown_again(), None, True
             if was and was.text == before and (shows := shown_by(self.site)).text == now:
                 if (found := differences(was, shows)) is not None:
                     return found
-        return [change(before, now)]
+        trace(Traced.DIFFERS_AS_A_WHOLE, messages=len(self.site.history))
+        return [change_of_words(before, now)]
+
+    def _shown_again(self) -> Shown | None:
+        """What was shown as it was told last, where that isn't much: the site has since taken in more, or ended as it did."""
+        history, many = self._shown or (Messages(), 0)
+        if not 0 < many <= MOST_SHOWN_AGAIN:
+            return None
+        with closing(Site(self.number, history[:many])) as site:
+            return shown_by(site)
 
     def close(self) -> None:
         """Writes the snapshot, and ends the program."""

@@ -1,7 +1,7 @@
 """Replicates a note between its file and its log, in threads: a slow or absent log never holds up a keystroke. What either
 lacks it is given: the file what is in the log, the log what is in the file, whoever wrote it."""
 import time
-from collections.abc import Callable, Iterable, Sequence
+from collections.abc import Callable, Sequence
 from contextlib import closing
 from itertools import count
 
@@ -13,6 +13,7 @@ from share.sync.backoff import Losses
 from share.sync.carried import Carried
 from share.sync.fetching import Fetcher
 from share.sync.giving import Giver
+from share.sync.handover import Handover
 from share.sync.known import Known
 from share.sync.meeting import Meeting
 from share.sync.presence import Presence
@@ -20,6 +21,8 @@ from share.sync.threads import Ends, Task, Threads
 
 # How often the file is looked at for what other editors of this person wrote. To look takes microseconds.
 LOOK_AT_FILE_SECONDS = 0.03
+# After a look at all of the file this many times as long passes before the next one.
+LOOK_RESTS = 20
 
 
 class Watch:
@@ -27,8 +30,10 @@ class Watch:
 
     def __init__(self, ends: Ends, known: Known, meeting: Meeting, giver: Giver | None, threads: Threads):
         self._ends, self._known, self._meeting, self._giver, self._threads = ends, known, meeting, giver, threads
-        # How many editors of this person are on.
-        self.here = 1
+        # How many editors of this person are on, and when what wasn't looked at of the file is.
+        self.here, self._looks = 1, 0.0
+        # Where the entries of the file ended, and those that were withdrawn, as it was looked at last.
+        self._last = 0, 0
 
     def run(self) -> None:
         """Looks at the file until all stop."""
@@ -39,14 +44,30 @@ class Watch:
                 if time.monotonic() >= due:
                     self._look_who_is_on(disk)
                     due = time.monotonic() + ON_SECONDS / 10
-                if disk.has_changed():
+                if self._has_news(disk):
                     self._known.look_at(disk, carried)
                     if self._giver:
                         self._giver.has_work()
                     self._threads.wake()
                 if not self._known.is_of_now(disk, carried):
+                    self._known.bell.ring()
                     self._threads.wake()
                     return
+                if time.monotonic() >= self._looks:
+                    self._look_at_unseen(disk)
+
+    def _has_news(self, disk: Disk) -> bool:
+        """Whether the file has more than what the editor here made: that one takes in what comes before an edit after each."""
+        before, self._last = self._last, disk.entries.ends()
+        place, number = self._last
+        return self._last != before and (number != before[1] or (disk.inode, place) != self._known.made_last)
+
+    def _look_at_unseen(self, disk: Disk) -> None:
+        """Looks at what SQLite wrote to the file itself. That takes long where it is long, so it rests after that."""
+        begin = time.monotonic()
+        if disk.look_at_unseen():
+            end = time.monotonic()
+            self._looks = end + LOOK_RESTS * (end - begin)
 
     def _look_who_is_on(self, disk: Disk) -> None:
         self.here = max(1, disk.locked())
@@ -59,23 +80,36 @@ class Replicator:
     alone calls it. What the log has is owned by `Known` for all threads; each part has its own state beside that."""
 
     def __init__(self, open_disk: Callable[[], Disk], open_log: Callable[[], Log] | None, form: Form,
-                 wake: Callable[[], None], own_disk: Callable[[], Disk]):
+                 wake: Callable[[], None], own_disk: Callable[[], Disk], handover: Handover):
         # The file as the editor's thread has it open.
         self._own_disk, self._has_log = own_disk, open_log is not None
-        # What tells this one from the others that are on. What is said to others has a count that rises.
-        self.token, counts = new_token(), count(1)
-        self._known = Known(self._has_log)
-        self._threads = threads = Threads(wake, self.read_from_front)
-        ends, losses = Ends(open_disk, open_log or _no_log), Losses()
-        self._meeting = Meeting(form, self.token, counts, wake)
+        # What tells this one from the others that are on.
+        self.token, self._wake, self._is_closed = new_token(), wake, False
+        self._threads = Threads(wake, self.read_from_front)
+        try:
+            self._make(Ends(open_disk, open_log or _no_log), form, handover)
+            self._start()
+        except BaseException:
+            self._threads.stop()
+            raise
+
+    def _make(self, ends: Ends, form: Form, handover: Handover) -> None:
+        # What is said to others has a count that rises.
+        threads, losses, counts = self._threads, Losses(), count(1)
+        self._known = Known(self._has_log, handover, threads.bell())
+        self._meeting = Meeting(form, self.token, counts, self._wake)
         self._giver = Giver(ends, form, self._known, self._meeting, losses, threads)
         self._fetcher = Fetcher(ends, form, self._known, self._meeting, losses, self._giver, threads)
         self._presence = Presence(ends, form, counts, self._meeting, threads, self.token)
         self._watch = Watch(ends, self._known, self._meeting, self._giver if self._has_log else None, threads)
+
+    def _start(self) -> None:
+        threads = self._threads
         threads.start(Task.LOOK, self._watch.run)
         if self._has_log:
             threads.start(Task.GIVE, self._giver.run)
             threads.start(Task.FETCH, self._fetcher.run)
+            threads.start(Task.SHOW, self._presence.run)
 
     @property
     def on(self) -> int:
@@ -89,15 +123,13 @@ class Replicator:
 
     def show(self, shows: dict[bytes, bytes]) -> None:
         """Shows others what the editors here show of themselves, each under a token of its own, and hears theirs."""
-        if self._has_log:
-            self._threads.start(Task.SHOW, self._presence.run)
         self._presence.show(shows)
 
     def shown(self) -> list[bytes]:
         """What others show of themselves."""
         return self._presence.shown()
 
-    def made(self, places: Iterable[int] = ()) -> None:
+    def made(self, places: Sequence[int] = ()) -> None:
         """Says that the file has more: edits of this person at these places among it."""
         self._known.made(self._own_disk(), places)
         self._giver.has_work()
@@ -128,8 +160,9 @@ class Replicator:
         return not self._has_log or self._known.says(self._own_disk(), of, Carried.has)
 
     def unsent(self) -> int:
-        """How many edits of this person the log isn't known to have."""
-        return self._known.now.unsent if self._has_log else 0
+        """How many edits of this person the log isn't known to have; while it can't be reached, by what the file says."""
+        known = self._known.now
+        return 0 if not self._has_log else known.unsent_by_file if self.offline() else known.unsent
 
     def is_up_to_date(self) -> bool:
         """Whether all that the log had was read, and it was given all that it is to have."""
@@ -150,17 +183,20 @@ class Replicator:
 
     def read_from_front(self) -> None:
         """Reads the log from its front, and gives it what it lacks. Any thread may call it."""
-        self._known.reads_from_front = True
+        self._known.read_from_front()
 
     def close(self, seconds: float) -> None:
-        """Stops, when all is sent or this time has passed."""
+        """Stops, when all is sent or this time has passed. Once stopped it sends nothing more."""
         end = time.monotonic() + seconds
-        while not self.is_up_to_date() and not self.offline() and time.monotonic() < end:
+        while not (self._threads.stopped.is_set() or self.is_up_to_date() or self.offline()) and time.monotonic() < end:
             time.sleep(0.01)
+        if self._is_closed:
+            return
+        self._is_closed = True
+        # Who waits for work looks whether to stop.
         self._threads.stopped.set()
         self._giver.has_work()
-        self._presence.stop()
-        self._threads.join()
+        self._threads.stop()
 
 
 def _no_log() -> Log:

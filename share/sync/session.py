@@ -1,27 +1,25 @@
 """A note that is open for one editor."""
 import math
 import time
-from collections.abc import Callable, Set
-from contextlib import suppress
+from collections.abc import Callable, Sequence, Set
+from contextlib import ExitStack, suppress
 
 from share.admission.judge import Counted
 from share.admission.ledger import Row, Who
 from share.format.entry import Entry, Kind
 from share.format.history import Messages
 from share.format.link import is_network
-from share.format.operation import Operation
 from share.log.opening import open_log
 from share.program import retyping
-from share.program.alike import One
 from share.program.retyping import Lost
 from share.program.site import Edited, Site, Told
 from share.program.trace import Traced, trace
 from share.store.guarded import Unkept
 from share.store.note_file import Disk
-from share.store.own import Client
 from share.store.read_only import uncollected
 from share.store.renewal import renewed_by
 from share.sync.edits import OwnEdits
+from share.sync.handover import Handover
 from share.sync.hiding import Hider
 from share.sync.numbers import Numbers
 from share.sync.open_file import OpenFile
@@ -52,25 +50,38 @@ class Session:
     def __init__(self, disk: Disk, password: str | None = None, bar: Bar = lambda done, total: None,
                  wake: Callable[[], None] = lambda: None):
         self._about, self._form = disk.about, disk.form
-        url, note, path = self._about.url, self._form.note, disk.path
-        if is_network(url) and not self._about.sealed:
-            raise Trouble(f"{path} has a note that isn't sealed with a log on a server. Nothing is sent there.")
         # The time that one call of `arrived` spends on taking in what came.
         self.turn_seconds = BAR_SECONDS
-        self._left_out, self._notices, self._holdings = retyping.Totals(), Notices(), Holdings(self._form)
+        # Whether somebody looks at the text, which nobody does as long as the note is being opened.
+        self._looks = False
+        self._left_out, self._notices, handover = retyping.Totals(), Notices(), Handover()
+        self._holdings = Holdings(self._form, handover)
         self._file = OpenFile(disk, self._holdings, self._notices)
+        self.tidy = self._file.tidy
+        with ExitStack() as opened:
+            opened.callback(lambda: self._file.disk.close())
+            self._open_all(opened, password, bar, wake, handover)
+            self._begin()
+            trace(Traced.NOTE_OPENED, site=self.number, messages=len(self.site.history), log=bool(self._about.url))
+            opened.callback(self._finish)
+            self._all_open = opened.pop_all()
+
+    def _open_all(self, opened: ExitStack, password: str | None, bar: Bar, wake: Callable[[], None], handover: Handover) -> None:
+        url, note, path = self._about.url, self._form.note, self._file.disk.path
+        if is_network(url) and not self._about.sealed:
+            raise Trouble(f"{path} has a note that isn't sealed with a log on a server. Nothing is sent there.")
         self._file.read_all()
         self._numbers = Numbers(self._holdings, self._form, bool(url), self._file)
         self._file.moved = self._numbers.lock_again
         self._replica = Replica(self._file, self._holdings, self._numbers, bar)
+        opened.callback(lambda: self.site.close())
         opens = (lambda: open_log(url, note, password)) if url else None
-        self._replicator = Replicator(lambda: Disk(path), opens, self._form, wake, lambda: self._file.disk)
+        self._replicator = Replicator(lambda: Disk(path), opens, self._form, wake, lambda: self._file.disk, handover)
+        opened.callback(self._replicator.close, 0)
         known = self._file, self._holdings, self._form, self._numbers, self._replica
         self._edits = OwnEdits(*known, self._replicator, self._notices)
         self._rebaser = Rebaser(*known, self._edits, self._replicator, self._notices)
         self._hider = Hider(*known[1:], self._edits, self._rebaser)
-        self._begin()
-        trace(Traced.NOTE_OPENED, site=self.number, messages=len(self.site.history), log=bool(url))
 
     @property
     def site(self) -> Site:
@@ -83,8 +94,9 @@ class Session:
         return self._numbers.own.site
 
     @property
-    def _client(self) -> Client:
-        return self._numbers.own
+    def can_type(self) -> bool:
+        """Whether something can be typed under the site's number."""
+        return self._numbers.own.stood
 
     @property
     def stands(self) -> Callable[[bool], None]:
@@ -129,19 +141,10 @@ class Session:
 
     def recover(self) -> list[Lost]:
         """Types again what was left out, and says so of it; what that was."""
-        found, holdings, copies = self.lost(), self._holdings, list[tuple[One, Operation]]()
+        found = self.lost()
         self._replica.remember()
-
-        def work(site: Site) -> Edited:
-            gone = holdings.withdrawn()
-            here = [row.entry for of, row in holdings.rows.items() if of not in gone]
-            typed = retyping.type_again(found, here, holdings.judge, site)
-            copies.extend(typed.copies)
-            return typed.edited
-
         if found:
-            # Who has a copy has the word of it, too.
-            self._edits.make(work, lambda last: retyping.words_of(copies, self._form, self._client.author, last))
+            self._edits.type_again(found)
             # Something may stand for what was left out that nobody has said of it yet.
             self._hider.hide()
         return found
@@ -158,7 +161,10 @@ class Session:
     def arrived(self) -> Told:
         """Takes in what came, and tells what the text has become."""
         try:
-            return self._arrived()
+            self._replica.begin_telling()
+            told = self._arrived()
+            self._replica.end_telling()
+            return told
         except Unkept as why:
             # The text and the site stay as they are; all is looked at again later.
             self._file.unread = f"The note's file can't be written now ({why})."
@@ -171,8 +177,7 @@ class Session:
             raise
 
     def differing(self, before: bytes, now: bytes) -> list[Change]:
-        """What differs between the text that was shown before the last call of `arrived` and the one that is shown since:
-        character by character, where the site was begun anew."""
+        """What differs since before the last call of `arrived`: character by character, where the site was begun anew."""
         return self._replica.differing(before, now)
 
     def has_more(self) -> bool:
@@ -197,7 +202,7 @@ class Session:
         replicator, judge = self._replicator, self._holdings.judge
         trouble = self._notices.trouble or self._file.unread or self._numbers.why_none or None
         return Status(self.number, replicator.on, replicator.unsent(), replicator.offline(), judge.incomplete(), trouble,
-                      self._client.stood, bool(self._about.url), replicator.progress(),
+                      self.can_type, bool(self._about.url), replicator.progress(),
                       self._left_out.lines(judge, self._holdings.anew, self.own()), renewed_by(judge, self.own()),
                       self.site.is_unproved)
 
@@ -210,13 +215,15 @@ class Session:
         return self._edits.last
 
     def close(self) -> None:
-        """Closes the note; what isn't sent stays in its file."""
+        """Closes the note, once; what isn't sent stays in its file."""
+        self._all_open.close()
+
+    def _finish(self) -> None:
         self._replicator.close(SEND_SECONDS)
         self._replica.close()
         with suppress(Unkept, Trouble):
             # From here on all that is kept of the note is its file.
-            self._file.mended(self._file.look)
-        self._file.disk.close()
+            self._file.mended(lambda: self._file.look(at_end=True))
         trace(Traced.NOTE_CLOSED)
 
     def _begin(self) -> None:
@@ -226,12 +233,12 @@ class Session:
             self.arrived()
             passed = time.monotonic() - begin
             if passed > OPEN_SECONDS or not self.has_more() and self._replicator.has_looked() and (
-                    self._replicator.offline() or self._client.stood and self._replicator.is_up_to_date()
+                    self._replicator.offline() or self.can_type and self._replicator.is_up_to_date()
                     or self._is_slow(passed)):
                 break
             if not self.has_more():
                 time.sleep(0.005)
-        self.turn_seconds = math.inf
+        self.turn_seconds, self._looks = math.inf, True
 
     def _is_slow(self, passed: float) -> bool:
         """Whether reading the log, as it went until now, takes longer than opening waits."""
@@ -239,7 +246,6 @@ class Session:
         return passed > TOO_SLOW_SECONDS and done * OPEN_SECONDS < total * passed
 
     def _arrived(self) -> Told:
-        self._replica.forget()
         found, has_read = self._counted()
         is_other = self._rebaser.settle(found.messages if found.anew else None, has_read)
         self._rebaser.say_what_was_rebased()
@@ -248,13 +254,15 @@ class Session:
         if is_other:
             if not self.has_more():
                 self._hider.hide()
-            return self.site.text()
+            return self.site.text() if self._looks else []
         self._ask_for_what_is_missing()
         self._notices.tell_of_room(self._holdings.waiting_for_room())
         self._replica.comes(found.messages)
-        told = self._replica.take_in(self.turn_seconds / 2)
+        told = self._replica.take_in(self.turn_seconds / 2, self._looks)
         hidden = [] if self.has_more() else self._hider.hide()
-        return told + hidden if isinstance(told, list) and isinstance(hidden, list) else self.site.text()
+        if isinstance(told, list) and isinstance(hidden, list):
+            return told + hidden
+        return self.site.text() if self._looks else []
 
     def _counted(self) -> tuple[Counted, bool]:
         """What counts of the note since this was last asked, and whether all was read that the log had."""
@@ -266,16 +274,15 @@ class Session:
         if found.anew or any(map(self._is_of_this_person, new)):
             self._numbers.is_settled = False
         self._numbers.look_at_claims(in_log)
-        if self._client.stood and is_network(self._about.url) and self._replicator.has_read():
+        if self.can_type and is_network(self._about.url) and self._replicator.has_read():
             self._numbers.claim_in_advance(self._replicator.editors_here())
         if self._replica.is_stale:
             found, self._replica.is_stale = Counted(self._holdings.judge.let_through_in_order(), True), False
         return found, has_read
 
-    def _is_of_this_person(self, row: Row) -> bool:
-        """Whether an entry is a claim, or of a number of this person. What another editor of this person made that one looks
-        at by itself."""
-        return not row.made and (row.entry.kind is Kind.CLAIM or who(row.entry) in self._holdings.clients)
+    def _is_of_this_person(self, run: Sequence[Row]) -> bool:
+        """Whether entries are claims, or of a number of this person, and weren't made by another editor, which looks at them itself."""
+        return not run[0].made and (run[0].entry.kind is Kind.CLAIM or who(run[0].entry) in self._holdings.clients)
 
     def _ask_for_what_is_missing(self) -> None:
         """Asks the others for what is missing, and has the log be read again for what the disk damaged."""

@@ -6,7 +6,7 @@ counts, else of those copies that count the one of the least site and seq. Who m
 is said to be one of what that stood for, too.
 """
 import math
-from collections.abc import Callable, Container, Iterator, Mapping, Sequence
+from collections.abc import Callable, Collection, Iterator, Mapping, Sequence
 from typing import NamedTuple
 
 from share.admission.ledger import Row, Who
@@ -20,6 +20,8 @@ FrontUpTo = Callable[[bytes, int, bytes], int]
 RowsByHash = Mapping[bytes, Row]
 # The most stretches of an entry of copies.
 MOST_COPIED_STRETCHES = 1_000
+# The runs that are spoken of apart of entries that nobody else may have.
+MOST_RUNS_OF_WITHDRAWN = 64
 # The most entries and messages that are looked at of what others say of copies.
 MOST_SAID_BY_OTHERS = 4_096
 
@@ -70,6 +72,11 @@ class Standing:
         self._void: set[Copy] = set()
         # Up to which seq it matters whether a client's messages count.
         self._watched: dict[Who, int] = {}
+
+    @property
+    def waits(self) -> bool:
+        """Whether something was said of entries that aren't here yet."""
+        return bool(self._open)
 
     def add(self, row: Row, rows: RowsByHash) -> None:
         """Adds what an entry says, and what was said of it; `rows` has all that came."""
@@ -160,13 +167,14 @@ class Standing:
                 # What stands for a copy is said to stand for what that was one of, too.
                 if any(of in self._own for of, _ in self.originals(entry, seq, rows)):
                     continue
-                copies: dict[Who, list[tuple[Copy, bool, bool]]] = {}
+                # What a message came apart into was made together; of two histories of a number one may count.
+                copies: dict[tuple[int, bytes, bytes], list[tuple[Copy, bool, bool]]] = {}
                 for piece in self._pieces[entry.hash]:
                     if copy := piece.copy(seq):
-                        found = copies.setdefault((copy.site, copy.author), [])
+                        found = copies.setdefault((copy.site, copy.author, piece.last), [])
                         found.append((copy, piece.own, counts(piece, seq)))
                 stays = entry_of(entry.site, seq) == entry.hash
-                for of in sorted(copies, key=lambda of: (of[0], min(copy.seq for copy, _, _ in copies[of]))):
+                for of in sorted(copies, key=lambda of: (of[0], min(copy.seq for copy, _, _ in copies[of]), of)):
                     yield from ((copy, stays) for copy, own, counts_now in copies[of] if own and counts_now)
                     stays = stays or all(counts_now for _, _, counts_now in copies[of])
 
@@ -206,19 +214,23 @@ def in_stretches(pairs: Sequence[tuple[int, int]]) -> list[Replaced]:
 
 
 def said_of_copies(form: Form, keys: Mapping[Who, Client], rows: RowsByHash, new: Entry,
-                   pairs: Mapping[bytes, Sequence[tuple[int, int]]], withdrawn: Container[bytes] = ()) -> list[Entry]:
+                   pairs: Mapping[bytes, Sequence[tuple[int, int]]], withdrawn: Collection[bytes] = ()) -> list[Entry]:
     """The entries that say which messages, of those up to a new entry, stand for those of old entries: pairs of seqs, by the
-    old entries' hashes. Nobody else may have what was withdrawn, so that what is before it is spoken of apart."""
-    left, found = set(pairs), list[Entry]()
-    for of in sorted(pairs, key=lambda of: rows[of].entry.last, reverse=True):
+    old entries' hashes. Nobody else may have what was withdrawn, so that what is before it is spoken of apart; and a folder that is
+    put back may have the first ones of it alone, so that each is, or each run of some where they are many."""
+    left, found, entries = set(pairs), list[Entry](), {of: rows[of].entry for of in pairs}
+    run = -(-sum(of in withdrawn for of in pairs) // MOST_RUNS_OF_WITHDRAWN)
+    for of in sorted(pairs, key=lambda of: entries[of].last, reverse=True):
         if of not in left:
             continue
-        last = rows[of].entry
+        last = entries[of]
         client = last.site, last.author
-        least = min(rows[one].entry.first for one in left if (rows[one].entry.site, rows[one].entry.author) == client)
-        chained: list[tuple[int, int]] = []
-        while of in rows and rows[of].entry.first >= least and (of in withdrawn) == (last.hash in withdrawn):
-            chained += pairs[of] if of in left else ()
+        least = min(entries[one].first for one in left if (entries[one].site, entries[one].author) == client)
+        is_withdrawn, chained, size = last.hash in withdrawn, list[tuple[int, int]](), 0
+        while of in rows and rows[of].entry.first >= least and (of in withdrawn) == is_withdrawn and (size < run or not is_withdrawn):
+            if of in left:
+                chained += pairs[of]
+                size += 1
             left.discard(of)
             of = rows[of].entry.before
         stretches = in_stretches(chained)

@@ -7,11 +7,13 @@ from typing import NamedTuple
 from share.admission.judge import Counted, Judge
 from share.admission.ledger import Row, Who
 from share.admission.left_out import LeftOut
+from share.admission.runs import runs
 from share.format.entry import NOT_UNDER_A_NUMBER, Copy, Entry, Form, Kind
 from share.format.operation import Operation
 from share.store.note_file import Disk
 from share.store.own import Anew, Client
 from share.sync.backlog import Backlog
+from share.sync.handover import Handover
 from share.sync.recovered import Recovered
 from share.sync.standing import MOST_SAID_BY_OTHERS, Standing
 
@@ -48,17 +50,21 @@ class RowsInMemory(Mapping[bytes, Row]):
         return isinstance(of, bytes) and (of in self._withdrawn or of in self._judge)
 
     def __iter__(self) -> Iterator[bytes]:
-        return (row.entry.hash for row in chain(self._withdrawn.values(), self._judge.rows()))
+        return chain(self._withdrawn, self._judge.hashes())
 
     def __len__(self) -> int:
         return len(self._withdrawn) + len(self._judge)
+
+    def each(self) -> Iterator[Row]:
+        """All of them. Each is made only once, which sealing makes dear."""
+        return chain(self._withdrawn.values(), self._judge.rows())
 
 
 class Holdings:
     """What was read of a file, and what counts of it. The editor's thread alone calls it."""
 
-    def __init__(self, form: Form) -> None:
-        self._form = form
+    def __init__(self, form: Form, handover: Handover) -> None:
+        self._form, self._handover = form, handover
         self.clients: dict[Who, Client] = {}
         # The author, site and seq of each message made here that another one stands for, and what stands for which.
         self.anew: set[tuple[bytes, int, int]] = set()
@@ -86,23 +92,21 @@ class Holdings:
     def _is_edit(self, row: Row) -> bool:
         return row.made and bool(row.entry.size)
 
-    def read(self, disk: Disk, most: float = math.inf) -> list[Row]:
-        """Reads what the file has more, all or until it has this many bytes; the rows that weren't known."""
+    def read(self, disk: Disk, most: float = math.inf) -> list[Sequence[Row]]:
+        """Reads what the file has more, all or until it has this many bytes; the rows that weren't known, as `runs` has them."""
         if not self.rows:
             self.reread_anew(disk)
-        rows, gone = disk.entries.rows(self._place, most), disk.entries.withdrawn(self._number)
-        has_more = sum(len(row.entry.raw) for row in rows) >= most
-        if rows:
-            self._place = rows[-1].place
+        rows, has_more = self._rows_of(disk, most)
+        gone = disk.entries.withdrawn(self._number)
         again, self._again = self._again[:READ_AGAIN_AT_ONCE], self._again[READ_AGAIN_AT_ONCE:]
         rows += disk.entries.rows_at(dict.fromkeys(again))
         # What was withdrawn comes once more where a log had it after all.
-        new = [row for row in rows if row.entry.hash not in self.judge]
-        if new and any(row.made for row in new):
+        new = [*runs(self.judge.unknown(rows))]
+        if any(run[0].made for run in new):
             # Another editor of this person may have claimed a number.
             self.clients |= {who(one): one for one in disk.own.clients()}
-        for row in new:
-            self._add(row)
+        for run in new:
+            self._add_run(run)
         if gone:
             # What was withdrawn may be further on in the file.
             self._number = self._number if has_more else gone[-1][0]
@@ -110,16 +114,34 @@ class Holdings:
         self.has_more = has_more or bool(self._again)
         return new
 
+    def _rows_of(self, disk: Disk, most: float) -> tuple[list[Row], bool]:
+        """The next rows of a file, and whether it may have more. Those that were handed over needn't be read there."""
+        rows, size = self._handover.take(disk.inode, self._place, most)
+        self._place = rows[-1].place if rows else self._place
+        if (left := most - size) <= 0:
+            return rows, True
+        read = disk.entries.rows(self._place, left)
+        self._place = read[-1].place if read else self._place
+        return rows + read, sum(len(row.entry.raw) for row in read) >= left
+
+    @property
+    def place(self) -> int:
+        """Up to which place the file was read."""
+        return self._place
+
     def read_again(self) -> None:
         """Begins the next reading at the front of the file, which was written anew."""
         self._place = self._number = 0
         self._backlog, self._again = Backlog(), []
 
-    def add(self, entries: Iterable[Entry]) -> None:
-        """Adds entries that were made here and are in the file."""
+    def add(self, entries: Iterable[Entry], places: range = range(0)) -> None:
+        """Adds entries that were made here and are in the file, perhaps at these places: where they follow what was read they needn't
+        be read there."""
         for entry in entries:
             if entry.hash not in self.judge:
                 self._add(Row(0, entry, True))
+        if places and places[0] == self._place + 1:
+            self._place = places[-1]
 
     def withdraw(self, hashes: Collection[bytes]) -> None:
         """Takes entries out of what counts."""
@@ -265,6 +287,13 @@ class Holdings:
         """What is to be looked at again where it changes: how far those count of which there are copies, and these."""
         return [*self.standing.fronts(self.counts_up_to), *self.standing_for_all.fronts(self.counts_up_to),
                 *self.recovered.fronts(self.counts_up_to)]
+
+    def _add_run(self, run: Sequence[Row]) -> None:
+        """Adds one entry; or several of messages, each of which follows the one before it, together where nothing was said of them here."""
+        is_plain = len(run) > 1 and not (self._withdrawn or self.standing_for_all.waits or who(run[0].entry) in self.clients)
+        if not (is_plain and self.judge.extend(run)):
+            for row in run:
+                self._add(row)
 
     def _add(self, row: Row) -> None:
         entry, of = row.entry, who(row.entry)

@@ -5,6 +5,7 @@ from enum import Enum, auto
 from typing import NamedTuple
 
 from share.log.base import Log, LogLost, Unreachable
+from share.log.bell import Bell
 from share.program.trace import Traced, trace
 from share.store.guarded import Damaged, Unkept
 from share.store.note_file import Disk
@@ -46,17 +47,46 @@ class Threads:
         self._threads: dict[Task, threading.Thread] = {}
         # Why a thread is without the log.
         self._offline: dict[Task, str] = {}
+        # What wakes them, which the last of those that use it closes, the editor's thread among them; and how many these are.
+        self._bells, self._users, self._leaving = list[Bell](), 1, threading.Lock()
 
     def start(self, task: Task, part: Callable[[], None]) -> None:
         """Starts a part, unless it runs."""
         if task not in self._threads:
-            thread = self._threads[task] = threading.Thread(target=self._go_on, args=(task, part), daemon=True)
-            thread.start()
+            thread = threading.Thread(target=self._run, args=(task, part), daemon=True)
+            with self._leaving:
+                thread.start()
+                self._threads[task] = thread
+                self._users += 1
 
-    def join(self) -> None:
-        """Waits until all parts have ended, each of which was told to."""
+    def bell(self) -> Bell:
+        """What wakes a part, and rings as all stop."""
+        self._bells.append(Bell())
+        return self._bells[-1]
+
+    def stop(self) -> None:
+        """Stops all parts, and waits until they have ended. One that something holds up longer ends by itself, and closes what it has
+        open then. It is called once."""
+        self.stopped.set()
+        for bell in self._bells:
+            bell.ring()
         for thread in self._threads.values():
             thread.join(JOIN_SECONDS)
+        self._leave()
+
+    def _leave(self) -> None:
+        with self._leaving:
+            self._users -= 1
+            is_last = not self._users
+        if is_last:
+            for bell in self._bells:
+                bell.close()
+
+    def _run(self, task: Task, part: Callable[[], None]) -> None:
+        try:
+            self._go_on(task, part)
+        finally:
+            self._leave()
 
     def offline(self) -> str | None:
         """Why the log can't be reached, where it can't."""

@@ -6,7 +6,9 @@ from typing import Any
 
 from selenium import webdriver
 from selenium.webdriver.chrome.service import Service
+from selenium.webdriver.common.action_chains import ActionChains
 from selenium.webdriver.common.by import By
+from selenium.webdriver.common.keys import Keys
 from selenium.webdriver.remote.webelement import WebElement
 
 from share.tests.waiting import PATIENCE
@@ -84,9 +86,18 @@ class Window:
         """An element."""
         return self.driver.find_element(By.CSS_SELECTOR, selector)
 
+    def command(self, name: str, **words: object) -> Any:
+        """What a command of the browser's developer tools answers."""
+        return self.driver.execute_cdp_cmd(name, words)
+
     def type(self, *keys: str) -> None:
         """Presses keys where the cursor is."""
         self.driver.switch_to.active_element.send_keys(*keys)
+
+    def type_over(self, *keys: str) -> None:
+        """Presses keys where something is selected, which `type` gives up where the page wasn't in front."""
+        actions: Any = ActionChains
+        actions(self.driver).send_keys(*keys).perform()
 
     def paste(self, text: str) -> None:
         """Pastes a text, as it would come from another program."""
@@ -99,6 +110,11 @@ class Window:
     def press(self, button: str) -> None:
         """Presses a button of the page."""
         self.element(f"#{button}").click()
+
+    def click_with_control(self, selector: str) -> None:
+        """Clicks on an element while Ctrl is held."""
+        actions: Any = ActionChains
+        actions(self.driver).key_down(Keys.CONTROL).click(self.element(selector)).key_up(Keys.CONTROL).perform()
 
     def text(self) -> str:
         """The text. Half a surrogate pair, which the driver can't hand on, is spelled as in JSON meanwhile."""

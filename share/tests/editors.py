@@ -2,13 +2,16 @@
 import json
 import os
 import pathlib
-import select
 import subprocess
 import time
-from collections.abc import Callable
+from collections.abc import Callable, Sequence
 from typing import IO, Any
 
 from share.editors.mirror import Mirror, TextChange
+from share.engine.engine import Engine
+from share.log.polling import can_read, ready
+from share.store import notes
+from share.sync.session import Session
 from share.tests.support import NOTE, Case, engine_of
 from share.tests.waiting import PATIENCE as PATIENCE
 from share.tests.waiting import wait_for
@@ -19,8 +22,8 @@ class Editor:
     """An editor without a screen."""
 
     def __init__(self, data: pathlib.Path, name: str = "note", units: str = "utf-16", link: str | None = None,
-                 opens: bool = True, **more: str):
-        words = [NOTE, "engine", name]
+                 opens: bool = True, command: Sequence[str] = (NOTE,), **more: str):
+        words = [*command, "engine", name]
         if "log" in more:
             words += ["--log", more.pop("log")]
         variables = {**os.environ, "VIALSHOAL_DATA": str(data)}
@@ -67,7 +70,7 @@ class Editor:
         """Writes bytes, and reads meanwhile."""
         left = memoryview(data)
         while left:
-            read, write, _ = select.select([self._out], [self._in], [], PATIENCE)
+            read, write = ready(PATIENCE, [self._out], [self._in])
             if write:
                 left = left[os.write(self._in, left[:4_096]):]
             if read:
@@ -119,7 +122,7 @@ class Editor:
     def read(self, seconds: float = 0.0) -> int:
         """Takes in what comes within some time; how many lines."""
         before = len(self.lines)
-        while select.select([self._out], [], [], seconds)[0] and self._receive():
+        while can_read(self._out, seconds) and self._receive():
             seconds = 0.0
         return len(self.lines) - before
 
@@ -183,9 +186,65 @@ class Engines(Case):
         """Waits until editors show the same, with all answered; that."""
         def are_alike() -> bool:
             for editor in editors:
-                editor.read()
-                editor.mirror.answered == editor.mirror.made or editor.read(0.02)
-            return all(one.mirror.answered == one.mirror.made for one in editors) and len(
-                {one.text for one in editors}) == 1 and not any(one.read(0.05) for one in editors)
+                # What it has asked for has been done when this is answered.
+                editor.ask("on")
+            return all(one.mirror.answered == one.mirror.made for one in editors) and len({one.text for one in editors}) == 1
         wait_for(are_alike, "editors to show the same")
         return editors[0].text
+
+
+class EngineHere(Case):
+    """An engine in this process, at a time that the test sets, with two editors."""
+
+    def setUp(self) -> None:
+        super().setUp()
+        self.now = 0.0
+        pause = os.environ.pop("VIALSHOAL_PAUSE")
+        self.addCleanup(os.environ.__setitem__, "VIALSHOAL_PAUSE", pause)
+        self.engine = Engine("note", lambda: Session(notes.open_note("note", None, None)), lambda: None, clock=lambda: self.now)
+        self.addCleanup(self.engine.close)
+        # How many bytes are on their way to each editor, by its number.
+        self.unread: dict[int, int] = {}
+        self.editors = [self.editor(units) for units in ("utf-16", "utf-8")]
+
+    def session(self) -> Session:
+        """The session of the engine."""
+        assert self.engine.session
+        return self.engine.session
+
+    def editor(self, units: str) -> Any:
+        """One more editor: its end at the engine, its mirror, what it was sent, and what it sends."""
+        sent: list[bytes] = []
+        number = len(self.engine.peers)
+        peer = self.engine.joined(sent.append, lambda: self.unread.get(number, 0))
+        self.engine.take(peer, [json.dumps({"do": "open", "protocol": 1, "units": [units]}).encode()])
+        asked: list[bytes | None] = []
+        mirror = Mirror(json.loads(sent.pop(0)), lambda line: asked.append(json.dumps(line).encode()))
+        return peer, mirror, sent, asked
+
+    def meet(self) -> list[list[Line]]:
+        """Has all lines arrive; those that each editor got."""
+        got: list[list[Line]] = [[] for _ in self.editors]
+        for _ in range(6):
+            for peer, _, _, asked in self.editors:
+                while asked:
+                    self.engine.take(peer, asked)
+            self.engine.turn()
+            for number, (_, mirror, sent, _) in enumerate(self.editors):
+                for line in map(json.loads, [*sent]):
+                    got[number].append(line)
+                    mirror.take(line)
+                sent.clear()
+        return got
+
+    def asks(self, number: int, what: str, **more: object) -> Line:
+        """What an editor's request is answered."""
+        self.editors[number][3].append(json.dumps({"do": what, "id": 1, **more}).encode())
+        return next(line for line in self.meet()[number] if line.get("answer") == what)
+
+    def shows(self, text: str) -> None:
+        """That all show a text, and the disk has it."""
+        self.meet()
+        self.assertEqual([mirror.text for _, mirror, _, _ in self.editors], [text] * len(self.editors))
+        self.assertEqual(self.session().text().decode(), text.replace("\n", "\r"))
+        self.assertEqual(self.person().text().decode(), text.replace("\n", "\r"))

@@ -9,12 +9,12 @@ import multiprocessing.synchronize
 import os
 import pty
 import random
-import select
 import struct
 import tempfile
 import termios
 import time
 
+from share.log.polling import can_read
 from share.store import notes
 from share.sync.session import Session
 from share.tests.note import Note
@@ -33,7 +33,7 @@ def answered(terminal: int, wait: float = 30, quiet: float = 0.05) -> float:
     """When an answer began to come, which is drawn as one; what comes after it, as that all is sent, is read
     away."""
     first = None
-    while select.select([terminal], [], [], quiet if first else wait)[0]:
+    while can_read(terminal, quiet if first else wait):
         os.read(terminal, 65_536)
         first = first or time.perf_counter()
     return first or time.perf_counter()

@@ -4,18 +4,22 @@ import json
 import os
 import pathlib
 import re
-import select
 import signal
 import socket
 import subprocess
 from collections.abc import AsyncIterator
 from contextlib import asynccontextmanager
-from typing import Any
+from typing import TYPE_CHECKING, Any
 
 import aiohttp
 
-from share.tests.support import NOTE
+from share.log.polling import can_read
+from share.tests.support import NOTE, Case, Person, wait_for
 from share.tests.waiting import PATIENCE
+from share.text.rope import swapped
+
+if TYPE_CHECKING:
+    from share.tests.browser import Window
 
 Line = dict[str, Any]
 FOUND = re.compile(r'url=(http://127\.0\.0\.1:(\d+)/#([0-9a-f]+))"')
@@ -27,10 +31,10 @@ class Server:
     def __init__(self, data: pathlib.Path, *words: str, name: str = "note", command: str = NOTE,
                  **environment: str):
         variables = {**os.environ, "VIALSHOAL_DATA": str(data), **environment}
-        self.process = subprocess.Popen([command, "web", name, *words], env=variables, stdin=subprocess.DEVNULL,
+        self.process = subprocess.Popen([command, "web", name, "--new", *words], env=variables, stdin=subprocess.DEVNULL,
                                         stdout=subprocess.PIPE, text=True)
         assert self.process.stdout
-        assert select.select([self.process.stdout], [], [], PATIENCE)[0], "the server says nothing"
+        assert can_read(self.process.stdout, PATIENCE), "the server says nothing"
         self.said = self.process.stdout.readline()
         self.process.stdout.readline()
         shown = re.search(r"(/\S+\.html)", self.said)
@@ -66,6 +70,33 @@ class Server:
                 answer += part
         head, _, body = answer.partition(b"\r\n\r\n")
         return int(head.split()[1]) if head else 0, head, body
+
+
+def is_fault(line: str) -> bool:
+    """Whether what the browser says of a page is a fault of the page's, and no end of a server or an engine."""
+    return "favicon" not in line and "WebSocket connection to" not in line
+
+
+def kept(data: pathlib.Path) -> str:
+    """What the note's file says."""
+    return swapped(Person(data).text()).decode()
+
+
+class Pages(Case):
+    """A test of pages."""
+
+    def assert_kept(self, data: pathlib.Path, *windows: "Window") -> None:
+        """That windows show the same, which is what the note's file says."""
+        def texts() -> list[str]:
+            return [kept(data), *(window.text() for window in windows)]
+        try:
+            wait_for(lambda: len(set(texts())) == 1, "all to be the same")
+        except AssertionError as why:
+            raise AssertionError(f"{why}: {texts()}") from why
+
+    def assert_no_faults(self, *windows: "Window") -> None:
+        """That nothing of these pages broke their own rules, or failed."""
+        self.assertEqual([line for window in windows for line in window.told() if is_fault(line)], [])
 
 
 class Talk:
@@ -119,11 +150,13 @@ class Talk:
 
 
 @asynccontextmanager
-async def talking(server: Server, secret: str | None = None, opens: bool = False, **headers: str) -> AsyncIterator[Talk]:
-    """A WebSocket with a page's headers, or these, on which the secret is said, or another."""
+async def talking(server: Server, secret: str | None = None, opens: bool = False, note: str | None = None,
+                  **headers: str) -> AsyncIterator[Talk]:
+    """A WebSocket with a page's headers, or these, on which the secret is said, or another; to another note, where one is named."""
     told = {"Host": server.host, "Origin": f"http://{server.host}", **headers}
     async with aiohttp.ClientSession() as session:
-        async with session.ws_connect(f"http://{server.host}/socket", headers=told, max_msg_size=0) as socket_:
+        async with session.ws_connect(f"http://{server.host}/socket", headers=told, max_msg_size=0,
+                                      params={} if note is None else {"note": note}) as socket_:
             talk = Talk(socket_)
             if secret != "":
                 await talk.say(server.secret if secret is None else secret)

@@ -128,10 +128,15 @@ class Hostile:
         self.answer = answer
         self._listening = socket.create_server(("127.0.0.1", 0))
         self.url = f"redis://127.0.0.1:{self._listening.getsockname()[1]}"
-        threading.Thread(target=self._accept, daemon=True).start()
+        self._accepting = threading.Thread(target=self._accept, daemon=True)
+        self._accepting.start()
 
     def close(self) -> None:
-        """Listens no more."""
+        """Listens no more. Who is connected is answered as long as he is."""
+        with contextlib.suppress(OSError):
+            # To close it alone wouldn't end the waiting for somebody.
+            self._listening.shutdown(socket.SHUT_RDWR)
+        self._accepting.join()
         self._listening.close()
 
     def _accept(self) -> None:

@@ -10,6 +10,7 @@ import json
 import os
 import pathlib
 import random
+import re
 import shutil
 import signal
 import subprocess
@@ -20,7 +21,7 @@ from share.editors.mirror import Mirror
 from share.tests.editors import Editor
 from share.tests.support import NOTE, Case, Person, alive, engine_of, written
 from share.tests.terminals import children
-from share.tests.waiting import wait_for
+from share.tests.waiting import PATIENCE, wait_for
 from share.text.line import Line
 
 # A disk of a person's own has so many bytes.
@@ -34,7 +35,10 @@ right = time.time
 time.time = lambda: right() + float(os.environ["SHARE_CLOCK"])
 """
 CLOCKS = (400 * 86_400, -400 * 86_400, 10_000, -10_000, 0)
-MEET_PATIENCE = 90.0
+MEET_PATIENCE = 2.0 * PATIENCE
+# Who has a note open is told of damage within so many seconds, in these words.
+TOLD_PATIENCE, DAMAGE_TOLD = 30.0, re.compile("written anew|has damaged")
+CRASH_TOLD = re.compile("has lost .* that it had|written anew")
 # Who has the key of what was left out has so many seconds to make it anew.
 ANEW_PATIENCE = 15.0
 Words = set[str]
@@ -61,7 +65,8 @@ class Writer:
         if self.editor:
             return
         more = {"link": self.link} if not self.person.path().exists() else {}
-        with patched({"PYTHONPATH": str(self.case.folder / "clock"), "SHARE_CLOCK": str(self.clock)} if self.clock else {}):
+        wrong = {"PYTHONPATH": str(self.case.folder / "clock"), "SHARE_CLOCK": str(self.clock)} if self.clock else {}
+        with patched({**wrong, "VIALSHOAL_TRACE": str(self.case.folder / f"trace-{self.name}")}):
             editor = Editor(self.person.data, opens=False, **more)
         self.case.addCleanup(editor.close)
         answer = editor.ask("open", protocol=1, units=["utf-16"])
@@ -515,11 +520,37 @@ class Storm:
             # A kill before anything is answered would find nothing but the damage.
             self.settle(one)
 
+    def crash(self) -> None:
+        """An engine is killed, and SQLite's log beside the file is damaged then. What that disk alone had may be gone, and is told."""
+        from share.tests.test_damage import AFTER_A_CRASH
+        one, what = self.someone(), self.chance.choice([*AFTER_A_CRASH])
+        if one.engine() and not self.due:
+            self.say(f"crash of {one.name}, whose log has {what}")
+            shown = {*one.editor.text.split()} - {*one.typing.values()} if one.editor else set()
+            one.kill()
+            with contextlib.suppress(FileNotFoundError):
+                AFTER_A_CRASH[what](one.person.path())
+            many, one.unsure, one.has = len(one.said), one.unsure | one.has, set()
+            lacks = shown - {*one.note("cat", "note").stdout.split()}
+            one.open()
+            if lacks:
+                wait_for(lambda: (one.look(), CRASH_TOLD.search(str(one.said[many:])))[1], f"the loss of {sorted(lacks)} to be told")
+
     def settle(self, one: Writer) -> None:
-        """Waits until a file that was damaged is whole again."""
+        """Waits until a file that was damaged is whole again, and it is told. Where that isn't told, nothing that was written was hit:
+        what a crash would leave has all."""
         many = len(one.said)
         with contextlib.suppress(AssertionError):
-            wait_for(lambda: (one.look(), not one.editor or len(one.said) > many)[1], "the damage to be told", 10)
+            wait_for(lambda: (one.look(), not one.editor or DAMAGE_TOLD.search(str(one.said[many:])))[1], "", TOLD_PATIENCE)
+            return
+        folder = self.case.folder / f"untold-{self.step}"
+        one.copy_to(folder)
+        for index in folder.glob("notes/*-shm"):
+            index.unlink()
+        shown = {*one.editor.text.split()} - {*one.typing.values()} if one.editor else set()
+        if lacks := shown - {*Person(folder).text().decode().split()}:
+            self.fault(f"damage to the file of {one.name} wasn't told in {TOLD_PATIENCE} s, and its disk lacks {sorted(lacks)}")
+        self.say("it hit nothing")
 
     def fill(self) -> None:
         """A disk is full for a while."""
@@ -625,6 +656,8 @@ class Storm:
             one.copy_to(folder / one.name)
         with contextlib.suppress(OSError, shutil.Error):
             self.log.copy_to(folder / "log")
+        for trace in self.case.folder.glob("trace-*"):
+            shutil.copy(trace, folder)
         lines = [why, *self.told]
         for one in self.people:
             lines += [f"{one.name}: {one.state()}", f"has {sorted(one.has)}", f"unsure {sorted(one.unsure)}",

@@ -11,6 +11,7 @@ import sys
 import tempfile
 import unittest
 from collections.abc import Callable, Iterable, Iterator
+from unittest import mock
 
 from share.admission.chains import rank
 from share.admission.judge import Judge
@@ -33,6 +34,10 @@ from share.tests.waiting import wait_for as wait_for
 
 TOP = pathlib.Path(__file__).resolve().parents[2]
 NOTE = str(TOP / "bin" / "note")
+# Where a test sets no clock, how long its keys take on a busy machine decides no undo.
+os.environ.setdefault("VIALSHOAL_PAUSE", "100000")
+# How often the locks are read before nobody has one.
+READINGS = 5
 ALPHABET = "abcdefgh  \r\t\\é߀ñ漢字🎉👍"
 
 
@@ -88,6 +93,10 @@ class Case(unittest.TestCase):
         self.folder = pathlib.Path(tempfile.mkdtemp(prefix="share-"))
         self.addCleanup(shutil.rmtree, self.folder, ignore_errors=True)
         os.environ["VIALSHOAL_DATA"] = str(self.folder / "data")
+        # A log that is back is found soon.
+        quick = mock.patch("share.sync.threads.RECONNECT_SECONDS", 0.2)
+        quick.start()
+        self.addCleanup(quick.stop)
 
     def person(self, name: str = "data") -> Person:
         """Somebody with a data folder of this name."""
@@ -168,7 +177,7 @@ class Carried:
         return self._kept(work(self.site))
 
     def _kept(self, edited: Edited) -> Edited:
-        for part in packed_in_parts(edited.messages):
+        for part in packed_in_parts(edited.messages, self.judge.length(self.number)):
             self.made.append(self.form.entry(self.made[-1], part, self.author, self.judge.built_on(part.operations)))
             self.judge.add(self.made[-1])
         own = self.judge.count().messages
@@ -319,10 +328,14 @@ def plain_text(messages: Iterable[Operation]) -> bytes:
 def engine_of(data: pathlib.Path) -> int:
     """The process that has a person's note open, which is called `note`."""
     lock = os.stat(data / "run" / "note.lock")
-    # Files of other disks have the same numbers.
-    found = re.findall(rf"FLOCK +ADVISORY +WRITE +(\d+) [0-9a-f]+:[0-9a-f]+:{lock.st_ino} ",
-                       pathlib.Path("/proc/locks").read_text(encoding="ascii"))
-    return [process for process in map(int, found) if _has_open(process, lock)][0]
+    # The system tells its locks in parts, between which others change them.
+    for _ in range(READINGS):
+        found = re.findall(rf"FLOCK +ADVISORY +WRITE +(\d+) [0-9a-f]+:[0-9a-f]+:{lock.st_ino} ",
+                           pathlib.Path("/proc/locks").read_text(encoding="ascii"))
+        # Files of other disks have the same numbers.
+        if holders := [process for process in map(int, found) if _has_open(process, lock)]:
+            return holders[0]
+    raise IndexError("nobody has the note open")
 
 
 def _has_open(process: int, file: os.stat_result) -> bool:
@@ -335,8 +348,11 @@ def _has_open(process: int, file: os.stat_result) -> bool:
 
 
 def alive(process: int) -> bool:
-    """Whether a process is there."""
-    return pathlib.Path(f"/proc/{process}").exists()
+    """Whether a process hasn't ended. Who started one that has may not have asked for its status yet."""
+    try:
+        return pathlib.Path(f"/proc/{process}/stat").read_text(encoding="utf-8").rpartition(") ")[2][0] != "Z"
+    except (FileNotFoundError, ProcessLookupError):
+        return False
 
 
 def python() -> str:

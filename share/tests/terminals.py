@@ -1,14 +1,19 @@
 """Terminals for tests: real ones, of tmux, with a command in each."""
+import contextlib
 import itertools
 import os
 import pathlib
+import pty
 import re
+import signal
 import subprocess
 
 from share.tests.support import NOTE, Case, wait_for
 
 WIDTH, HEIGHT = 70, 12
 NUMBERS = itertools.count()
+# An Emacs at a terminal, which compiles nothing of its own meanwhile: that would take some minutes of a processor, and stay in the home.
+EMACS = ("emacs", "-nw", "-Q", "--eval", "(setq native-comp-deferred-compilation nil native-comp-jit-compilation nil)")
 
 
 class Terminal:
@@ -18,7 +23,7 @@ class Terminal:
                  link: str = ""):
         self.socket = str(case.folder / f"tmux-{next(NUMBERS)}")
         environment = {**os.environ, "VIALSHOAL_DATA": str(case.folder / data), "LC_ALL": "C.UTF-8",
-                       "VIALSHOAL_LINK": link}
+                       "VIALSHOAL_LINK": link, "VIALSHOAL_NAME": " "}
         line = " ".join([command, *words]) + "; echo status $?; cat"
         subprocess.run(["tmux", "-S", self.socket, "-f", "/dev/null", "new-session", "-d", "-x", str(WIDTH),
                         "-y", str(HEIGHT), line], check=True, env=environment)
@@ -74,6 +79,10 @@ class Terminal:
         """What the screen shows, with its looks as sequences, but for colours."""
         return re.sub("\x1b\\[[34][0-9]m", "", self._tmux("capture-pane", "-p", "-e"))
 
+    def modes(self) -> str:
+        """Whether the terminal tells of the mouse, and by which numbers."""
+        return self._tmux("display", "-p", "#{mouse_button_flag}#{mouse_sgr_flag}").strip()
+
     def shows(self, *lines: str) -> None:
         """Waits until the screen begins with these lines and shows no more of the note."""
         wanted = [*lines] + [""] * (HEIGHT - 1 - len(lines))
@@ -93,6 +102,58 @@ class Terminal:
         """Waits until the cursor is there."""
         wait_for(lambda: self._tmux("display", "-p", "#{cursor_x} #{cursor_y}") == f"{column} {line}\n",
                  f"the cursor at {column}, {line}")
+
+
+class Answering:
+    """A run of bin/note at a terminal of lines, which asks something."""
+
+    def __init__(self, data: pathlib.Path, *words: str):
+        self.shown = ""
+        self._status: int | None = None
+        self._process, self._terminal = pty.fork()
+        if not self._process:
+            os.environ.update(VIALSHOAL_DATA=str(data), TERM="xterm-256color", COLUMNS="200")
+            os.execv(NOTE, [NOTE, *words])
+        os.set_blocking(self._terminal, False)
+
+    def __enter__(self) -> "Answering":
+        return self
+
+    def __exit__(self, *_: object) -> None:
+        self.status()
+        os.close(self._terminal)
+
+    def _read(self) -> str:
+        with contextlib.suppress(OSError):
+            self.shown += os.read(self._terminal, 65_536).decode("utf-8", "replace")
+        return self.shown
+
+    def sees(self, *parts: str) -> None:
+        """Waits until it has written all of these."""
+        wait_for(lambda: all(part in self._read() for part in parts), f"{parts}")
+
+    def type(self, words: str) -> None:
+        """Types an answer, or a key."""
+        os.write(self._terminal, words.encode())
+
+    def interrupt(self) -> None:
+        """Ends it as Ctrl-C does."""
+        os.kill(self._process, signal.SIGINT)
+
+    def status(self) -> int:
+        """The status with which it ends; below 0, by which signal."""
+        def ended() -> bool:
+            self._read()
+            process, status = os.waitpid(self._process, os.WNOHANG)
+            if process:
+                self._status = os.waitstatus_to_exitcode(status)
+            return bool(process)
+
+        if self._status is None:
+            wait_for(ended, "the end")
+            self._read()
+        assert self._status is not None
+        return self._status
 
 
 def children(process: int) -> list[int]:

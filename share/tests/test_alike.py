@@ -12,8 +12,9 @@ from share.program import retyping
 from share.program.site import Site
 from share.sync.recovered import Recovered
 from share.tests.naive import Name, entry_of, inserting
-from share.tests.support import Person, take
+from share.tests.support import Person, take, written
 from share.tests.test_left_out import Three, shown
+from share.tests.waiting import wait_for
 
 FORM = Plain(bytes(16))
 
@@ -44,6 +45,18 @@ class Typed(Three):
         self.assertEqual((text.count("word "), len(missing)), (1, 1))
         self.assertIn("Typed again: 5 characters", self.run_as(self.carol, "recover", "--lost", "note"))
         self.assertEqual(shown(self.carol), (text, []))
+
+    def test_what_was_typed_again_and_made_anew_gives_way_to_what_its_author_makes_anew(self) -> None:
+        take(self.anna, self.begun())
+        self.run_as(self.bob, "recover", "--lost", "note")
+        for site in self.numbers_that_typed(self.bob):
+            take(self.bob, site)
+        # What Bob typed for Anna is made anew with what he typed himself; then Anna comes.
+        bob = self.opened(self.bob)
+        wait_for(lambda: (bob.take_in(), b"we meet" in bob.text)[1], "it to be made anew")
+        anna = self.opened(self.anna)
+        written(anna, "back ")
+        self.assertEqual(self.assert_meet(anna, bob).count(b"we meet"), 1)
 
     def test_letters_that_two_histories_have_at_one_place_are_not_one(self) -> None:
         self.begun()

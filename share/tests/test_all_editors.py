@@ -1,6 +1,6 @@
-"""A terminal, Emacs, Neovim and a page of Chromium are at one note. In each somebody types, deletes and takes back at
-random, while the log is stopped and started, and editors and engines are killed: each word that nobody deleted stands
-once in one text, which all have.
+"""A terminal, Emacs, Neovim and a page of Chromium are at one note. In each somebody types, deletes, rewrites and takes back at
+random, by commands that ask, too, and in Neovim in blocks, while the log is stopped and started, and editors and engines are killed:
+each word that nobody deleted or rewrote stands in one text, which all have, as often as it was typed and where it was.
 
     SHARE_SECONDS=300 SHARE_SEED=7 share/tests/run test_all_editors
 """
@@ -10,6 +10,7 @@ import re
 import subprocess
 import threading
 import time
+from collections import Counter
 from collections.abc import Callable
 from concurrent.futures import ThreadPoolExecutor
 from dataclasses import dataclass
@@ -17,12 +18,12 @@ from functools import partial
 
 from share.tests.servers import RedisServer
 from share.tests.support import NOTE, Case, wait_for, written
-from share.tests.writers import PATIENCE, Cut, Emacs, Neovim, OwnEditor, PageInChromium, Writer, kill_editor, kill_engine
+from share.tests.writers import PATIENCE, Cut, Emacs, Neovim, OwnEditor, PageInChromium, State, Writer, kill_editor, kill_engine
 
 SECONDS = float(os.environ.get("SHARE_SECONDS", "0"))
 SEED = int(os.environ.get("SHARE_SEED", "1"))
-# How long all write before they meet.
-ROUND_SECONDS = (2.0, 8.0) if SECONDS else (1.0, 1.5)
+# The fewest and the most things that each does before all meet.
+ROUND = (5, 25) if SECONDS else (3, 4)
 EDITORS: list[type[Writer]] = [OwnEditor, Emacs, Neovim, PageInChromium]
 WORD = re.compile(r"[tenp]\d{4}[abc]*\.|begin\.")
 
@@ -38,14 +39,21 @@ class Word:
     is_there: bool | None = None
     # Whether nothing has happened to it since all have met, but that it was typed.
     is_fresh: bool = True
+    # In how many lines it stands, and whether it ends each of them.
+    times: int = 1
+    ends_line: bool = True
 
 
 @dataclass
 class Step:
-    """An edit that can be taken back: a word that was typed, or one that was deleted."""
+    """An edit that can be taken back: a word that was typed, one that was deleted, or both."""
 
-    word: Word
-    typed: bool
+    typed: Word | None
+    deleted: Word | None = None
+
+    def words(self) -> list[tuple[Word, bool]]:
+        """Its words, and whether they are there after it."""
+        return [(word, word is self.typed) for word in (self.typed, self.deleted) if word]
 
 
 class Author:
@@ -57,15 +65,16 @@ class Author:
         # What can be taken back, the last edit last.
         self.steps: list[Step] = []
         self._typed = 0
-        self.did = {"typed": 0, "deleted": 0, "taken back": 0, "killed": 0}
+        self.did = {"typed": 0, "deleted": 0, "rewritten": 0, "in blocks": 0, "taken back": 0, "killed": 0}
 
-    def write(self, end: float) -> None:
-        """Writes until it is so late."""
-        while time.monotonic() < end:
+    def write(self, many: int, done: "Done") -> None:
+        """Does some things, one after the other."""
+        for _ in range(many):
             try:
                 self._act()
             except Cut:
                 self.recover()
+            done.more()
             time.sleep(self._chance.random() * 0.1)
 
     def recover(self) -> None:
@@ -78,73 +87,133 @@ class Author:
         what = self._chance.random()
         if what < 0.15 and self.steps:
             self.undo()
-        elif what < 0.35:
-            self._delete_some()
+        elif what < 0.3 and (word := self._chosen()):
+            self.delete(word)
+        elif what < 0.5 and (word := self._chosen()):
+            self.rewrite(word)
+        elif what < 0.65 and isinstance(self.writer, Neovim):
+            self.write_in_block(self.writer)
         else:
             self.type()
 
-    def type(self) -> None:
-        """Types a word at the begin of some line, which is a place where no word is cut in two."""
+    def _new_word(self) -> Word:
         self._typed += 1
         tail = "".join(self._chance.choices("abc", k=self._chance.randrange(4)))
         word = Word(f"{self.writer.tag}{self._typed:04}{tail}.", self)
         with self._deciding:
             self.words.append(word)
-        lines = self.writer.seen().text.count("\n") + 1
-        self.writer.go_to(self._chance.randint(1, lines))
+        return word
+
+    def _some_line(self) -> int:
+        return self._chance.randint(1, self.writer.seen().text.count("\n") + 1)
+
+    def _pause(self) -> None:
+        """Waits a moment in the midst of a command, while others type."""
+        time.sleep(self._chance.random() * 0.2)
+
+    def type(self) -> None:
+        """Types a word at the begin of some line, which is a place where no word is cut in two."""
+        word = self._new_word()
+        self.writer.go_to(self._some_line())
         rest = f"{word.text}\n"
         while rest:
             many = self._chance.choice((1, 1, 2, len(rest)))
             self.writer.type(rest[:many])
             rest = rest[many:]
             time.sleep(self._chance.random() * 0.03)
-        self._waits_for(word, True, "typed")
-        self.steps.append(Step(word, True))
+        self._did("typed", Step(word))
 
-    def _delete_some(self) -> None:
-        """Deletes an own word, or one of somebody else's."""
+    def write_in_block(self, neovim: Neovim) -> None:
+        """Types a word at the begins of some lines at once."""
+        word = self._new_word()
+        word.ends_line = False
+        word.times = neovim.write_in_block(self._some_line(), self._chance.randint(1, 3), word.text, self._pause)
+        self._did("in blocks", Step(word))
+
+    def _chosen(self) -> Word | None:
+        """An own word, or one of somebody else's, that this one alone may change from now on."""
         shown = self.writer.seen().text
         with self._deciding:
-            may = [word for word in self.words if word.is_there and word.text in shown
+            may = [word for word in self.words if word.is_there and word.times == 1 and word.text in shown
                    and (word.holder is self or word.is_fresh)]
             own = [word for word in may if word.holder is self]
             found = self._chance.choice(own if own and self._chance.random() < 0.6 else may) if may else None
             if found:
                 found.holder, found.is_fresh = self, False
-        if found:
-            self.delete(found)
+        return found
 
     def delete(self, word: Word) -> None:
         """Deletes a word."""
-        with self._deciding:
-            word.holder, word.is_fresh, word.is_there = self, False, None
+        self._changes(word)
         self.writer.delete(word.text)
-        self._waits_for(word, False, "deleted")
-        self.steps.append(Step(word, False))
+        self._did("deleted", Step(None, word))
+
+    def rewrite(self, word: Word) -> None:
+        """Has a new word stand in the place of another one."""
+        new = self._new_word()
+        new.ends_line = word.ends_line
+        self._changes(word)
+        self.writer.rewrite(word.text, new.text, self._pause)
+        self._did("rewritten", Step(new, word))
 
     def undo(self) -> None:
         """Takes back the last edit, unless that is another one's to change."""
+        words = self.steps[-1].words()
         with self._deciding:
-            word, typed = self.steps[-1].word, self.steps[-1].typed
-            if word.holder is not self or word.is_there is not typed:
+            if any(word.holder is not self or word.is_there is not is_there for word, is_there in words):
                 return
-            word.is_fresh, word.is_there = False, None
+        self._changes(*(word for word, _ in words))
         self.steps.pop()
         self.writer.undo()
-        self._waits_for(word, not typed, "taken back")
+        self._waits_for("taken back", [(word, not is_there) for word, is_there in words])
+
+    def _changes(self, *words: Word) -> None:
+        """Says that what becomes of words isn't known until this author has seen it."""
+        with self._deciding:
+            for word in words:
+                word.holder, word.is_fresh, word.is_there = self, False, None
 
     def undo_what_is_gone(self) -> None:
         """Takes back the typing of a word that another one has deleted, while nobody else writes: its line end goes."""
-        lines = self.writer.seen().text.count("\n")
-        self.steps.pop()
+        lines, word = self.writer.seen().text.count("\n"), self.steps.pop().typed
+        assert word
+        word.ends_line = False
         self.writer.undo()
         self.writer.wait_for(lambda state: state.text.count("\n") == lines - 1, "a line end less")
 
-    def _waits_for(self, word: Word, is_there: bool, what: str) -> None:
-        """Waits until the editor shows what it is told to, and all is answered."""
-        self.writer.wait_for(lambda state: (word.text in state.text) is is_there and state.quiet, f"{what} {word.text}")
-        word.is_there = is_there
+    def _did(self, what: str, step: Step) -> None:
+        """Waits until an edit is shown, which can be taken back then."""
+        self._waits_for(what, step.words())
+        self.steps.append(step)
+
+    def _waits_for(self, what: str, words: list[tuple[Word, bool]]) -> None:
+        """Waits until the editor shows words, or doesn't, and all is answered."""
+        def is_shown(state: State) -> bool:
+            return state.quiet and all(state.text.count(word.text) == is_there * word.times for word, is_there in words)
+
+        self.writer.wait_for(is_shown, f"{what} {[word.text for word, _ in words]}")
+        for word, is_there in words:
+            word.is_there = is_there
         self.did[what] += 1
+
+
+class Done:
+    """How many things all have done in a round."""
+
+    def __init__(self) -> None:
+        self._many, self._changed = 0, threading.Condition()
+
+    def more(self) -> None:
+        """One more is done."""
+        with self._changed:
+            self._many += 1
+            self._changed.notify_all()
+
+    def wait_for(self, many: int, moment: float) -> None:
+        """Waits until so many are done, and a moment more, in which others are amid theirs."""
+        with self._changed:
+            assert self._changed.wait_for(lambda: self._many >= many, PATIENCE)
+        time.sleep(moment)
 
 
 class FileLog:
@@ -230,43 +299,46 @@ class AllEditors(Case):
 
     def round(self, killed: object) -> None:
         """Has all write, while an author's editor is killed, or somebody's engine; and the log is away, perhaps."""
-        seconds = self.chance.uniform(*ROUND_SECONDS)
-        end = time.monotonic() + seconds
-        first, last, when = (self.chance.random() * seconds for _ in range(3))
-        works: list[Callable[[], None]] = [*(partial(author.write, end) for author in self.authors),
+        many, done = self.chance.randint(*ROUND), Done()
+        first, last, when = (partial(done.wait_for, number, self.chance.random() * 0.2)
+                             for number in (*sorted(self.chance.choices(range(many * len(self.authors)), k=2)),
+                                            self.chance.randrange(many * len(self.authors))))
+        works: list[Callable[[], None]] = [*(partial(author.write, many, done) for author in self.authors),
                                            partial(self.kill, killed, when)]
         if self.chance.random() < 0.6:
-            works.append(partial(self.away, min(first, last), max(first, last)))
+            works.append(partial(self.away, first, last))
         with ThreadPoolExecutor(len(works)) as threads:
-            for done in [threads.submit(work) for work in works]:
-                done.result()
+            for ended in [threads.submit(work) for work in works]:
+                ended.result()
         for author in self.authors:
             if author.writer.is_cut:
                 author.recover()
 
-    def kill(self, killed: object, seconds: float) -> None:
-        """Kills an author's editor, or somebody's engine, in so long."""
-        time.sleep(seconds)
+    def kill(self, killed: object, when: Callable[[], None]) -> None:
+        """Kills an author's editor, or somebody's engine, at a moment of a round."""
+        when()
         if isinstance(killed, Author):
             kill_editor(killed.writer)
         else:
             person = self.chance.choice(["ada", "bo"])
             kill_engine([author.writer for author in self.authors if author.writer.person == person])
 
-    def away(self, begin: float, end: float) -> None:
-        """Takes the log away from a moment of a round to another one, and a while longer."""
-        time.sleep(begin)
+    def away(self, begin: Callable[[], None], end: Callable[[], None]) -> None:
+        """Takes the log away from a moment of a round to another one, and a while longer, so that it is missed."""
+        begin()
         self.log.kill()
-        time.sleep(end - begin + 0.5)
+        end()
+        time.sleep(0.5)
         self.log.start()
 
     def take_back_what_another_deleted(self) -> None:
         """One deletes a word of another's, who takes its typing back: it stays gone. It comes back where the deletion is
         taken back."""
         author, other = self.chance.sample(self.authors, 2)
-        if not author.steps or not author.steps[-1].typed or not author.steps[-1].word.is_there:
+        step = author.steps[-1] if author.steps else Step(None)
+        if not step.typed or step.deleted or not step.typed.ends_line or not step.typed.is_there:
             return
-        other.delete(author.steps[-1].word)
+        other.delete(step.typed)
         self.meet()
         author.undo_what_is_gone()
         self.meet()
@@ -288,22 +360,23 @@ class AllEditors(Case):
         return text
 
     def check(self, text: str) -> None:
-        """That a text has each word once that nobody deleted, and what was broken off; and that each editor may change
-        again what is its."""
-        found = WORD.findall(text)
-        self.assertEqual(len(found), len(set(found)), f"some words stand twice: {text}")
+        """That a text has each word that nobody deleted, as often as it was typed and at its line's end, and what was broken off; and
+        that each editor may change again what is its."""
+        found = Counter(WORD.findall(text))
         for word in self.words:
             if word.is_there is None:
                 self.broken.add(word.text)
-                word.is_there = word.text in found
-        lacks = [word.text for word in self.words if word.is_there and word.text not in found]
-        again = [word.text for word in self.words if not word.is_there and word.text in found]
-        self.assertEqual(([], []), (lacks, again), f"words that are missing, and that were deleted, of {text}")
+                # Its line end may not have been typed.
+                word.is_there, word.times, word.ends_line = word.text in found, found[word.text] or 1, False
+        wanted = Counter({word.text: word.times for word in self.words if word.is_there}) + Counter(["begin."])
+        self.assertEqual((wanted - found, found - wanted), (Counter(), Counter()), f"what is missing, and what is too much, of {text}")
+        glued = [word.text for word in self.words if word.is_there and word.ends_line and f"{word.text}\n" not in text]
+        self.assertEqual(glued, [], f"words that don't end their lines of {text}")
         for part in WORD.sub(" ", text).split():
             self.assertTrue(self.is_broken(part), f"{part!r} in {text}")
         for word in self.words:
             author = next(one for one in self.authors if one.writer.tag == word.text[0])
-            if word.is_there and not any(step.word is word for step in word.holder.steps):
+            if word.is_there and not any(word is one for step in word.holder.steps for one, _ in step.words()):
                 word.holder = author
             word.is_fresh = True
 

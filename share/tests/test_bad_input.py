@@ -13,6 +13,7 @@ import threading
 import unittest
 from unittest import mock
 
+from share.format.link import read_link
 from share.log.base import Unreachable
 from share.log.sqlite import SqliteLog
 from share.program.process import Ended, Program
@@ -115,10 +116,10 @@ class BadInput(Case):
         self.addCleanup(hostile.close)
         note = self.opened(self.person("bob"), url=self.redis().url)
         written(note, "one ")
-        link = self.person("bob").link().split("@")[0]
+        link = read_link(self.person("bob").link())
         for url, words in (hostile.url, "as a Redis server"), ("redis://127.0.0.1:1", "Connection refused"):
             run = self.note("note", "--print", VIALSHOAL_DATA=str(self.folder / "new"),
-                            VIALSHOAL_LINK=f"{link}@{url}")
+                            VIALSHOAL_LINK=link._replace(url=url).spelled())
             self.assertEqual((run.stdout, run.returncode), ("", 3))
             self.assertIn(words, run.stderr)
 

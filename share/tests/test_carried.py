@@ -9,11 +9,13 @@ from collections.abc import Sequence
 from typing import Any
 from unittest import mock
 
+from share.format.entry import Entry
+from share.log.base import InLog
+from share.log.redis import RedisLog
 from share.log.sqlite import SqliteLog
 from share.sync.carried import Carried
-from share.tests.support import Case, change, damage, raws_of, type_at_the_end, wait_for, written
-
-SOON = 20
+from share.tests.note import Note
+from share.tests.support import Case, Person, change, damage, raws_of, type_at_the_end, wait_for, written
 
 
 class Marks(unittest.TestCase):
@@ -27,6 +29,9 @@ class Marks(unittest.TestCase):
             carried.found(60, own)
             for _ in range(30):
                 some = set(chance.sample(range(1, 60), chance.randint(0, 12)))
+                if chance.random() < 0.4:
+                    # A stretch of places is marked at once.
+                    some = set(range(begin := chance.randint(1, 59), chance.randint(begin, 60)))
                 match chance.randrange(5):
                     case 0:
                         had, read, given = had | read | given, set(), set()
@@ -93,7 +98,7 @@ class Lost(Case):
         with contextlib.closing(self.anna.disk()) as disk:
             held = {row.entry.raw for row in disk.entries.rows()}
         with contextlib.closing(self.anna.log()) as log:
-            wait_for(lambda: held <= {*raws_of(log)}, "the log to be filled again", SOON)
+            wait_for(lambda: held <= {*raws_of(log)}, "the log to be filled again")
 
     def test_what_is_lost_while_it_is_given(self) -> None:
         note, append, done = self.opened(self.anna, url=str(self.path)), SqliteLog.append, list[int]()
@@ -106,7 +111,7 @@ class Lost(Case):
                 # Who reads the log sees that, and begins anew, before it is known here what was given.
                 done.append(replicator.reading())
                 change(self.path, "DELETE FROM entry")
-                wait_for(lambda: replicator.reading() > done[0], "the loss to be seen", SOON)
+                wait_for(lambda: replicator.reading() > done[0], "the loss to be seen")
 
         with mock.patch.object(SqliteLog, "append", appended):
             type_at_the_end(note, "two ")
@@ -153,7 +158,7 @@ class Lost(Case):
                 type_at_the_end(note, f"{number} ")
                 last = note.session.last()
                 with contextlib.closing(self.anna.log()) as log:
-                    wait_for(lambda: last.raw in raws_of(log), "an entry to be given", SOON)
+                    wait_for(lambda: last.raw in raws_of(log), "an entry to be given")
             wait_for(lambda: note.session.status().unsent == 1, "all but one to be sent")
         # Each pause before that one is given again is twice as long.
         self.assertLess(sum(tries), 12)
@@ -175,7 +180,7 @@ class Lost(Case):
                     self.assertEqual(disk.entries.withdraw([last.hash]), [last.hash])
                     # A copy of this folder has sent it.
                     append(log, [last.raw])
-                wait_for(lambda: not disk.entries.withdrawn(), "it to be kept again", SOON)
+                wait_for(lambda: not disk.entries.withdrawn(), "it to be kept again")
                 self.assertIn(last.hash, {place.hash for place in disk.entries.places()})
 
     def test_what_a_copy_has_sent_is_not_withdrawn(self) -> None:
@@ -189,6 +194,36 @@ class Lost(Case):
             self.assertEqual([*held], hashes[:1])
             self.assertEqual(disk.entries.withdraw(hashes), hashes[1:])
             self.assertEqual(disk.entries.places_of(hashes), held)
+
+
+class Raced(Case):
+    """Somebody writes just as it was read that the log has no more."""
+
+    def test_what_comes_then_has_nobody_read_the_log_again(self) -> None:
+        kinds: list[tuple[type[SqliteLog] | type[RedisLog], str]] = [(SqliteLog, self.file_log()), (RedisLog, self.redis().url)]
+        for kind, url in kinds:
+            with self.subTest(kind.__name__):
+                self.races(kind, self.opened(self.person(kind.__name__), url=url), self.person(kind.__name__))
+
+    def races(self, kind: type[SqliteLog] | type[RedisLog], note: Note, person: Person) -> None:
+        """That whatever comes after a reading to the end doesn't count as lost or put back."""
+        written(note, "one ")
+        replicator, form, read, extra = note.session._replicator, note.session._form, kind.read, list[Entry]()
+
+        def raced(log: Any, after: str) -> list[InLog]:
+            page: list[InLog] = read(log, after)
+            if log.at_end and len(extra) < 3 and {one.raw for one in page}.isdisjoint(one.raw for one in extra):
+                extra.append(form.claim(7 + len(extra), form.new_author()))
+                log.append([extra[-1].raw])
+            return page
+
+        before = replicator.reading()
+        with mock.patch.object(kind, "read", raced), contextlib.closing(person.disk()) as disk:
+            for words in "two ", "three ", "four ":
+                written(note, words)
+            wait_for(lambda: len(disk.entries.places_of(one.hash for one in extra)) == 3, "all to come")
+            written(note, "five ")
+        self.assertEqual(replicator.reading(), before)
 
 
 class Gaps(Case):
@@ -209,7 +244,7 @@ class Gaps(Case):
             wait_for(lambda: (berta.take_in(), berta.session._holdings.waiting_for_room())[1], "entries to be dropped")
             self.assertEqual(berta.text.decode(), "".join(words[:7]))
             anna = self.opened(self.person("anna"))
-            wait_for(lambda: (berta.take_in(), berta.text.decode() == "".join(words))[1], "all to be shown", SOON)
+            wait_for(lambda: (berta.take_in(), berta.text.decode() == "".join(words))[1], "all to be shown")
             self.assert_meet(anna, berta)
 
 

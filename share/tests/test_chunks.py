@@ -150,9 +150,9 @@ def line_of(parts: Iterable[list[Operation]]) -> Branch:
     for part in parts:
         if line is None:
             line, made = Branch(ledger, part[0].site), form.claim(part[0].site, author)
-            line.add(ledger.add(Row(0, made, False), 0))
+            line.add(ledger.add([Row(0, made, False)], 0))
         made = entry_of(form, made, part, author)
-        line.add(ledger.add(Row(0, made, False), line.numbers[-1]))
+        line.add(ledger.add([Row(0, made, False)], line.numbers[-1]))
     assert line
     return line
 

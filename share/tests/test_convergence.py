@@ -3,7 +3,9 @@ import random
 
 from share.format.entry import Entry
 from share.tests.support import Case, Pair, edit_at_random, plain_text
-from share.text.change import change
+from share.text.change import change, change_of_words
+from share.text.delta import in_text, of_changes, transformed
+from share.text.units import UNITS
 
 EDITS = 600
 OFFLINE = range(200, 400)
@@ -105,6 +107,25 @@ class Changes(Case):
             self.assertEqual(data[:found.begin] + found.new + data[found.end:], after.encode())
             found.new.decode()
             data[:found.begin].decode()
+
+    def test_what_is_typed_between_words_meanwhile_is_in_no_word(self) -> None:
+        chance, units = random.Random(4), UNITS["utf-8"]
+
+        def some_words() -> bytes:
+            return "".join(chance.choice(["old", "on", "é", "oldest"]) + chance.choice(" \r") for _ in range(chance.randrange(8))).encode()
+
+        for _ in range(2_000):
+            before, after = some_words(), some_words()
+            begin = chance.choice([0, *(place + 1 for place, one in enumerate(before) if one in b" \r")])
+            one = change_of_words(before, after)
+            self.assertEqual(before[:one.begin] + one.new + before[one.end:], after)
+            known = of_changes([(one.begin, one.end, one.new)], units)
+            typed, _ = transformed(of_changes([(begin, begin, b"new ")], units), known, units)
+            (place, _, data), = in_text(typed, units)
+            self.assertEqual(sorted((after[:place] + data + after[place:]).split()), sorted([*after.split(), b"new"]))
+        # Where there are no words it is as short as it can be.
+        before, after = b"x" * 300, b"x" * 150 + b"y" * 9 + b"x" * 150
+        self.assertEqual(change_of_words(before, after), change(before, after))
 
     def test_a_position_stays_behind_its_character(self) -> None:
         text = b"x" * 5_000 + b"here" + b"y" * 5_000

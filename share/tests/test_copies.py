@@ -4,7 +4,6 @@ import contextlib
 import os
 import shutil
 import sqlite3
-import time
 from collections.abc import Sequence
 from typing import Any
 from unittest import mock
@@ -153,6 +152,60 @@ class PutBackTogether(Copied):
         self.assert_meet_with_each_once(holds=False)
 
 
+class PutBackUnsent(Copied):
+    """A folder is put back to where only some of its unsent edits had been made. All of them had been made anew, since another disk
+    wrote under its number, and none was ever sent."""
+
+    def setUp(self) -> None:
+        super().setUp()
+        self.anna, self.berta, self.url = self.person("anna"), self.person("berta"), self.file_log()
+        first = self.anna.open(url=self.url)
+        written(first, "begun ")
+        shared, away = self.folder / "shared", self.folder / "away"
+        os.rename(shared, away)
+        shared.write_text("no folder")
+        wait_for(lambda: first.session.status().offline, "the log to be away")
+        for word in "one ", "two ", "three ", "four ":
+            type_at_the_end(first, word)
+            if word == "one ":
+                self.word, fork = self.word_against(self.anna, first.session.last(), word, holds=True)
+            if word == "two ":
+                first.session.close()
+                shutil.copytree(self.anna.data, self.folder / "kept")
+                first = self.anna.open()
+        first.session.close()
+        shared.unlink()
+        os.rename(away, shared)
+        with contextlib.closing(self.anna.log()) as log:
+            log.append([fork.raw])
+        shutil.copytree(shared, self.folder / "second")
+        self.other = self.opened(self.berta, link=self.anna.link())
+        self.made_anew(["begun", "one", "two", "three", "four"])
+        shutil.rmtree(self.anna.data)
+        os.rename(self.folder / "kept", self.anna.data)
+
+    def made_anew(self, expected: Sequence[str], url: str | None = None) -> None:
+        """Has her disk make anew what it has, so that the words are these and what another one wrote."""
+        note = self.anna.open(url=url)
+        wait_for(lambda: are_alike([note]) and words(note.text) == sorted([*expected, self.word.strip()]), "it to be made anew")
+        note.session.close()
+
+    def assert_each_once(self) -> None:
+        """That each word is there once where both disks meet."""
+        note = self.opened(self.anna, url=self.url)
+        type_at_the_end(note, "five ")
+        expected = sorted(f"begun one two three four five {self.word}".split())
+        wait_for(lambda: are_alike([note, self.other]) and words(note.text) == expected, "each word to be there once")
+        self.assert_meet(self.opened(self.person("late"), link=self.anna.link()), note, self.other)
+
+    def test_who_has_what_was_made_anew_makes_none_of_it_again(self) -> None:
+        self.assert_each_once()
+
+    def test_what_was_made_anew_twice_is_there_once(self) -> None:
+        self.made_anew(["begun", "one", "two"], str(self.folder / "second" / "note.log"))
+        self.assert_each_once()
+
+
 class Damaged(Copied):
     """An entry is damaged on a disk, the log is lost, and who wrote it is off: what was typed behind it is made anew. Then
     the right entry comes."""
@@ -212,7 +265,7 @@ class Damaged(Copied):
     def test_the_disk_is_full_as_a_copy_is_hidden(self) -> None:
         second, keep, tried = self.alone(), Disk.keep, list[Any]()
 
-        def kept(disk: Disk, *given: Any, hidings: Sequence[Copy] = (), **more: Any) -> int:
+        def kept(disk: Disk, *given: Any, hidings: Sequence[Copy] = (), **more: Any) -> range:
             if hidings and len(tried) < 3:
                 tried.append(hidings)
                 raise Unkept("there is no room")
@@ -420,7 +473,7 @@ class BegunAnew(Copied):
         self.addCleanup(editor.close)
         editor.shows("first middle word last ")
         # It shows nothing of what comes for a while, and types meanwhile.
-        editor.read(0.1)
+        editor.ask("on")
         editor.listens, known = False, len(editor.lines)
         word, fork = self.word_against(anna, line, "first ", holds=True)
         with contextlib.closing(anna.log()) as log:
@@ -434,13 +487,13 @@ class BegunAnew(Copied):
 
 
 class Clock:
-    """The time as it is, and some more."""
+    """A clock that the test sets."""
 
-    more = 0.0
+    now = 1.0
 
     def monotonic(self) -> float:
         """The time."""
-        return time.monotonic() + self.more
+        return self.now
 
 
 class ClaimedAgainAndAgain(Copied):
@@ -464,10 +517,10 @@ class ClaimedAgainAndAgain(Copied):
                 wait_for(lambda: are_alike([note]), "it to be sent")
                 self.assertEqual(note.text, b"turn%d " % turn)
                 expected = sorted([*expected, f"turn{turn}"])
-                clock.more += 1_000 * 2**(turn - 1) - 500
+                clock.now += 1_000 * 2**(turn - 1) - 1
                 note.take_in()
                 self.assertEqual(note.text, b"turn%d " % turn)
-                clock.more += 500
+                clock.now += 1
             wait_for(lambda: are_alike([note]) and words(note.text) == expected, "each word to be there once")
         late = self.opened(self.person("late"), link=anna.link())
         self.assertEqual(self.assert_meet(note, late), bytes(note.text))

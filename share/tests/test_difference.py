@@ -2,6 +2,7 @@
 import contextlib
 import random
 import unittest
+from unittest import mock
 
 from share.admission.judge import Judge
 from share.format.entry import Entry, Plain
@@ -9,7 +10,9 @@ from share.format.history import Messages
 from share.format.operation import Operation
 from share.program.difference import Shown, differences, shown_by
 from share.program.site import Site
-from share.tests.support import Carried
+from share.sync.hiding import Hider
+from share.tests.support import Carried, Case, wait_for, written
+from share.text.errors import Trouble
 from share.text.names import Name, Names
 
 SITES = (1, 2, 3)
@@ -88,6 +91,25 @@ class Histories(unittest.TestCase):
             self.assertEqual([(one.begin, one.end, one.new) for one in differences(was, now) or ()], [(0, 0, b"typed")])
             self.assertEqual([(one.begin, one.end, one.new) for one in differences(now, now) or ()], [(0, 5, b"typed")])
         self.assertEqual(differences(was, was._replace(messages=Messages())), [])
+
+
+class Behind(Case):
+    """What came is taken in, and before it is told something fails."""
+
+    def test_what_differs_is_told_by_names(self) -> None:
+        first, second = self.together(self.file_log(), "anna", "berta")
+        written(first, "one two three four five ")
+        self.assert_meet(first, second)
+        for place, words in (4, "more "), (18, "and "):
+            second.moved_to(place)
+            second.type(words)
+        session, before = first.session, bytes(first.text)
+        with contextlib.closing(self.person("anna").disk()) as disk, contextlib.closing(self.person("berta").disk()) as other:
+            wait_for(lambda: disk.entries.size() == other.entries.size(), "all to come")
+        with mock.patch.object(Hider, "hide", side_effect=Trouble("It fails.")), self.assertRaises(Trouble):
+            session.arrived()
+        changes = session.differing(before, session.text())
+        self.assertEqual([(one.begin, one.end, one.new) for one in changes], [(4, 4, b"more "), (18, 18, b"and ")])
 
 
 if __name__ == "__main__":

@@ -6,7 +6,6 @@ import pathlib
 import pty
 import random
 import resource
-import select
 import shlex
 import signal
 import stat
@@ -14,13 +13,15 @@ import subprocess
 import sys
 import time
 import unittest.mock
+from collections.abc import Callable
 from typing import Any, cast
 
-from share.editors.terminal.app import edit
+from share.editors.terminal import app
 from share.editors.terminal.keys import (ESCAPE_SECONDS, LONGEST_PASTE, PASTE_LOST_SECONDS, PASTE_QUIET_SECONDS,
                                          SEQUENCE_SECONDS, Event, Key, Keyboard, Pasted, safe_for_terminal)
 from share.store import atomic
 from share.sync.session import Bar, Status
+from share.tests.counting import looked_at
 from share.tests.support import TOP, Case, python, wait_for
 from share.tests.terminals import Terminal
 from share.text.errors import Refused, Trouble
@@ -31,8 +32,8 @@ SEQUENCES = {
     Key.RIGHT: [b"\x1b[C", b"\x1bOC", b"\x1b[1;2C", b"\x1b[c"],
     Key.UP: [b"\x1b[A", b"\x1bOA", b"\x1b[1;5A", b"\x1bOa"],
     Key.DOWN: [b"\x1b[B", b"\x1bOB", b"\x1b[1;5B", b"\x1bOb"],
-    Key.HOME: [b"\x1b[H", b"\x1bOH", b"\x1b[1~", b"\x1b[7~", b"\x1b[1;5H"],
-    Key.END: [b"\x1b[F", b"\x1bOF", b"\x1b[4~", b"\x1b[8~", b"\x1b[8^"],
+    Key.HOME: [b"\x01", b"\x1b[H", b"\x1bOH", b"\x1b[1~", b"\x1b[7~", b"\x1b[1;5H"],
+    Key.END: [b"\x05", b"\x1b[F", b"\x1bOF", b"\x1b[4~", b"\x1b[8~", b"\x1b[8^"],
     Key.PAGE_UP: [b"\x1b[5~", b"\x1b[5;5~"],
     Key.PAGE_DOWN: [b"\x1b[6~", b"\x1b[6$"],
     Key.DELETE: [b"\x1b[3~", b"\x1b[3;5~", b"\x1b[3^", b"\x1b[3@"],
@@ -44,7 +45,7 @@ SEQUENCES = {
     Key.BACKSPACE: [b"\x7f", b"\b"],
     Key.ESCAPE: [b"\x03", b"\x07"],
     Key.UNDO: [b"\x1a"], Key.REDO: [b"\x19"], Key.FIND: [b"\x06"], Key.REPLACE: [b"\x12"], Key.LINE: [b"\x0c"],
-    Key.MARK: [b"\0"], Key.CUT: [b"\x18"], Key.COPY: [b"\x1bw"], Key.PUT: [b"\x16"],
+    Key.MARK: [b"\0"], Key.CUT: [b"\x18"], Key.COPY: [b"\x1bw"], Key.KILL: [b"\x0b"], Key.PUT: [b"\x16"],
     Key.SAVE: [b"\x13", b"\x1b\x13"], Key.QUIT: [b"\x11", b"\x1b\x11"],
     Key.OTHER: [b"\x1bOP", b"\x1b[15~", b"\x1b[1;2P", b"\x1bx", "\x1bé".encode(), b"\x1b\r",
                 b"\x1b\x7f"],
@@ -52,7 +53,7 @@ SEQUENCES = {
 # What says nothing, and types nothing.
 SILENT = [b"\x1b[?1;2c", b"\x1b[>0;276;0c", b"\x1b]11;rgb:0000/0000/0000\x07", b"\x1b]11;rgb:0/0/0\x1b\\",
           b"\x1bP1$r0m\x1b\\", b"\x1b_Gi=1;OK\x1b\\", b"\x1b[[A", b"\x1b[?2026;2$y", b"\x1b[201~", b"\xff",
-          b"\xc3", "\x85".encode(), b"\x1b[1;2;3;4;5;6;7;8;9;10;11;12;13;14;15;16m"]
+          b"\x1b[Ma!!", b"\x1b[<2;5;1M", b"\x1b[<35;5;1M", b"\xc3", "\x85".encode(), b"\x1b[1;2;3;4;5;6;7;8;9;10;11;12;13;14;15;16m"]
 
 
 def pressed(data: bytes, *cuts: int) -> list[Event]:
@@ -178,17 +179,20 @@ class Pastes(unittest.TestCase):
         self.assertEqual(keyboard.expire(101.0), [Pasted("x" * 60_000)])
 
     def test_a_large_paste_in_small_pieces(self) -> None:
-        def seconds(size: int) -> float:
-            keyboard, begin = Keyboard(), time.process_time()
+        size, piece = 0, b"\x1b[201x line\n" * 8 + b"word"
+
+        def pastes() -> None:
+            nonlocal size
+            keyboard = Keyboard()
             keyboard.feed(BEGIN, 0.0)
-            for _ in range(size // 100):
-                keyboard.feed(b"\x1b[201x line\n" * 8 + b"word", 0.0)
+            for _ in range(20_000):
+                size += len(piece)
+                keyboard.feed(piece, 0.0)
             keyboard.feed(END, 0.0)
             (pasted,) = keyboard.expire(1.0)
             self.assertIsInstance(pasted, Pasted)
-            return time.process_time() - begin
-        few = min(seconds(200_000) for _ in range(3))
-        self.assertLess(seconds(2_000_000), 30 * few + 0.1)
+        looks = looked_at("share.editors.terminal.keys", pastes)
+        self.assertTrue(size < looks < 3 * size, (looks, size))
 
     def test_a_paste_that_no_note_holds(self) -> None:
         keyboard = Keyboard()
@@ -396,7 +400,7 @@ class ScriptedNote:
             case "HANG":
                 time.sleep(1_000)
             case "SLOW":
-                time.sleep(3)
+                until_told()
             case "TROUBLE":
                 raise Trouble("The note went \x1b[31maway.")
             case "REFUSED":
@@ -441,19 +445,26 @@ class ScriptedNote:
         return place >= 0
 
 
-def scripted(text: str, seconds: str, can_type: str) -> None:
-    """Edits a note of a text that takes some seconds to open, and writes into a file what it is at the end."""
+def until_told(does: Callable[[], object] = lambda: None) -> None:
+    """Does something until the test says that it is enough."""
+    while not pathlib.Path(os.environ["CLOSED"]).with_name("goes on").exists():
+        does()
+        time.sleep(0.02)
+
+
+def scripted(text: str, opens: str, can_type: str, leaves: str) -> None:
+    """Edits a note of a text that is opened at once or when the test says so, and left after some seconds at most; writes into a file
+    what it is at the end."""
+    app.LEAVE_SECONDS = float(leaves)
 
     def open_note(progress: Bar, _: object) -> ScriptedNote:
-        end = time.monotonic() + float(seconds)
-        while time.monotonic() < end:
-            progress(1, 4)
-            time.sleep(0.05)
+        if opens != "at once":
+            until_told(lambda: progress(1, 4))
         return ScriptedNote(text.encode(errors="surrogateescape"), can_type == "yes")
 
     signal.signal(signal.SIGTERM, lambda *_: sys.exit(0))
     try:
-        note = curses.wrapper(edit, "diary", cast(Any, open_note))
+        note = curses.wrapper(app.edit, "diary", cast(Any, open_note))
         pathlib.Path(os.environ["CLOSED"]).with_name("end").write_bytes(note.text)
     except Trouble as why:
         print(safe_for_terminal(f"trouble: {why}"))
@@ -464,21 +475,20 @@ class Scripted(Case):
 
     def setUp(self) -> None:
         super().setUp()
-        self.closed, self.end = self.folder / "closed", self.folder / "end"
+        self.closed, self.end, self.goes_on = (self.folder / name for name in ("closed", "end", "goes on"))
         os.environ["CLOSED"] = str(self.closed)
         os.environ["PYTHONPATH"] = str(TOP)
         self.addCleanup(os.environ.pop, "CLOSED")
         self.addCleanup(os.environ.pop, "PYTHONPATH")
 
-    def words(self, text: str = "", seconds: float = 0, can_type: str = "yes") -> list[str]:
+    def words(self, text: str = "", opens: str = "at once", can_type: str = "yes", leaves: float = app.LEAVE_SECONDS) -> list[str]:
         """The command that edits a text."""
         script = "from share.tests.test_editor import scripted; import sys; scripted(*sys.argv[1:])"
-        return [python(), "-c", script, text, str(seconds), can_type]
+        return [python(), "-c", script, text, opens, can_type, str(leaves)]
 
-    def terminal(self, text: str = "", seconds: float = 0, can_type: str = "yes",
-                 begins: str = "all sent") -> Terminal:
+    def terminal(self, text: str = "", opens: str = "at once", begins: str = "all sent", **more: Any) -> Terminal:
         """A terminal with the editor."""
-        return Terminal(self, "data", command=shlex.join(self.words(text, seconds, can_type)), begins=begins)
+        return Terminal(self, "data", command=shlex.join(self.words(text, opens, **more)), begins=begins)
 
     def quit(self, one: Terminal) -> bytes:
         """Quits, and gives the text."""
@@ -594,23 +604,22 @@ class AtTerminal(Scripted):
     def test_a_large_paste(self) -> None:
         one = self.terminal()
         data = b"A line that is pasted beside many others.\n" * 24_000
-        begin = time.monotonic()
         one.paste(data)
         one.sees("A line that")
-        self.assertLess(time.monotonic() - begin, 20)
         self.assertEqual(self.quit(one), data.replace(b"\n", b"\r"))
 
     def test_no_control_character_reaches_the_terminal(self) -> None:
         text = "a\x1b]0;evil\x07b\x9b31mc\u202ed\u2066e\u2028f\x00g\x85\udcff"
-        out = self.run_in_pty(self.words(text.replace("\0", "")), b"TROUBLE", b"\x13\x7f", b"\x1b", b"\x11")
+        out = self.run_in_pty(self.words(text.replace("\0", "")), (b"TROUBLE", "maway"), (b"\x13\x7f", "Save as: diary.tx"),
+                              (b"\x1b", "^Q quits"), (b"\x11", ""))
         self.assertIn("a·]0;evil·b·31mc·d·e·fg·\ufffd", out)
         for sequence in "\x1b]0;evil", "\x9b", "\u202e", "\u2066", "\u2028", "\x1b[31m", "\x85":
             self.assertNotIn(sequence, out)
         self.assertIn("·[31maway", out)
 
     def test_brackets_are_asked_for_and_off_at_the_end(self) -> None:
-        for keys in (b"x", b"\x11"), (b"TROUBLE", b"\x11"), (b"FAULT", b"\x11"), ():
-            out = self.run_in_pty(self.words(), *keys)
+        for key, shown in (b"x", "x"), (b"TROUBLE", "^Q quits"), (b"FAULT", "^Q quits"), (b"", ""):
+            out = self.run_in_pty(self.words(), *[(key, shown), (b"\x11", "")] if key else [])
             self.assertEqual(out.count("\x1b[?2004h"), 1)
             self.assertEqual(out.count("\x1b[?2004l"), 1)
             self.assertLess(out.index("\x1b[?2004h"), out.index("\x1b[?2004l"))
@@ -632,28 +641,34 @@ class AtTerminal(Scripted):
         self.assertTrue(self.closed.exists())
 
     @staticmethod
-    def run_in_pty(words: list[str], *keys: bytes) -> str:
-        """What a command writes to a terminal as keys are pressed; without any it is asked to end."""
+    def run_in_pty(words: list[str], *keys: tuple[bytes, str]) -> str:
+        """What a command writes to a terminal as keys are pressed, each once what the one before it has shown is there; without any it
+        is asked to end."""
         child, terminal = pty.fork()
         if not child:
             os.chdir(TOP)
             os.environ["TERM"] = "xterm-256color"
             os.execv(words[0], words)
-        out = bytearray()
+        os.set_blocking(terminal, False)
+        out, ended = bytearray(), False
 
-        def read(seconds: float) -> None:
-            # Silence is the end of an answer, and an error the end of all.
-            with contextlib.suppress(OSError):
-                while select.select([terminal], [], [], seconds)[0]:
-                    out.extend(os.read(terminal, 65_536))
+        def shows(what: str, since: int = 0) -> bool:
+            nonlocal ended
+            try:
+                out.extend(os.read(terminal, 65_536))
+            except BlockingIOError:
+                pass
+            except OSError:
+                ended = True
+            return what.encode() in out[since:]
 
-        wait_for(lambda: read(0.1) or b"sent" in out, "the editor")
-        for key in keys:
+        wait_for(lambda: shows("sent"), "the editor")
+        for key, shown in keys:
             os.write(terminal, key)
-            read(0.3)
+            wait_for(lambda since=len(out), what=shown: shows(what, since), f"{shown!r} after {key!r}")
         if not keys:
             os.kill(child, signal.SIGTERM)
-        read(5)
+        wait_for(lambda: (shows(""), ended)[1], "the end")
         os.close(terminal)
         os.waitpid(child, 0)
         return out.decode(errors="replace")
@@ -673,12 +688,10 @@ class Hanging(Scripted):
         one.sees("Saved as")
         return file.read_bytes()
 
-    def left(self, one: Terminal, most: float) -> None:
-        """Quits, within some seconds."""
-        begin = time.monotonic()
+    def left(self, one: Terminal) -> None:
+        """Quits."""
         one.press("C-q")
         one.sees("status ")
-        self.assertLess(time.monotonic() - begin, most)
 
     def test_a_note_that_hangs(self) -> None:
         one = self.terminal("text\r")
@@ -687,7 +700,7 @@ class Hanging(Scripted):
         one.type("lost")
         self.assertEqual(self.saved(one), b"text\n")
         one.sees("Waiting for")
-        self.left(one, 10)
+        self.left(one)
         self.assertFalse(self.closed.exists())
 
     def test_a_note_that_is_slow(self) -> None:
@@ -698,18 +711,20 @@ class Hanging(Scripted):
         one.press("Enter", "C-f")
         one.type("SL")
         one.press("Enter")
+        self.goes_on.touch()
         one.shows("SLOW later")
         one.cursor_is(0, 0)
         self.assertEqual(self.quit(one), b"SLOW later\r")
 
     def test_a_note_that_never_closes(self) -> None:
         one = self.terminal("never")
-        self.left(one, 10)
+        self.left(one)
         one.sees("trouble: The note was left before it was closed")
-        one = self.terminal("never")
+        # Who insists doesn't wait.
+        one = self.terminal("never", leaves=10_000)
         one.press("C-q", "C-q")
         one.sees("closing, all sent")
-        self.left(one, 3)
+        self.left(one)
 
     def test_a_note_that_fails(self) -> None:
         for words, said in (("TROUBLE", "The note went ·[31maway."),
@@ -726,7 +741,7 @@ class Hanging(Scripted):
             one.press("Enter")
             one.cursor_is(1, 0)
             self.assertEqual(self.saved(one), b"text\n")
-            self.left(one, 10)
+            self.left(one)
             one.sees("trouble: ")
             self.assertTrue(self.closed.exists())
             (self.folder / "saved").unlink()
@@ -760,13 +775,15 @@ class Hanging(Scripted):
         self.assertEqual(self.quit(one), b"text")
 
     def test_a_note_that_takes_long_to_open(self) -> None:
-        one = self.terminal("", seconds=2, begins="catching up  [#######....")
+        one = self.terminal("", "later", begins="catching up  [#######....")
         one.type("typed before it was open")
         one.sees("catching up")
+        self.goes_on.touch()
         one.shows("typed before it was open")
         self.quit(one)
-        one = self.terminal("", seconds=1_000, begins="catching up  [#######....")
-        self.left(one, 10)
+        self.goes_on.unlink()
+        one = self.terminal("", "later", begins="catching up  [#######....")
+        self.left(one)
         one.sees("trouble: The editor was left before the note was open.")
 
 

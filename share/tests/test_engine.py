@@ -4,15 +4,77 @@ import json
 import os
 import random
 import stat
+import unittest
+from typing import Any
+from unittest import mock
 
 from share.editors.mirror import Mirror
+from share.engine.colours import PALETTE, least_used, settled
+from share.engine.engine import Engine
 from share.format import presence
-from share.store import nicknames
+from share.format.link import read_link
+from share.store import nicknames, notes
+from share.sync.session import Session
 from share.tests.editors import Editor, Engines
-from share.tests.support import TOP, wait_for
+from share.tests.support import TOP, Case, Person, wait_for
 from share.text.line import Line
 
 PAGE = TOP / "docs" / "ENGINE.md"
+
+
+class Colours(unittest.TestCase):
+    """Which colours editors take."""
+
+    def test_those_who_come_at_once_share_the_colours_evenly(self) -> None:
+        chance = random.Random(3)
+        for many in 1, 2, 10, 11, 25:
+            tokens = [chance.randbytes(16) for _ in range(many)]
+            now = [least_used(token, ()) for token in tokens]
+
+            def uses(now: list[str]) -> list[int]:
+                return [now.count(colour) for colour in PALETTE]
+
+            # Each sees what the others had, and all move at once.
+            turns = 0
+            while max(uses(now)) - min(uses(now)) > 1:
+                turns += 1
+                self.assertLess(turns, 200)
+                now = [settled(token, [*now[:number], *now[number + 1:]], now[number]) for number, token in enumerate(tokens)]
+
+    def test_a_newcomer_takes_what_fewest_have(self) -> None:
+        used = [*PALETTE[:6], *PALETTE[:3], PALETTE[9]]
+        taken = {least_used(bytes([number]) * 16, used) for number in range(50)}
+        self.assertEqual(taken, {*PALETTE[6:9]})
+        for now in PALETTE[6:9]:
+            self.assertEqual({settled(bytes([number]) * 16, used, now) for number in range(50)}, {now})
+
+
+class InOneProcess(Case):
+    """Several people's engines, in this process."""
+
+    def engine(self, person: Person, editors: int, **more: str) -> Engine:
+        """The engine of somebody who has joined the note, or made it, with some editors."""
+        url, link = more.pop("url", None), more.pop("link", "")
+        engine = Engine("note", lambda: Session(notes.open_note("note", url, read_link(link) if link else None)), lambda: None)
+        self.addCleanup(engine.close)
+        with person.here():
+            for number in range(editors):
+                opens = {"do": "open", "protocol": 1, "units": ["utf-8"], **(more if not number else {})}
+                engine.take(engine.joined(lambda data: None, lambda: 0), [json.dumps(opens).encode()])
+        return engine
+
+    def test_ten_editors_have_ten_colours(self) -> None:
+        ada = self.engine(self.person("ada"), 6, url=self.file_log(), colour="#123abc")
+        link = self.person("ada").link()
+        engines = [ada, self.engine(self.person("bo"), 3, link=link), self.engine(self.person("cy"), 2, link=link)]
+
+        def colours() -> list[list[str]]:
+            for engine in engines:
+                engine.turn()
+            return [sorted(one["colour"] for one in engine._note.presence.people()["people"]) for engine in engines if engine._note]
+
+        # All say the same of who has which, since each editor says its own.
+        wait_for(lambda: colours() == [sorted([*PALETTE, "#123abc"])] * 3, "each to have a colour of its own")
 
 
 class Sessions(Engines):
@@ -72,6 +134,17 @@ class Sessions(Engines):
         self.assertEqual(self.printed(), "🎉\nstill here")
         wait_for(lambda: not (self.folder / "data" / "run" / "note.sock").exists(), "the engine to end")
 
+    def test_who_opens_no_new_note_is_told_that_there_is_none(self) -> None:
+        editor = Editor(self.folder / "data", opens=False)
+        self.addCleanup(editor.close)
+        opens: dict[str, Any] = {"protocol": 1, "units": ["utf-16"]}
+        self.assertEqual(editor.ask("open", new=False, **opens)["error"], "absent")
+        self.assertFalse(self.person().path().exists())
+        self.assertEqual(editor.ask("open", **opens)["text"], "")
+        again = Editor(self.folder / "data", opens=False)
+        self.addCleanup(again.close)
+        self.assertEqual(again.ask("open", new=False, **opens)["text"], "")
+
     def test_nobody_else_reaches_the_socket(self) -> None:
         self.editor()
         run = self.folder / "data" / "run"
@@ -127,6 +200,16 @@ class Sessions(Engines):
         self.alike(first, second)
         self.assertTrue(second.ask("undo")["done"])
         first.shows("one two ")
+
+    def test_a_silence_ends_an_edit(self) -> None:
+        # Any silence does, for who has it so.
+        with mock.patch.dict(os.environ, VIALSHOAL_PAUSE="0"):
+            editor = self.editor()
+        for letter in "abc":
+            editor.type(letter)
+            editor.settle()
+        editor.ask("undo")
+        editor.shows("ab")
 
     def test_what_another_deleted_stays_so_when_an_edit_is_done_again(self) -> None:
         first, second = self.editor(), self.editor()
@@ -288,5 +371,4 @@ class Company(Engines):
 
 
 if __name__ == "__main__":
-    import unittest
     unittest.main()

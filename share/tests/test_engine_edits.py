@@ -1,5 +1,4 @@
 """The engine, by the real command: edits that meet, and what no editor should send."""
-import dataclasses
 import json
 import os
 import random
@@ -10,11 +9,11 @@ import time
 from typing import cast
 from unittest import mock
 
-from share.editors.mirror import Mirror, TextChange
+from share.editors.mirror import MOST_UNANSWERED, Mirror, TextChange
 from share.engine.engine import Engine
 from share.store import notes
 from share.sync.session import Session
-from share.tests.editors import Editor, Engines
+from share.tests.editors import PATIENCE, Editor, Engines
 from share.tests.support import NOTE, wait_for
 from share.text.errors import Trouble
 from share.text.line import Line
@@ -60,36 +59,30 @@ class Carried(Engines):
 
     def test_typing_without_a_pause_holds_nobody_back(self) -> None:
         first, second = self.others("ada", "bo")
+        beside, keys, late = self.editor("ada"), 0, list[int]()
         second.edit((0, 0, "\n"))
         first.shows("\n")
-        end, late, typed, seen = time.monotonic() + 5, list[float](), dict[str, float](), set[str]()
-        due = 0.0
-        while time.monotonic() < end:
-            if time.monotonic() > due:
-                word = f"w{len(typed)}."
-                typed[word], due = time.monotonic(), time.monotonic() + 0.3
-                second.edit((0, 0, word))
-            # It types without looking at anything, but where it has to.
-            if first.mirror.waits():
-                patience = time.monotonic() + 0.2
-                while first.mirror.waits() and time.monotonic() < patience:
-                    first.read(0.01)
+        # A key takes 10 ms, by the clock of who types.
+        first.mirror._clock = lambda: keys / 100
+        for number in range(10):
+            word, hung = f"w{number}.", time.monotonic() + PATIENCE
+            second.edit((0, 0, word))
+            late.append(0)
+            while word not in first.text:
+                self.assertLess(time.monotonic(), hung, "others' text isn't seen while one types")
+                # It types without looking at anything, but where it has to.
                 if first.mirror.waits():
-                    first.mirror.gave_up()
-            size = first.mirror.units.count(first.mirror.units.encode(first.text))
-            first.edit((size, size, "x"))
-            first.read()
-            second.read()
-            for word in typed.keys() - seen:
-                if word in first.text:
-                    seen.add(word)
-                    late.append(time.monotonic() - typed[word])
-        # What was typed well before the end is seen while the typing goes on, though a process may stand still for some time.
-        self.assertLessEqual({word for word, at in typed.items() if at < end - 3}, seen)
+                    first.wait_for(lambda: not first.mirror.waits(), "its edits to be answered")
+                keys += 1
+                first.type("x")
+                self.assertLessEqual(first.mirror.made - first.mirror.answered, MOST_UNANSWERED)
+                for editor in first, second, beside:
+                    editor.read()
+                late[-1] += word in beside.text
         self.alike(first, second)
         self.assertGreater(first.mirror.made, 100)
-        self.assertGreater(len(late), 5)
-        self.assertLess(sorted(late)[len(late) // 2], 1.0)
+        # What somebody beside sees is seen here after some keys, as a rule.
+        self.assertLess(sorted(late)[5], 500, late)
 
     def test_a_notice_is_sent_anew_at_once(self) -> None:
         first, second = self.editor(), self.editor()
@@ -291,8 +284,7 @@ class Wrong(Engines):
         first, second, third = [json.dumps(line).encode() for line in lines]
         engine.take(peer, [first])
         assert engine.session
-        status = engine.session.status()
-        with mock.patch.object(engine.session, "status", return_value=dataclasses.replace(status, can_type=False)):
+        with mock.patch.object(Session, "can_type", new=False):
             # The number is another one now, which doesn't hold yet.
             engine.take(peer, [second])
         engine.take(peer, [third])

@@ -5,16 +5,16 @@ import random
 import signal
 import socket
 import subprocess
+import threading
 import time
 from concurrent.futures import ThreadPoolExecutor
-from concurrent.futures import TimeoutError as FutureTimeout
 from typing import Any
 from unittest import mock
 
 from share.cli.line_changes import line_changes
-from share.editors.mirror import Mirror
 from share.engine import server as serving
 from share.engine.engine import Engine
+from share.engine.protocol import serialize
 from share.engine.transform import Transformer
 from share.format import link as links
 from share.format.presence import Present, presence_of
@@ -24,8 +24,9 @@ from share.store import notes
 from share.store.guarded import Unkept
 from share.store.note_file import Disk
 from share.sync.session import Session
-from share.tests.editors import Engines
-from share.tests.support import NOTE, Case, type_at_the_end
+from share.tests.counting import instructions
+from share.tests.editors import EngineHere, Engines
+from share.tests.support import NOTE, type_at_the_end
 from share.tests.terminals import children
 from share.tests.waiting import PATIENCE, wait_for
 from share.text.change import Change
@@ -35,50 +36,8 @@ from share.text.rope import Measured
 from share.text.units import UNITS
 
 
-class Here(Case):
+class Here(EngineHere):
     """An engine in this process."""
-
-    def setUp(self) -> None:
-        super().setUp()
-        self.engine = Engine("note", lambda: Session(notes.open_note("note", None, None)), lambda: None)
-        self.addCleanup(self.engine.close)
-        self.editors = [self.editor(units) for units in ("utf-16", "utf-8")]
-
-    def session(self) -> Session:
-        """The session of the engine."""
-        assert self.engine.session
-        return self.engine.session
-
-    def editor(self, units: str) -> Any:
-        """One more editor: its end at the engine, its mirror, what it was sent, and what it sends."""
-        sent: list[bytes] = []
-        peer = self.engine.joined(sent.append, lambda: 0)
-        self.engine.take(peer, [json.dumps({"do": "open", "protocol": 1, "units": [units]}).encode()])
-        asked: list[bytes | None] = []
-        mirror = Mirror(json.loads(sent.pop(0)), lambda line: asked.append(json.dumps(line).encode()))
-        return peer, mirror, sent, asked
-
-    def meet(self) -> list[list[Line]]:
-        """Has all lines arrive; those that each editor got."""
-        got: list[list[Line]] = [[] for _ in self.editors]
-        for _ in range(6):
-            for peer, _, _, asked in self.editors:
-                while asked:
-                    self.engine.take(peer, asked)
-            self.engine.turn()
-            for number, (_, mirror, sent, _) in enumerate(self.editors):
-                for line in map(json.loads, [*sent]):
-                    got[number].append(line)
-                    mirror.take(line)
-                sent.clear()
-        return got
-
-    def shows(self, text: str) -> None:
-        """That all show a text, and the disk has it."""
-        self.meet()
-        self.assertEqual([mirror.text for _, mirror, _, _ in self.editors], [text] * len(self.editors))
-        self.assertEqual(self.session().text().decode(), text.replace("\n", "\r"))
-        self.assertEqual(self.person().text().decode(), text.replace("\n", "\r"))
 
     def test_a_program_that_ends_inside_a_long_edit(self) -> None:
         (_, first, _, _), (_, second, _, _) = self.editors
@@ -155,17 +114,23 @@ class Here(Case):
         (_, first, _, _), (_, second, _, _) = self.editors
         first.edit([(0, 0, "word \n" * 3_000)])
         self.meet()
-        begin = time.process_time()
-        first.edit([(6 * number, 6 * number + 4, "WORDS") for number in reversed(range(3_000))])
-        self.meet()
-        self.assertEqual(second.text, first.text)
-        self.assertLess(time.process_time() - begin, 20)
-        transformer, begin = Transformer(UNITS["utf-8"]), time.process_time()
-        for number in range(2_000):
-            transformer.changed([1 + number * 2, b"x"])
-            transformer.send()
-        transformer.edit(0, [(0, 0, "y")], 20_000)
-        self.assertLess(time.process_time() - begin, 5)
+
+        def edited(*numbers: int) -> None:
+            first.edit([(6 * number, 6 * number + 4, "WORD") for number in reversed(numbers)])
+            self.meet()
+            self.assertEqual(second.text, first.text)
+
+        def transformed(many: int) -> None:
+            transformer = Transformer(UNITS["utf-8"])
+            for number in range(many):
+                transformer.changed([1 + number * 2, b"x"])
+                transformer.send()
+            transformer.edit(0, [(0, 0, "y")], 20_000)
+
+        self.assertLess(instructions(lambda: edited(*range(200))), 3 * instructions(lambda: edited(*range(100))))
+        self.assertLess(instructions(lambda: transformed(400)), 3 * instructions(lambda: transformed(200)))
+        edited(*range(3_000))
+        transformed(2_000)
 
     def test_a_session_whose_text_fails_as_it_is_opened_is_closed_and_opened_anew(self) -> None:
         engine = Engine("note", lambda: Session(notes.open_note("note", None, None)), lambda: None)
@@ -222,15 +187,14 @@ class Here(Case):
                 self.assertEqual(one.end, other.begin)
 
     def test_texts_that_differ_everywhere_are_compared_soon(self) -> None:
-        chance, begin = random.Random(1), time.process_time()
-        old = "".join(f"{chance.random()}\n\n" for _ in range(2_500))
-        new = old.replace("\n\n", " \n\n")
-        found = line_changes(old, new)
-        text = old
-        for first, last, part in found:
-            text = text[:first] + part + text[last:]
-        self.assertEqual(text, new)
-        self.assertLess(time.process_time() - begin, 5)
+        chance = random.Random(1)
+        for many in 200, 2_500:
+            old = "".join(f"{chance.random()}\n\n" for _ in range(many))
+            new, text = old.replace("\n\n", " \n\n"), old
+            self.assertLess(instructions(lambda: line_changes(old, new)), 5_000)
+            for first, last, part in line_changes(old, new):
+                text = text[:first] + part + text[last:]
+            self.assertEqual(text, new)
 
 
 class Apart(Engines):
@@ -250,10 +214,14 @@ class Apart(Engines):
         first = self.editor("bo", link=link, opens=False)
         wait_for((self.folder / "bo" / "run" / "note.sock").exists, "an engine")
         with self.person("bo").here(), ThreadPoolExecutor(1) as threads:
-            agrees = threads.submit(serving.agree_with_engine, "note", None, links.read_link(link))
-            with self.assertRaises(FutureTimeout):
+            looks, clock = threading.Semaphore(0), mock.Mock(wraps=time)
+            clock.sleep.side_effect = lambda seconds: (looks.release(), time.sleep(seconds))
+            with mock.patch.object(serving, "time", clock):
+                agrees = threads.submit(serving.agree_with_engine, "note", None, links.read_link(link))
                 # The other one isn't refused, though the note isn't here yet.
-                agrees.result(0.5)
+                for _ in range(3):
+                    self.assertTrue(looks.acquire(timeout=PATIENCE))
+            self.assertFalse(agrees.done())
             self.assertNotIn("error", first.ask("open", protocol=1, units=["utf-16"]))
             agrees.result(PATIENCE)
 
@@ -268,13 +236,26 @@ class Apart(Engines):
                 listen(one)
 
             server = serving.Server("note", mock.Mock())
+            self.addCleanup(server._close)
             with mock.patch.object(socket.socket, "listen", listened):
                 server._listen()
-            self.addCleanup(server._listener.close)
             self.assertEqual((found, os.listdir(folder)), ([False], ["note.sock"]))
             line = serving.connected("note")
             assert line
             line.close()
+
+    def test_what_an_editor_sent_that_is_gone_is_done(self) -> None:
+        editor, many = self.editor(), 200
+        with self.person().here():
+            line = serving.connected("note")
+        assert line
+        # Each edit is kept by itself, since something is asked between two.
+        asked: list[Line] = [{"do": "open", "protocol": 1, "units": ["utf-8"]}]
+        for number in range(many):
+            asked += {"do": "edit", "version": 0, "edits": number + 1, "changes": [[number, number, "x"]]}, {"do": "on"}
+        with line:
+            line.sendall(b"".join(map(serialize, asked)))
+        editor.shows(many * "x")
 
     def test_what_is_for_another_note_is_not_typed_into_this_one(self) -> None:
         other = self.opened(self.person("other"), "note", self.file_log())
@@ -288,8 +269,8 @@ class Apart(Engines):
         self.assertEqual(editor.text, "")
 
     def test_words_that_are_no_text(self) -> None:
-        self.assertIn("no UTF-8", self.run_note("append", "note", os.fsdecode(b"\xff"), status=2))
-        self.run_note("append", "note", "x\u009b31m", status=0)
+        self.assertIn("no UTF-8", self.run_note("append", "note", os.fsdecode(b"\xff"), "--new", status=2))
+        self.run_note("append", "note", "x\u009b31m", "--new", status=0)
         done = subprocess.run(f"{NOTE} cat note >&-", shell=True, capture_output=True, timeout=120, check=False,
                               env={**os.environ, "VIALSHOAL_DATA": str(self.folder / "data")})
         self.assertEqual((done.returncode, b"Traceback" in done.stderr), (2, False))
@@ -303,18 +284,15 @@ class Apart(Engines):
         first.settle()
         (program,) = children(self.engine())
         os.kill(program, signal.SIGSTOP)
-        begin = time.monotonic()
         first.type("jam ")
         second.edit((0, 0, "now "))
-        troubles = second.wait_for(lambda: [one["trouble"] for one in second.notices("state") if "trouble" in one], "trouble")
-        told = time.monotonic() - begin
+        trouble = second.wait_for(lambda: next((one for one in second.notices("state") if "trouble" in one), None), "trouble")
         for editor in first, second:
-            self.assertNotIn("error", editor.settle())
+            answer = editor.settle()
+            self.assertNotIn("error", answer)
         self.assertEqual(self.alike(first, second), "now tea jam ")
-        answered = time.monotonic() - begin
-        self.assertIn("stands still", troubles[0])
-        self.assertLess(told, answered)
-        self.assertLess(answered, 15)
+        self.assertIn("stands still", trouble["trouble"])
+        self.assertLess(second.lines.index(trouble), second.lines.index(answer))
         second.wait_for(lambda: "trouble" not in second.notices("state")[-1], "it to be told as it goes on")
         self.assertNotIn(program, children(self.engine()))
 

@@ -1,20 +1,50 @@
-"""An editor in Python does with lines what the vectors say, in each of the units."""
+"""An editor in Python does with lines what the vectors say, in each of the units; and so does the engine with edits that cross."""
 import json
 import pathlib
+import random
 import unittest
+from collections.abc import Callable
 
 from share.editors.mirror import Mirror
+from share.editors.note import EngineNote
+from share.format.entry import Plain
+from share.tests.crossing import Writer, settled
+from share.text.change import Change
 from share.text.line import Line
+from share.text.rope import swapped
 from share.text.units import UNITS, Units
 
-VECTORS = pathlib.Path(__file__).resolve().parents[1] / "engine" / "vectors" / "client.json"
+VECTORS = pathlib.Path(__file__).resolve().parents[1] / "engine" / "vectors"
+
+
+class Placed(Mirror):
+    """A mirror with the terminal's places."""
+
+    def __init__(self, opened: Line, send: Callable[[Line], None], units: Units, clock: Callable[[], float]):
+        super().__init__(opened, send, units, clock)
+        self.note = EngineNote.__new__(EngineNote)
+        self.note.text, self.note.cursor, self.note.top, self.note.anchor = bytearray(swapped(self.text.encode())), 0, 0, None
+
+    def follow(self, begin: int, end: int, data: bytes) -> None:
+        """Moves the places along."""
+        before, now = (self.units.decode(part).encode() for part in (data, bytes(self._data)))
+        if now.isascii():
+            self.note.follow(Change(begin, end, swapped(before)))
+
+    def follow_all(self) -> None:
+        """Moves the places along with what differs."""
+        self.note.show_all(self.text.encode())
+
+    def place(self) -> list[int]:
+        """Where its user is."""
+        return [self.note.cursor] + ([] if self.note.anchor is None else [self.note.anchor])
 
 
 class Vectors(unittest.TestCase):
-    """Each case of the file."""
+    """Each case of the files."""
 
     def test_an_editor_does_with_lines_what_the_vectors_say(self) -> None:
-        cases = json.loads(VECTORS.read_text(encoding="utf-8"))["cases"]
+        cases = json.loads((VECTORS / "client.json").read_text(encoding="utf-8"))["cases"]
         for case in cases:
             for units in UNITS.values():
                 if case["units"] in (units.name, "any"):
@@ -26,13 +56,15 @@ class Vectors(unittest.TestCase):
         """Plays a case."""
         sent: list[Line] = []
         now = 0.0
-        mirror = Mirror(case["open"], sent.append, units, lambda: now)
+        mirror = Placed(case["open"], sent.append, units, lambda: now)
         for step in case["steps"]:
             now = step.get("at", now)
             if "user" in step:
                 mirror.edit(step["user"])
             elif "line" in step:
                 mirror.take(step["line"])
+            elif "place" in step:
+                mirror.note.cursor, mirror.note.anchor = (*step["place"], None)[:2]
             elif "key" in step:
                 self.assertEqual(mirror.waits(), step["waits"], step)
             elif "patience" in step:
@@ -44,9 +76,30 @@ class Vectors(unittest.TestCase):
                 sent.clear()
             has = {"text": mirror.text, "version": mirror.version, "made": mirror.made, "types": mirror.state.get("types"),
                    "words": mirror.words, "cursor": mirror.cursor, "cursors": mirror.cursors,
-                   "looks": mirror.looks}
+                   "looks": mirror.looks, "place": mirror.place()}
             then = step.get("then", {})
             self.assertEqual({name: has[name] for name in then}, then, step)
+
+    def test_an_engine_does_with_edits_that_cross_what_the_vectors_say(self) -> None:
+        writer = Writer(Plain(bytes(16)), 1, random.Random(1))
+        self.addCleanup(writer.session.close)
+        first, second = writer.editors
+        for case in json.loads((VECTORS / "transform.json").read_text(encoding="utf-8"))["cases"]:
+            with self.subTest(case["name"]):
+                first.edit(0, len(first.hand.text), case["text"])
+                settled([writer])
+                # What the second does was done before it has read what the first did.
+                for edit in case["engine"]:
+                    first.edits(edit)
+                first.asks()
+                for edit in case["editor"]:
+                    second.edits(edit)
+                if "cursor" in case:
+                    second.cursor(*case["cursor"])
+                second.asks()
+                self.assertEqual(settled([writer]), case["gives"])
+                if "cursor" in case:
+                    self.assertEqual((second.peer.cursor, second.peer.anchor), (*case["at"], None)[:2])
 
 
 if __name__ == "__main__":

@@ -125,6 +125,7 @@ class Spelling(unittest.TestCase):
             for bad in wrong:
                 with self.assertRaises(Bad):
                     FORM.open(bad)
+            self.assertEqual([bad for bad, one in zip(wrong, FORM.open_many(wrong)) if not isinstance(one, Bad)], [])
 
     def test_kinds_that_only_a_newer_version_knows(self) -> None:
         for kind in 0, 9, 255:

@@ -4,7 +4,6 @@ import contextlib
 import pathlib
 import shutil
 import subprocess
-import time
 from typing import Any
 from unittest import mock
 
@@ -22,24 +21,24 @@ from share.tests.note import Note
 from share.tests.support import TOP, Case, Person, change, python, type_at_the_end, wait_for, written
 from share.text.errors import Trouble
 
-# Types words under a name until a second is over; then prints how many.
+# Types words under a name, and says each one, until it is told to end; then says how many there are.
 TYPES = """
-import sys, time
+import os, sys, time
 from share.store import notes
 from share.sync.session import Session
 from share.tests.note import Note
 note, number = Note(Session(notes.open_note("note", None, None))), 0
 print("open", flush=True)
 sys.stdin.readline()
-end = time.monotonic() + 1
-while time.monotonic() < end + 0.5:
+while not os.path.exists(sys.argv[2]):
     note.take_in()
-    if time.monotonic() < end:
-        note.moved_to(len(note.text))
-        note.type(f"{sys.argv[1]}.{number} ")
-        # What couldn't be kept is told, and typed again.
-        number += not note.notice.startswith("The last edit")
-        note.notice = ""
+    note.moved_to(len(note.text))
+    note.type(f"{sys.argv[1]}.{number} ")
+    # What couldn't be kept is told, and typed again.
+    if not note.notice.startswith("The last edit"):
+        number += 1
+        print("typed", flush=True)
+    note.notice = ""
     time.sleep(0.01)
 note.session.close()
 print(number)
@@ -51,28 +50,33 @@ class UnderSeveral(Case):
 
     def typed_while(self, *lost: str) -> None:
         """That three type on when files are removed, and each word is there once."""
-        person = self.person()
+        person, ends = self.person(), self.folder / "ends"
         with person.here():
-            runs = [subprocess.Popen([python(), "-B", "-c", TYPES, tag], cwd=TOP, stdin=subprocess.PIPE,
+            runs = [subprocess.Popen([python(), "-B", "-c", TYPES, tag, str(ends)], cwd=TOP, stdin=subprocess.PIPE,
                                      stdout=subprocess.PIPE, text=True) for tag in "abc"]
-        for run in runs:
-            assert run.stdout and run.stdin
-            self.assertEqual(run.stdout.readline(), "open\n")
+        self.say(runs, "open")
         for run in runs:
             assert run.stdin
             run.stdin.write("\n")
             run.stdin.flush()
-        time.sleep(0.4)
+        self.say(runs, *["typed"] * 5)
         for pattern in lost:
             for path in person.path().parent.glob(pattern):
                 if path.is_dir():
                     shutil.rmtree(path)
                 else:
                     path.unlink(missing_ok=True)
+        self.say(runs, *["typed"] * 20)
+        ends.touch()
         words = [f"{tag}.{number}" for tag, run in zip("abc", runs)
-                 for number in range(int(run.communicate()[0]))]
-        self.assertGreater(len(words), 2)
+                 for number in range(int(run.communicate()[0].split()[-1]))]
         self.assertEqual(sorted(person.text().decode().split()), sorted(words))
+
+    def say(self, runs: list[subprocess.Popen[str]], *lines: str) -> None:
+        """Waits until processes have said these lines."""
+        for run in runs:
+            assert run.stdout
+            self.assertEqual([run.stdout.readline() for _ in lines], [f"{line}\n" for line in lines])
 
     def test_all_files_are_removed(self) -> None:
         self.typed_while("note.*")
@@ -96,12 +100,12 @@ class UnderSeveral(Case):
         first = self.opened(person)
         keep, opened = Disk.keep, list[Any]()
 
-        def kept(disk: Disk, *words: Any, **more: Any) -> int:
-            place = keep(disk, *words, **more)
+        def kept(disk: Disk, *words: Any, **more: Any) -> range:
+            places = keep(disk, *words, **more)
             if more.get("client") and not opened:
                 opened.append(None)
                 opened[0] = self.opened(person)
-            return place
+            return places
 
         with mock.patch.object(Disk, "keep", kept):
             second = self.opened(person)
@@ -198,13 +202,9 @@ class GivenUp(Case):
                     wait_for(lambda one=note: one.session.status().offline, "the log to be away")
                     type_at_the_end(note, words)
                 with mock.patch("share.sync.rebasing.REBASE_AGAIN_SECONDS", 0.3):
-                    with mock.patch.object(*step, side_effect=Unkept("full")):
+                    with mock.patch.object(*step, side_effect=Unkept("full")) as tried:
                         self.back()
-                        end = time.monotonic() + 1.2
-                        while time.monotonic() < end:
-                            first.take_in()
-                            second.take_in()
-                            time.sleep(0.02)
+                        wait_for(lambda: (first.take_in(), second.take_in(), tried.call_count > 1)[2], "both to try it")
                     # Until there is room the status line says that edits couldn't be made anew.
                     wait_for(lambda: (first.take_in(), second.take_in(), b"F" in second.text and b"S" in second.text)[2],
                              "both edits to be there")

@@ -65,7 +65,7 @@ class FirstStart(Case):
 
     def test_the_first_start_builds(self) -> None:
         self.lay_cargo()
-        first = self.run_note("append", "note", "one")
+        first = self.run_note("append", "note", "one", "--new")
         self.assertIn("not proved: ordinary Rust", first.stderr)
         again = self.run_note("cat", "note")
         self.assertEqual((again.stdout.strip(), again.stderr), ("one", ""))
@@ -105,7 +105,7 @@ class FirstStart(Case):
         said = self.run_note("cat", "note", status=2).stderr
         self.assertIn("this source is wrong", said)
         self.fails.unlink()
-        self.run_note("append", "note", "one")
+        self.run_note("append", "note", "one", "--new")
 
     def test_who_is_said_to_be_unproved(self) -> None:
         record = self.folder / "built-from"

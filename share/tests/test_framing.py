@@ -1,8 +1,8 @@
 """Lines that are made of the pieces in which bytes come: the same ones wherever these were cut."""
 import random
-import time
 import unittest
 
+from share.tests.counting import looked_at
 from share.text.line import PIECE, Assembler
 
 
@@ -41,13 +41,14 @@ class Framing(unittest.TestCase):
         self.assertEqual(assembler.lines(b"\nshort\n"), [None, b"short"])
 
     def test_without_a_bound_a_line_may_have_any_length(self) -> None:
-        assembler, piece, begin = Assembler(None), b"x" * PIECE, time.process_time()
-        for _ in range(256):
-            self.assertEqual(assembler.lines(piece), [])
-        (line,) = assembler.lines(b"\n")
-        self.assertEqual(len(line or b""), 256 * PIECE)
-        # To copy all that came before with each piece would take 8 GB.
-        self.assertLess(time.process_time() - begin, 1.5)
+        def assembled() -> None:
+            assembler, piece = Assembler(None), b"x" * PIECE
+            for _ in range(256):
+                self.assertEqual(assembler.lines(piece), [])
+            (line,) = assembler.lines(b"\n")
+            self.assertEqual(len(line or b""), 256 * PIECE)
+        # To copy all that came before with each piece would be 8 GB.
+        self.assertEqual(looked_at("share.text.line", assembled), 256 * PIECE)
 
 
 if __name__ == "__main__":

@@ -3,6 +3,8 @@ import contextlib
 import errno
 import os
 import pathlib
+import re
+import shlex
 import shutil
 import signal
 import subprocess
@@ -11,14 +13,15 @@ from collections.abc import Callable
 from unittest import mock
 
 from share.cli import installing
-from share.cli.installing import LINKS
+from share.cli.installing import COPIES, PLACES
+from share.cli.script_words import script_parser
 from share.program.process import command, file_of
 from share.tests.pages import Server
 from share.tests.support import TOP, Case
-from share.tests.terminals import Terminal
+from share.tests.terminals import EMACS, Terminal
 from share.text.errors import Trouble
 
-EMACS = '(progn (add-to-list (quote load-path) \\"SITE\\") (require (quote vialshoal)) (vialshoal-open \\"note\\"))'
+OPENS = '(progn (add-to-list (quote load-path) \\"SITE\\") (require (quote vialshoal)) (vialshoal-open \\"note\\"))'
 # What names another program than the installed one.
 PROGRAMS = ("VIALSHOAL_PROGRAM", "VIALSHOAL_BUILD")
 KILLED = """
@@ -90,13 +93,13 @@ class Installed(Case):
             for name in PROGRAMS:
                 os.environ.pop(name, None)
             note = str(self.prefix / "bin" / "note")
-            self.run_note("append", "note", "one")
+            self.run_note("append", "note", "one", "--new")
             terminal = Terminal(self, "data", "note", command=note)
             terminal.press("End", "Enter")
             terminal.type("two")
             terminal.sees("two")
-            opens = EMACS.replace("SITE", str(self.prefix / "share/emacs/site-lisp"))
-            emacs = Terminal(self, "data", "-nw", "-Q", "--eval", f'"{opens}"', command="emacs", begins="two")
+            opens = OPENS.replace("SITE", str(self.prefix / "share/emacs/site-lisp"))
+            emacs = Terminal(self, "data", "--eval", f'"{opens}"', command=shlex.join(EMACS), begins="two")
             emacs.press("Escape", ">")
             emacs.type("from Emacs ")
             terminal.sees("from Emacs")
@@ -152,7 +155,7 @@ class Installed(Case):
         self.assertFalse(self.prefix.exists())
 
     def test_what_others_have_put_there_stays(self) -> None:
-        for path in (*LINKS, "lib/vialshoal"):
+        for path in (*PLACES, "lib/vialshoal"):
             (self.prefix / path).parent.mkdir(parents=True, exist_ok=True)
             ways: tuple[Callable[[pathlib.Path], object], ...] = (
                 lambda one: one.write_bytes(b"mine"), lambda one: one.symlink_to("/nowhere"), pathlib.Path.mkdir)
@@ -190,8 +193,14 @@ class Installed(Case):
         for top in self.folder / "package", self.folder / "unpacked":
             self.assertEqual(self.run_note("cat", "note", top=top / "usr", status=2), "")
         self.assertFalse([path for path, text in files(self.prefix).items() if str(self.folder).encode().hex() in text])
-        for path in LINKS:
+        for path in PLACES:
             self.assertTrue((self.folder / "unpacked" / "usr" / path).exists(), path)
+        for path in COPIES:
+            # By a link systemd would go on with what the next version takes away.
+            self.assertFalse((self.prefix / path).is_symlink())
+            begins = re.search("^ExecStart=note (.*)$", (self.prefix / path).read_text("utf-8"), re.MULTILINE)
+            assert begins
+            self.assertEqual(script_parser().parse_args(begins[1].split()).every, 300)
         self.assertEqual((self.prefix / "lib/vialshoal/bin/note").stat().st_mode & 0o777, 0o755)
         self.run_note("uninstall", "--prefix", "/usr", top=self.copy, DESTDIR=str(self.folder / "package"))
         self.assertEqual(files(self.prefix), {})
@@ -208,7 +217,7 @@ class Installed(Case):
             self.assertEqual(files(self.prefix), before)
         shutil.rmtree(self.prefix)
         for verb in "install", "uninstall":
-            for number in (0, 3, 8, 60, 140, 155, 165):
+            for number in (0, 3, 8, 60, 140, 155, 165, 175, 185):
                 self.killed(number, verb)
 
     @staticmethod

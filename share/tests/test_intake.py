@@ -82,7 +82,7 @@ class Parts(unittest.TestCase):
         entry = form._made(Kind.CHUNK, 9, 1, 1 + room, claim.hash, author, b"", bytes(writer.data))
         line = Branch(ledger, 9)
         for one in claim, entry:
-            line.add(ledger.add(Row(0, one, False), 0))
+            line.add(ledger.add([Row(0, one, False)], 0))
         coming, found = Coming(), list[Operation]()
         coming.add(Messages(parts=[Part(line, 0, 1 + room)]))
         while coming:

@@ -20,6 +20,8 @@ from hypothesis import strategies as st
 from share.admission.causes import LEAP
 from share.admission.chains import Rank, rank
 from share.admission.judge import Judge
+from share.admission.ledger import Row
+from share.admission.runs import runs
 from share.format.entry import NO_HASH, Author, Bad, Copied, Entry, Kind, Plain
 from share.format.operation import Operation
 from share.program.process import Program
@@ -305,6 +307,19 @@ def with_room(entries: list[Entry], room: int | None, chance: random.Random) -> 
     return judge
 
 
+def in_pages(judge: Judge, rows: Iterable[Row]) -> int:
+    """Hands entries to a judge as they are read in a page of a file: those that follow one another in one step, where it does so. How many
+    of them."""
+    extended = 0
+    for run in runs(row for row in {row.entry.hash: row for row in rows}.values() if row.entry.hash not in judge):
+        if len(run) > 1 and judge.extend(run):
+            extended += len(run)
+            continue
+        for row in run:
+            judge.add_new(row)
+    return extended
+
+
 class Taker:
     """A run of the program that takes in what counts."""
 
@@ -485,6 +500,55 @@ class AnyOrder(unittest.TestCase):
                 follower.count()
         follower.count()
         follower.agrees()
+
+    def test_what_comes_in_pages_counts_as_what_comes_one_by_one(self) -> None:
+        extended = 0
+
+        @tries(150)
+        @given(histories(), SEEDS)
+        def tried(history: History, seed: int) -> None:
+            nonlocal extended
+            chance, follower, other = random.Random(seed), Follower(self), Judge()
+            looks = chance.choice([0, 0, 0.5])
+            # Most come as they were written, of one author after the other.
+            entries = sorted(history.entries, key=lambda one: (one.site, one.author)) if chance.random() < 0.5 else history.entries
+            coming = handed(entries, chance) if chance.random() < 0.5 else entries
+            while coming:
+                size = chance.randint(1, 12)
+                page, coming = [FORM.open(one.raw) for one in coming[:size]], coming[size:]
+                extended += in_pages(follower.judge, (Row(0, one, False) for one in page))
+                follower.came += page
+                for one in page:
+                    other.add(one)
+                if chance.random() < 0.5:
+                    follower.count()
+                    other.count()
+                if chance.random() < looks:
+                    follower.agrees()
+            follower.count()
+            self.assertEqual(sorted(follower.judge.let_through_in_order()), sorted(other.let_through_in_order()))
+            self.assertEqual(len(follower.judge), len(other))
+            follower.agrees()
+
+        tried()
+        self.assertGreater(extended, 200)
+
+    def test_only_what_follows_in_one_chain_comes_in_one_step(self) -> None:
+        claim, forged = FORM.claim(1, AUTHORS[0]), FORM.claim(1, AUTHORS[1])
+        made = [claim]
+        for seq in range(1, 5):
+            made.append(entry_of(FORM, made[-1], [inserting(1, seq, seq, (1, seq - 2) if seq > 1 else None, seq - 1, b"x")], AUTHORS[0],
+                                 length=seq - 1))
+        fifth = inserting(1, 5, 5, (1, 3), 4, b"x")
+        others = [entry_of(FORM, made[-1], [fifth], AUTHORS[1], length=4),
+                  entry_of(FORM, made[-1], [inserting(1, 6, 6, (1, 3), 4, b"x")], AUTHORS[0], length=4),
+                  entry_of(FORM, made[-1], [fifth], AUTHORS[0], length=4)._replace(site=2),
+                  FORM.made_anew(made[-1], AUTHORS[0]), entry_of(FORM, forged, [fifth], AUTHORS[0], length=4)]
+        for other in others:
+            found = [*runs(Row(0, one, False) for one in [*made, other])]
+            self.assertEqual([[row.entry for row in run] for run in found], [[claim], made[1:], [other]])
+        found = [*runs(Row(0, one, one.first == 4) for one in made)]
+        self.assertEqual([[row.entry for row in run] for run in found], [[claim], made[1:4], made[4:]])
 
     @tries(40)
     @given(histories(), SEEDS)

@@ -22,6 +22,7 @@ from share.store import contents
 from share.store.note_file import About, make_note
 from share.store.own import Client
 from share.tests.support import Case
+from share.tests.test_judge import in_pages
 from share.text.change import Change
 from share.text.change import make as make_changes
 from share.text.names import Names
@@ -234,6 +235,17 @@ class Counts(unittest.TestCase):
                 self.assertEqual(*((chain.stamp_of(at), chain.inserter_of(at)) for chain in chains))
             self.assertEqual(*(chain.pending for chain in chains))
 
+    def in_pages(self, entries: list[Entry], chance: random.Random) -> Judge:
+        """What judges these, page by page, as they are read in a file."""
+        judge, keystrokes, begin = Judge(form=FORM), Keystrokes(), 0
+        while begin < len(entries):
+            end = begin + chance.randint(1, 40)
+            in_pages(judge, [Row(0, entry, False, keystrokes.type_on(entry)) for entry in entries[begin:end]])
+            begin = end
+            if chance.random() < 0.5:
+                judge.let_through()
+        return judge
+
     def test_the_same_counts(self) -> None:
         chance = random.Random(5)
         for _ in range(60):
@@ -254,6 +266,7 @@ class Counts(unittest.TestCase):
                     other.count()
             self.assert_alike(one, other)
             self.assert_alike(one, added(entries, False))
+            self.assert_alike(one, self.in_pages(entries, chance))
 
     def test_each_stretch_of_what_counts_is_handed_in_as_it_was_typed(self) -> None:
         chance = random.Random(6)

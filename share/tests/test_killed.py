@@ -16,10 +16,12 @@ import time
 from share.tests.note import Note
 from share.tests.servers import RedisServer
 from share.tests.support import TOP, Case, Person, are_alike, python, type_at_the_end, wait_for, written
+from share.tests.waiting import PATIENCE
 
 ROUNDS = int(os.environ.get("SHARE_ROUNDS", "6"))
 SEED = int(os.environ.get("SHARE_SEED", "1"))
-LONGEST_LIFE = 0.8
+# The most words after which a life ends.
+LONGEST_LIFE = 30
 
 
 class Life:
@@ -29,8 +31,8 @@ class Life:
         self.person, self.tag, self.typed, self.sent = person, tag, -1, -1
         self.fault = ""
         words = [python(), "-B", "-m", "share.tests.typist", tag, link, str(chance.random())]
-        self._longest = chance.random() * LONGEST_LIFE
-        # Some die while they open the note.
+        # It is killed a moment after this word; some die while they open the note.
+        self._last, self._moment = chance.randrange(LONGEST_LIFE), chance.random() * 0.05
         self._dies_early = chance.random() < 0.15
         self._process = subprocess.Popen(words, cwd=TOP, stdout=subprocess.PIPE, stderr=subprocess.PIPE, text=True,
                                          env={**os.environ, "VIALSHOAL_DATA": str(person.data)})
@@ -38,20 +40,22 @@ class Life:
         self._thread.start()
 
     def _live(self) -> None:
-        killer = threading.Timer(0.3 if self._dies_early else 15, self._process.kill)
-        killer.start()
+        killer = threading.Timer(0.3 if self._dies_early else self._moment, self._process.kill)
+        hung = threading.Timer(PATIENCE, self._process.kill)
+        hung.start()
+        if self._dies_early:
+            killer.start()
         assert self._process.stdout and self._process.stderr
         for line in self._process.stdout:
             word, number = line.split()
-            if word == "open" and not self._dies_early:
-                killer.cancel()
-                killer = threading.Timer(self._longest, self._process.kill)
-                killer.start()
-            elif word == "typed":
+            if word == "typed":
                 self.typed = int(number)
+                if self.typed >= self._last and not killer.ident:
+                    killer.start()
             elif word == "sent":
                 self.sent = int(number)
         killer.cancel()
+        hung.cancel()
         if self._process.wait() != -9:
             self.fault = self._process.stderr.read()
         self._process.stdout.close()

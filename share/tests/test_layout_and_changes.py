@@ -2,16 +2,19 @@
 import importlib.util
 import random
 import sys
-import time
+import unittest
 import unittest.mock
 from collections.abc import Iterator
 from types import ModuleType
 
 from share.editors.terminal import layout
-from share.editors.terminal.layout import (CLUSTER_BYTES, PART_BYTES, Layout, ScreenRow, Text, cluster_after, cluster_before, decoded,
+from share.editors.terminal.layout import (CLUSTER_BYTES, PART_BYTES, Layout, ScreenRow, cluster_after, cluster_before, decoded,
                                            drawn, word_after, word_before)
+from share.editors.terminal.status_line import StatusLine
 from share.format.operation import MOST_INSERTED
 from share.program.site import split
+from share.sync.status import Status
+from share.tests.counting import Counted
 from share.tests.support import Case
 from share.text.change import Change, boundary, make
 
@@ -133,17 +136,13 @@ class Characters(Case):
             self.assertTrue(0 < abs(position - begin) <= 100 * (CLUSTER_BYTES + 3))
 
     def test_a_place_in_a_long_line_is_found_at_once(self) -> None:
-        def seconds(text: Text) -> float:
-            begin = time.process_time()
-            for _ in range(50):
-                for place in range(len(text) - 2_048, len(text), 256):
-                    cluster_before(text, place)
-                    cluster_after(text, place)
-            return time.process_time() - begin
         for character in "x", "\u0301", "🇩🇪", "👩\u200d👩\u200d":
-            short = character.encode() * (4_096 // len(character.encode()))
-            few = min(seconds(short) for _ in range(3))
-            self.assertLess(seconds(short * 250), 10 * few + 0.1)
+            text = Counted(character.encode() * (1_000_000 // len(character.encode())))
+            for place in range(len(text) - 2_048, len(text), 256):
+                for step in cluster_before, cluster_after:
+                    before = Counted.looked_at
+                    step(text, place)
+                    self.assertTrue(0 < Counted.looked_at - before <= 4 * CLUSTER_BYTES, (character, step))
 
     def test_words(self) -> None:
         text = "one, two_3\r\r e\u0301té—पानी " + " " * 3_000 + "end" + "漢" * 2_000
@@ -187,3 +186,18 @@ class Changes(Case):
                 text[begin:end] = changes[-1].new
             make(begun, changes)
             self.assertEqual(begun, text)
+
+
+class Said(unittest.TestCase):
+    """The words of the status line."""
+
+    def test_what_is_said_twice_is_shown_once(self) -> None:
+        screen = unittest.mock.Mock(progress=None)
+        screen.keyboard.paste = None
+        line = StatusLine("note", screen)
+        status = Status(1, 1, 0, None, 0, trouble="The disk is full.")
+        self.assertEqual(line.words(status, 0, None), ("The disk is full.", ""))
+        line.say("The disk is full.")
+        self.assertEqual(line.words(status, 0, None), ("The disk is full.", ""))
+        line.say("Saved.")
+        self.assertEqual(line.words(status, 0, None), ("Saved. The disk is full.", ""))

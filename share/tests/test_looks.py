@@ -134,7 +134,7 @@ class Shown(Engines):
         before = len(second.notices("looks"))
         first.edit((8, 8, "!"))
         second.shows("oxne two!")
-        second.read(0.3)
+        second.ask("on")
         self.assertEqual(len(second.notices("looks")), before)
 
     def test_other_peoples_looks(self) -> None:

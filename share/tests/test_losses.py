@@ -16,6 +16,8 @@ from share.tests.servers import RedisServer
 from share.tests.support import Case, alive, change, damage, raws_of, type_at_the_end, wait_for, written
 
 PAGE = 4_096
+# How a log beside a file begins, and a page in it with what is before that.
+HEAD, FRAME = 32, 24 + PAGE
 
 
 class InAFile(Case):
@@ -195,7 +197,8 @@ class OwnFile(Case):
         with contextlib.closing(sqlite3.connect(path, isolation_level=None)) as file:
             file.execute("PRAGMA journal_mode = WAL")
             file.execute("CREATE TABLE words (word)")
-            watch = FileWatch(path)
+            watch = FileWatch(path).use()
+            self.addCleanup(watch.let_go)
             for number in range(3):
                 head = beside(path, "-wal").read_bytes()[:32]
                 with watch.written():
@@ -230,6 +233,11 @@ def middle(path: pathlib.Path) -> int:
     return path.stat().st_size // 2 // PAGE * PAGE
 
 
+def page_of_log(path: pathlib.Path) -> int:
+    """Where a page in the middle of the log beside a file begins. In the midst of one there may be nothing but zeros."""
+    return HEAD + (beside(path, "-wal").stat().st_size - HEAD) // FRAME // 2 * FRAME
+
+
 def put_in_place(path: pathlib.Path) -> None:
     """Gives another program's file the name."""
     other = path.with_name("other")
@@ -254,7 +262,7 @@ DAMAGES: dict[str, Callable[[pathlib.Path], object]] = {
     "an empty log beside it": lambda path: cut(beside(path, "-wal")),
     "half of a log beside it": lambda path: cut(beside(path, "-wal"), 0.5),
     "another log beside it": lambda path: write_over(beside(path, "-wal"), 0, bytes(32)),
-    "zeros in the log beside it": lambda path: write_over(beside(path, "-wal"), beside(path, "-wal").stat().st_size // 2, bytes(99)),
+    "zeros in the log beside it": lambda path: write_over(beside(path, "-wal"), page_of_log(path), bytes(99)),
     CUT_INDEX: lambda path: cut(beside(path, "-shm")),
 }
 

@@ -7,7 +7,7 @@ import pathlib
 import shutil
 import subprocess
 import tarfile
-from typing import Any
+from collections.abc import Iterator
 from unittest import mock
 
 from share.admission.ledger import Row
@@ -85,10 +85,12 @@ class Before(Case):
 class AtVersionsOfBefore(Case):
     """Versions that don't know chunks keep and carry what has them, and say so."""
 
-    def before(self) -> "mock._patch[dict[int, Any]]":
+    @contextlib.contextmanager
+    def before(self) -> Iterator[None]:
         """Entries of chunks are of a kind that isn't known meanwhile, as they were to the version before."""
         known = {number: kind for number, kind in entry.KINDS.items() if kind not in NEW}
-        return mock.patch.object(entry, "KINDS", known)
+        with mock.patch.object(entry, "KINDS", known), mock.patch.object(entry.Plain, "formed", entry.Form.formed):
+            yield
 
     def test_they_are_kept_and_told_of(self) -> None:
         url = self.file_log()
@@ -111,7 +113,7 @@ class AtVersionsOfBefore(Case):
         written(one, "right")
         last = one.session.last()
         copied = Copied(last.author, last.site, last.author, last.site, ((1, 0, 1),))
-        said = one.session._form.copies(copied, one.session._client.author, last.site, last.hash)
+        said = one.session._form.copies(copied, one.session._numbers.own.author, last.site, last.hash)
 
         def carried() -> bool:
             with contextlib.closing(self.person("ann").log()) as log:
@@ -135,7 +137,7 @@ class AtVersionsOfBefore(Case):
         url = self.file_log()
         one = self.opened(self.person("ann"), url=url)
         written(one, "right")
-        form, last, author = one.session._form, one.session.last(), one.session._client.author
+        form, last, author = one.session._form, one.session.last(), one.session._numbers.own.author
         head = entry.HEAD.pack(form.number, Kind.CHUNK, form.note, last.site, last.last + 1, 1, last.hash)
         bad = form._closed(head + author.name, b"OTC1 isn't one", author)
         with self.assertRaisesRegex(Bad, "no chunk"):

@@ -4,7 +4,6 @@ import contextlib
 import os
 import shutil
 import threading
-import time
 from collections.abc import Sequence
 from unittest import mock
 
@@ -206,10 +205,7 @@ class Numbers(Case):
         second.session.close()
         self.back()
         written(first, "first ")
-        begin = time.monotonic()
-        again = copy.open()
-        print(f"500 edits of 200 KB were made anew in {time.monotonic() - begin:.2f} s")
-        again.session.close()
+        copy.open().session.close()
         for _ in range(2):
             again = copy.open()
             text = self.assert_meet(first, again)
@@ -289,11 +285,11 @@ class Numbers(Case):
             sessions.append(session)
             return arrived(session)
 
-        def read_late(file: OpenFile) -> list[Row]:
+        def read_late(file: OpenFile) -> list[Sequence[Row]]:
             # Both claims come when the file has just been read.
             rows = read(file)
-            if sessions and not (session := sessions[0])._client.stood:
-                claim = form.claim(session.number, session._client.author)
+            if sessions and not (session := sessions[0]).can_type:
+                claim = form.claim(session.number, session._numbers.own.author)
                 wait_for(lambda: session._replicator.stands(claim), "a claim to stand in the log")
             return rows
 

@@ -11,13 +11,14 @@ import tarfile
 import unittest
 from collections.abc import Callable
 
-from share.format.link import read_link
+from share.format.link import UNCHECKED, read_link
 from share.store import notes
 from share.store.guarded import Unkept
 from share.sync.session import Session
 from share.tests.note import Note
-from share.tests.servers import RedisServer
+from share.tests.servers import Hostile, RedisServer
 from share.tests.support import NOTE, Case, Person, change, raws_of, type_at_the_end, wait_for, written
+from share.tests.terminals import Answering
 from share.text.errors import Trouble
 
 FIXTURES = pathlib.Path(__file__).parent / "data" / "old_notes.tar.gz"
@@ -70,6 +71,7 @@ class Opening(Case):
             with contextlib.suppress(OSError):
                 while wait_for(lambda: os.waitpid(child, os.WNOHANG)[0] == 0 or None, "the end"):
                     asked()
+            os.close(terminal)
         return shown
 
 
@@ -80,7 +82,7 @@ class Links(Opening):
         ann = self.made("ann", self.file_log())
         shutil.rmtree(self.folder / "shared")
         run = self.run_as(ann, "link", "note")
-        self.assert_ends(run, "vialshoal:1:p:")
+        self.assert_ends(run, "vialshoal:1.1:p:")
         self.assertEqual(read_link(run.stdout).url, self.file_log())
 
     def test_a_note_without_a_log_has_none(self) -> None:
@@ -112,6 +114,30 @@ class Links(Opening):
         note.session.close()
         run = self.run_as(ann, "note", "--print", VIALSHOAL_LINK=other.link())
         self.assert_says(run, "another one than the link's")
+
+    def test_a_link_that_names_another_log(self) -> None:
+        server, asked = self.redis(), list[bytes]()
+        ann, bob, file = self.made("ann", server.url), self.person("bob"), self.folder / "link"
+        other = Hostile(lambda words: asked.append(words) or b"-ERR no\r\n")
+        self.addCleanup(other.close)
+        right, wrong = ann.link(), read_link(ann.link())._replace(url=other.url).spelled()
+        # Bob joined by a link of before that was cut: its checksum is of the secret alone.
+        cut = read_link(read_link(right)._replace(url="redis://127.0.0.1:1").spelled(UNCHECKED))
+        with bob.here(), contextlib.closing(notes.open_note("note", None, cut)):
+            pass
+        words = "append", "note", "two ", "--link-file", str(file)
+        for link, answer, status in (wrong, "", 2), (wrong, "n", 2), (right, "y", 0):
+            file.write_text(link)
+            if not answer:
+                self.assert_says(self.run_as(bob, *words), cut.url, other.url, "Nothing was sent", f"--log {other.url}")
+                continue
+            with Answering(bob.data, *words) as run:
+                run.sees(cut.url, read_link(link).url, "Go on with")
+                run.type(f"{answer}\n")
+                self.assertEqual(run.status(), status, run.shown)
+            self.assertEqual(bob.link() == right, answer == "y")
+        self.assertEqual(asked, [])
+        self.assert_ends(self.run_as(ann, "cat", "note"), "one two \n")
 
     def test_a_password_of_a_file_or_a_variable(self) -> None:
         server = RedisServer(self.folder / "redis", "--requirepass", "open sesame")
@@ -210,7 +236,7 @@ class Renewed(Opening):
     def test_from_one_machine_to_a_server(self) -> None:
         ann, server = self.made("ann"), self.redis()
         self.assert_ends(self.run_as(ann, "renew", "note", "--log", server.url))
-        self.assertTrue(ann.link().startswith("vialshoal:1:s:"))
+        self.assertTrue(ann.link().startswith("vialshoal:1.1:s:"))
         bob = self.opened(self.person("bob"), link=ann.link())
         written(self.opened(ann), "two ")
         wait_for(lambda: (bob.take_in(), bytes(bob.text) == b"one two ")[1], "all to be there")
@@ -271,13 +297,14 @@ class Before(Opening):
         written(note, "and more")
         self.assertTrue(self.ann.text("diary").endswith(b"and more"))
         self.assertEqual(self.files(), self.old_files)
-        self.assertEqual(notes.open_note("diary", None, None).about.url, "")
+        with contextlib.closing(notes.open_note("diary", None, None)) as disk:
+            self.assertEqual(disk.about.url, "")
 
     def test_renewed_at_once(self) -> None:
         run = self.run_as(self.ann, "renew", "diary", "--log", self.file_log())
         self.assert_ends(run, "which is left as it is", status=INCOMPLETE)
         self.assertIn("3.left has 2 edits", run.stderr)
-        self.assertTrue(self.ann.link("diary").startswith("vialshoal:1:p:"))
+        self.assertTrue(self.ann.link("diary").startswith("vialshoal:1.1:p:"))
         self.assertEqual(self.files(), self.old_files)
 
     def test_on_a_server_it_is_read_only_until_it_was_copied(self) -> None:
@@ -290,7 +317,7 @@ class Before(Opening):
         self.assertTrue(printed.stdout)
         self.assertEqual(server.cli("DEBUG", "DIGEST"), digest)
         self.assert_ends(self.run_as(self.ann, "renew", "diary", "--log", server.url), "which is left as it is")
-        self.assertTrue(self.ann.link("diary").startswith("vialshoal:1:s:"))
+        self.assertTrue(self.ann.link("diary").startswith("vialshoal:1.1:s:"))
         # What was never sent is there, too.
         self.assertGreaterEqual(len(self.ann.text("diary")), len(printed.stdout.encode()))
         note = self.opened(self.ann, "diary")

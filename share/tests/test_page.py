@@ -1,6 +1,7 @@
 """The page in Chromium: what is typed in one window is shown in the others, and is what the note's file has."""
 from __future__ import annotations
 
+import asyncio
 import http.server
 import os
 import pathlib
@@ -12,8 +13,11 @@ import tempfile
 import threading
 import unittest
 
-from share.tests.pages import Server
-from share.tests.support import NOTE, Case, Person, engine_of, take, type_at_the_end, wait_for, written
+from aiohttp import web
+
+from share.tests.pages import Pages, Server, kept
+from share.tests.support import NOTE, TOP, engine_of, take, type_at_the_end, wait_for, written
+from share.tests.waiting import PATIENCE
 from share.text.rope import swapped
 
 try:
@@ -24,7 +28,11 @@ try:
 except ModuleNotFoundError:
     IS_HERE = False
 
-EVIL = """<!DOCTYPE html><title>evil</title><iframe src="http://HOST/"></iframe><script>
+# What the frame shows has come when it says that it is loaded, be it the browser's words that it may not.
+EVIL = """<!DOCTYPE html><title>evil</title><script>
+let isLoaded = null;
+const framed = new Promise((yes) => { isLoaded = yes; });
+</script><iframe src="http://HOST/" onload="isLoaded()"></iframe><script>
 const got = [];
 const say = (what) => (value) => got.push(what);
 const tries = [
@@ -36,11 +44,20 @@ const tries = [
     it.src = "http://HOST/secret.js"; document.head.append(it); }).then(say("a classic script")),
   new Promise((yes, no) => { const it = new WebSocket("ws://HOST/socket"); it.onopen = yes; it.onerror = no; })
     .then(say("a socket")),
-  new Promise((yes) => setTimeout(yes, 500)).then(() => { if (frames[0].length || frames[0].document) got.push("a frame"); }),
+  framed.then(() => { if (frames[0].length || frames[0].document) got.push("a frame"); }),
 ];
 Promise.allSettled(tries).then(() => { document.title = `got: ${got.join(", ")}`; });
 </script>"""
 
+# The command on a machine that lacks a package.
+WITHOUT_MARKDOWN = """#!/usr/bin/python3 -B
+import pathlib, sys
+sys.path[0] = "{top}"
+from share.editors.web import server
+from share.cli.main import main
+server.MARKDOWN = server.MARKDOWN[0], pathlib.Path("/none"), server.MARKDOWN[2]
+sys.exit(main())
+"""
 # Presses keys when 0.6 seconds more have gone by, for the page: what it shows then, and which keys it has kept.
 KEPT_KEYS = """((keys) => {
   const before = performance.now;
@@ -61,16 +78,6 @@ def setUpModule() -> None:
     global BROWSER
     BROWSER = Browser()
     unittest.addModuleCleanup(BROWSER.close)
-
-
-def is_fault(line: str) -> bool:
-    """Whether what the browser says of a page is a fault of the page's, and no end of a server or an engine."""
-    return "favicon" not in line and "WebSocket connection to" not in line
-
-
-def kept(data: pathlib.Path) -> str:
-    """What the note's file says."""
-    return swapped(Person(data).text()).decode()
 
 
 # Whether the page's text has these looks: the words of each stretch, whether they are bold, and their colour.
@@ -102,21 +109,29 @@ import("/places.js").then(({ Places }) => {
 }, (why) => done(String(why)));"""
 
 
-class Pages(Case):
-    """A test of pages."""
+async def said_to_another(port: int, times: int) -> list[bytes]:
+    """What pages say to another server on a port, which welcomes them, and shows what it makes up, until they have come some times."""
+    said, done = list[bytes](), asyncio.Event()
 
-    def assert_kept(self, data: pathlib.Path, *windows: Window) -> None:
-        """That windows show the same, which is what the note's file says."""
-        def texts() -> list[str]:
-            return [kept(data), *(window.text() for window in windows)]
-        try:
-            wait_for(lambda: len(set(texts())) == 1, "all to be the same")
-        except AssertionError as why:
-            raise AssertionError(f"{why}: {texts()}") from why
-
-    def assert_no_faults(self, *windows: Window) -> None:
-        """That nothing of these pages broke their own rules, or failed."""
-        self.assertEqual([line for window in windows for line in window.told() if is_fault(line)], [])
+    async def answer(request: web.Request) -> web.WebSocketResponse:
+        line = web.WebSocketResponse()
+        await line.prepare(request)
+        async for message in line:
+            said.append(message.data)
+            known = {"notice": "known", "nonce": "0" * 64, "proof": "0" * 64}
+            welcome = {"notice": "welcome", "name": "evil", "missing": "", "secret": "evil", "key": "evil"}
+            await line.send_json(known if len(said) % 2 else welcome)
+            if len(said) >= times:
+                done.set()
+        return line
+    application = web.Application()
+    application.router.add_get("/socket", answer)
+    runner = web.AppRunner(application)
+    await runner.setup()
+    await web.TCPSite(runner, "127.0.0.1", port, reuse_address=True, shutdown_timeout=0.1).start()
+    await asyncio.wait_for(done.wait(), PATIENCE)
+    await runner.cleanup()
+    return said[:times]
 
 
 class Writing(Pages):
@@ -166,6 +181,15 @@ class Writing(Pages):
         second.type(Keys.CONTROL, Keys.END, Keys.NULL, "four")
         for window in first, second:
             window.shows("ro one two\nthree\nfour")
+
+    def test_an_undo_takes_twenty_keys_back(self) -> None:
+        first, second = self.first, self.second
+        text = ""
+        for words in "a" * 12, "b" * 8, "c" * 3:
+            first.type(words)
+            second.shows(text := text + words)
+        first.press("undo")
+        second.shows("a" * 12 + "b" * 8)
 
     def test_line_ends_and_long_characters_are_kept(self) -> None:
         first, second = self.first, self.second
@@ -251,6 +275,13 @@ class Writing(Pages):
         first.shows("before one! after")
         first.type("?")
         second.shows("before one?! after")
+        # At a line's begin it goes with the line where another one is opened above.
+        first.to(0)
+        second.to(0)
+        second.type(Keys.ENTER)
+        first.shows("\nbefore one?! after")
+        first.type("> ")
+        second.shows("\n> before one?! after")
 
     def test_positions_are_those_of_codemirror(self) -> None:
         self.assertEqual(self.first.driver.execute_async_script(PLACES), [[], True])
@@ -281,15 +312,33 @@ class Writing(Pages):
         first, second = self.first, self.second
         engine = engine_of(self.data)
         os.kill(engine, signal.SIGSTOP)
-        timer = threading.Timer(1.2, os.kill, (engine, signal.SIGCONT))
-        timer.start()
-        for number in range(10, 50):
+        for number in range(10, 30):
+            first.type(f"{number},")
+        os.kill(engine, signal.SIGCONT)
+        for number in range(30, 50):
             first.type(f"{number},")
         first.type(Keys.BACKSPACE, Keys.ENTER, "end")
-        timer.join()
         text = ",".join(map(str, range(10, 50))) + "\nend"
         first.shows(text)
         second.shows(text)
+
+    def test_an_input_method_and_others_text_don_t_hurt_each_other(self) -> None:
+        first, second = self.first, self.second
+        for text, at in (("a\u00a0b\rc\u200f d ", 2), ("x\ty", 2), ("x\t", 2), ("a\r", 2), ("a\nb", 1)):
+            first.run(f"{MIRROR}.setValue(arguments[0])", text)
+            second.shows(text)
+            first.run(f"{MIRROR}.focus()")
+            first.to(at)
+            for part in "k", "ka", "kan":
+                first.command("Input.imeSetComposition", text=part, selectionStart=len(part), selectionEnd=len(part))
+            second.run(f"{MIRROR}.replaceRange('before ', {{ line: 0, ch: 0 }})")
+            wait_for(lambda text=text: kept(self.data) == f"before {text}", "the other's text")
+            first.command("Input.insertText", text="\u6f22")
+            for window in first, second:
+                window.shows(f"before {text[:at]}\u6f22{text[at:]}")
+            # What a spell checker or a picker puts in comes without keys, too.
+            first.command("Input.insertText", text="\U0001f389")
+            second.shows(f"before {text[:at]}\u6f22\U0001f389{text[at:]}")
 
     def test_two_windows_at_random(self) -> None:
         chance = random.Random(7)
@@ -389,6 +438,19 @@ class Alone(Pages):
         window.shows(swapped(bytes(other.text)).decode())
         window.state("all sent")
 
+    def test_a_view_whose_package_is_missing_names_it_and_the_rest_works(self) -> None:
+        command = self.folder / "note"
+        command.write_text(WITHOUT_MARKDOWN.format(top=str(TOP)))
+        command.chmod(0o700)
+        server = Server(self.data, "--no-browser", command=str(command))
+        self.addCleanup(server.close)
+        window = self.window(server)
+        window.type("*kept*")
+        window.press("format")
+        window.wait_for("document.getElementById('formatted').textContent.includes(\"needs Debian's libjs-markdown-it, which isn't\")")
+        window.press("format")
+        self.assert_kept(self.data, window)
+
     def test_it_says_what_is_left_out(self) -> None:
         other = self.opened(self.person("other"), url=self.file_log())
         written(other, "theirs\n")
@@ -424,7 +486,7 @@ class Alone(Pages):
         window.type("again")
         self.assert_kept(self.data, window)
 
-    def test_a_server_that_ended_is_not_looked_for_again(self) -> None:
+    def test_a_server_that_ended_is_known_again_and_another_one_gets_nothing(self) -> None:
         server = self.server()
         window = self.window(server)
         window.type("kept")
@@ -433,6 +495,19 @@ class Alone(Pages):
         window.state("bin/note web has ended. What was answered is kept.")
         window.type("not")
         self.assertEqual(window.text(), "kept")
+        said = asyncio.run(said_to_another(server.port, 4))
+        self.assertRegex(b"|".join(said), rb"^again [0-9a-f]{64}(\|again [0-9a-f]{64}){3}$")
+        self.assertEqual(len(set(said)), 4)
+        again = self.server()
+        self.assertEqual(again.port, server.port)
+        window.state("kept here alone")
+        window.type(Keys.END, " on")
+        self.assert_kept(self.data, window)
+        # The tab has the secret of now.
+        window.driver.refresh()
+        window.wait_for(f"document.title === 'note' && !{MIRROR}.getOption('readOnly')")
+        window.shows("kept on")
+        window.told()
 
     def test_the_past_has_colours_of_who_wrote_what(self) -> None:
         other = self.opened(self.person("other"), url=self.file_log())
@@ -442,12 +517,18 @@ class Alone(Pages):
         window.type(Keys.END, "mine")
         window.type(Keys.HOME, Keys.DELETE)
         window.shows("heirs mine")
+        window.press("writers")
+        window.wait_for("document.querySelector('#text .by-1')?.textContent === 'mine'")
+        window.wait_for("document.querySelectorAll('#legend li').length === 2")
+        window.wait_for("document.querySelector('#text .by-0')?.textContent === 'heirs '")
+        window.press("writers")
+        window.wait_for("!document.querySelector('#text .by-1')")
         window.press("history")
         window.wait_for("document.getElementById('at').max === '3'")
         past = "document.querySelector('#past-text .CodeMirror').CodeMirror.getValue()"
         window.wait_for(f"{past} === 'heirs mine'")
         window.wait_for("document.querySelector('#past-text .of-1')?.textContent === 'mine'")
-        self.assertEqual(window.element("#past-text .of-0").text, "heirs ")
+        window.wait_for("document.querySelector('#past-text .of-0')?.textContent === 'heirs '")
         self.assertRegex(window.element("#step").text, "step 3 of 3: .*, 1 deleted")
         window.press("earlier")
         window.wait_for(f"{past} === 'theirs mine'")

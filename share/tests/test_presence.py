@@ -5,6 +5,7 @@ import secrets
 import time
 import unittest
 from collections.abc import Sequence
+from typing import Any
 from unittest import mock
 
 from share.format import heartbeat, presence
@@ -12,14 +13,11 @@ from share.format.heartbeat import OF_BEFORE, Lack, Said, Way
 from share.format.presence import MOST_PRESENCE, Present
 from share.format.sealed import NONCE_BYTES, TAG_BYTES
 from share.log.base import ON_SECONDS
-from share.log.redis import RedisLog
-from share.log.resp import Wire
-from share.sync.giving import Giver
+from share.log.redis import MEET_SCRIPT, RedisLog
+from share.log.resp import Answer, Wire, Word
 from share.sync.heard import Heard, Others, Shows, Voices
-from share.sync.presence import Presence
 from share.tests.support import Case, damage, type_at_the_end, wait_for, written
 
-SOON = 20
 ME, OTHER = heartbeat.new_token(), heartbeat.new_token()
 LACK = Lack(Way.IT, bytes(range(32)))
 
@@ -65,49 +63,54 @@ class Words(unittest.TestCase):
 
     def test_asks_are_heard_once(self) -> None:
         others = Others(ME)
-        self.assertEqual(others.heard([said(3, 2, LACK)]), ([], False))
-        self.assertEqual(others.heard([said(4, 2, LACK), said(1, 1, token=ME)]), ([], False))
-        self.assertEqual(others.heard([said(5, 3, LACK), said(3, 2, LACK)]), ([LACK], False))
+        self.assertEqual(others.met([said(3, 2, LACK)]), ([], False))
+        self.assertEqual(others.met([said(4, 2, LACK), said(1, 1, token=ME)]), ([], False))
+        self.assertEqual(others.met([said(5, 3, LACK), said(3, 2, LACK)]), ([LACK], False))
         repeated: list[list[bytes]] = [[said(5, 3, LACK)], [said(3, 2, LACK)], [], [said(4, 4, LACK)], [said(5, 3, LACK)] * 3]
         for again in repeated:
-            self.assertEqual(others.heard(again), ([], False))
+            self.assertEqual(others.met(again), ([], False))
 
     def test_who_says_nothing_new_is_off(self) -> None:
         others, now = Others(ME), time.monotonic()
         with mock.patch("share.sync.heard.time.monotonic", lambda: now):
-            others.heard([said(3, 0), said(1, 0, token=ME)])
+            others.met([said(3, 0), said(1, 0, token=ME)])
             self.assertEqual(others.on, 2)
         with mock.patch("share.sync.heard.time.monotonic", lambda: now + ON_SECONDS + 1):
-            others.heard([said(3, 0), said(3, 0), said(2, 0)])
+            others.met([said(3, 0), said(3, 0), said(2, 0)])
             self.assertEqual(others.on, 1)
-            others.heard([said(4, 0)])
+            others.met([said(4, 0)])
             self.assertEqual(others.on, 2)
 
     def test_versions_of_before(self) -> None:
         others, old = Others(ME), secrets.token_bytes(16)
-        self.assertEqual(others.heard([OF_BEFORE.pack(old, 4), OF_BEFORE.pack(OTHER, 4), said(1, 4)]), ([], False))
+        self.assertEqual(others.met([OF_BEFORE.pack(old, 4), OF_BEFORE.pack(OTHER, 4), said(1, 4)]), ([], False))
         self.assertEqual(others.on, 3)
         # What this version says for theirs isn't heard here.
-        self.assertEqual(others.heard([OF_BEFORE.pack(old, 4), OF_BEFORE.pack(OTHER, 5)]), ([], False))
-        self.assertEqual(others.heard([OF_BEFORE.pack(old, 5), OF_BEFORE.pack(old, 4)]), ([], True))
-        self.assertEqual(others.heard([OF_BEFORE.pack(old, 4)]), ([], False))
+        self.assertEqual(others.met([OF_BEFORE.pack(old, 4), OF_BEFORE.pack(OTHER, 5)]), ([], False))
+        self.assertEqual(others.met([OF_BEFORE.pack(old, 5), OF_BEFORE.pack(old, 4)]), ([], True))
+        self.assertEqual(others.met([OF_BEFORE.pack(old, 4)]), ([], False))
 
     def test_cursors_of_before(self) -> None:
         shows, editor = Shows(ME), secrets.token_bytes(16)
+
+        def met(said: list[bytes]) -> list[bytes]:
+            shows.met(said)
+            return shows.now(lambda token: False)
+
         one, two = (presence.presence_of(Present(OTHER, editor, 7, "#000000", (0, 0), anchor, "Bo"))
                     for anchor in (None, (0, 0)))
-        self.assertEqual(shows.heard([presence.with_count(one, 1), presence.with_count(one, 1)]), [one])
-        self.assertEqual(shows.heard([presence.with_count(two, 2), presence.with_count(one, 1)]), [two])
-        self.assertEqual(shows.heard([presence.with_count(one, 1), presence.with_count(two, 2)]), [two])
-        self.assertEqual(shows.heard([]), [])
+        self.assertEqual(met([presence.with_count(one, 1), presence.with_count(one, 1)]), [one])
+        self.assertEqual(met([presence.with_count(two, 2), presence.with_count(one, 1)]), [two])
+        self.assertEqual(met([presence.with_count(one, 1), presence.with_count(two, 2)]), [two])
+        self.assertEqual(met([]), [])
         for gone in [presence.with_count(two, 2)], [presence.with_count(one, 1)]:
-            self.assertEqual(shows.heard(gone), [])
-        self.assertEqual(shows.heard([presence.with_count(one, 3)]), [one])
+            self.assertEqual(met(gone), [])
+        self.assertEqual(met([presence.with_count(one, 3)]), [one])
         own = presence.presence_of(Present(ME, editor, 7, "#000000", None, None, ""))
-        self.assertEqual(shows.heard([presence.with_count(own, 9), b"", bytes(49), bytes(211)]), [])
+        self.assertEqual(met([presence.with_count(own, 9), b"", bytes(49), bytes(211)]), [])
         # A version of before has a token that doesn't end so, and no count.
         older = one[:8] + bytes(range(1, 9)) + one[16:]
-        self.assertEqual([shows.heard([older]), shows.heard([]), shows.heard([older])], [[older], [], [older]])
+        self.assertEqual([met([older]), met([]), met([older])], [[older], [], [older]])
         self.assertEqual(present(presence.with_count(one, 2**32 - 1))._replace(engine=OTHER), presence.read_presence(one))
 
 
@@ -119,9 +122,10 @@ class OnAServer(Case):
         self.server = self.redis()
         self.wire = Wire(self.server.url)
         self.addCleanup(self.wire.close)
-        quick = mock.patch("share.sync.giving.ON_SECONDS", 1)
-        quick.start()
-        self.addCleanup(quick.stop)
+        for often in ("giving.ANSWER_SECONDS", "ways.TABLE_SECONDS", "ways.SAY_ON_SECONDS"):
+            quick = mock.patch(f"share.sync.{often}", 0.1)
+            quick.start()
+            self.addCleanup(quick.stop)
         self.ann = self.opened(self.person("ann"), url=self.server.url)
         written(self.ann, "one ")
         self.form = self.ann.session._form
@@ -137,20 +141,13 @@ class OnAServer(Case):
         self.wire.ask("ZREM", self.times, token)
         self.wire.ask("HDEL", self.said, token)
 
-    def hears(self, part: type[Giver] | type[Presence] = Giver, times: int = 3) -> None:
-        """Waits until Ann's replicator has heard who is on some times more."""
-        how = "_meet" if part is Giver else "_hear"
-        called, hears, replicator = list[int](), getattr(part, how), self.ann.session._replicator
-
-        def counts(one: Giver | Presence, *what: object) -> object:
-            try:
-                return hears(one, *what)
-            finally:
-                if one in (replicator._giver, replicator._presence):
-                    called.append(1)
-
-        with mock.patch.object(part, how, counts):
-            wait_for(lambda: len(called) > times, "Ann to hear", SOON)
+    def hears(self, times: int = 3) -> None:
+        """Waits until Ann's replicator has met those in the table some times more, and has answered."""
+        replicator = self.ann.session._replicator
+        for of, how, least in (replicator._meeting, "met", times), (replicator._giver, "_answer", 1):
+            called, does = list[int](), getattr(of, how)
+            with mock.patch.object(of, how, lambda *what, does=does, called=called: (called.append(1), does(*what))[1]):
+                wait_for(lambda called=called, least=least: len(called) > least, "Ann to hear")
 
     def test_what_was_said_before_has_nobody_read_the_log(self) -> None:
         replicator, token = self.ann.session._replicator, secrets.token_bytes(16)
@@ -170,7 +167,7 @@ class OnAServer(Case):
         for asks in range(4):
             self.puts(b"x", self.form.presence(OF_BEFORE.pack(token, asks)))
             self.hears(times=2)
-        wait_for(lambda: replicator.reading() > before, "the log to be read", SOON)
+        wait_for(lambda: replicator.reading() > before, "the log to be read")
         self.hears()
         self.assertEqual(replicator.reading(), before + 1)
 
@@ -187,34 +184,57 @@ class OnAServer(Case):
             for number, lack in enumerate((Lack(Way.IT, last.hash), Lack(Way.AFTER, last.before), LACK)):
                 self.puts(b"x", self.form.presence(said(number + 1, number, lack)))
                 self.hears(times=2)
-            wait_for(lambda: given, "it to be given", SOON)
+            wait_for(lambda: given, "it to be given")
             self.hears()
         self.assertEqual((given, replicator.reading()), ([[last.raw]], before))
 
-    def test_an_old_cursor_is_not_shown_again(self) -> None:
-        bob = self.opened(self.person("bob"), link=self.person("ann").link())
-        token, raws = secrets.token_bytes(16), list[bytes]()
+    def says(self, raw: bytes) -> None:
+        """Says something by the channel, as the operator can."""
+        self.wire.ask("PUBLISH", f"vialshoal:note:{{{self.form.note.hex()}}}:on", raw)
 
-        for at in 1, 2:
-            data = presence.presence_of(Present(bob.session.token(), token, bob.session.number, "#000000", (1, at), None, ""))
-            shown = Present(self.ann.session.token(), bytes(16), 7, "#000000", None, None, "Ann")
-            self.ann.session.show({b"ann": presence.presence_of(shown)})
-            bob.session.show({token: data})
-            wait_for(lambda at=at: [present(one).cursor for one in self.ann.session._replicator.shown()
-                                    ] == [(1, at)], "the cursor to be shown", SOON)
-            with contextlib.closing(self.person("ann").log()) as log:
-                raws += [raw for raw in log.meet(b"me", b"") if (found := self.form.present(raw))
-                         and (one := presence.read_presence(found)) and one.editor == token]
-        for under, raw in zip((b"a", b"z"), raws):
-            self.puts(under, raw)
-        self.hears(Presence)
-        self.assertEqual([present(one).cursor for one in self.ann.session._replicator.shown()], [(1, 2)])
+    def test_an_old_cursor_is_not_shown_again(self) -> None:
+        for hears_channel in True, False:
+            with self.subTest(hears_channel=hears_channel), contextlib.ExitStack() as stack:
+                if not hears_channel:
+                    stack.enter_context(mock.patch.object(RedisLog, "channel", return_value=None))
+                self.shows_no_old_cursor(f"bob-{hears_channel}")
+
+    def shows_no_old_cursor(self, name: str) -> None:
+        """That nothing of before is shown of somebody, whichever way it is said again."""
+        bob, replicator = self.opened(self.person(name), link=self.person("ann").link()), self.ann.session._replicator
+        token, raws = secrets.token_bytes(16), list[bytes]()
+        says, channel = Wire.ask, Wire.run
+
+        def ask(wire: Wire, *words: Word, **more: Any) -> Answer:
+            raws.extend(one for one in words[2:3] if words[0] == "PUBLISH" and isinstance(one, bytes))
+            return says(wire, *words, **more)
+
+        def run(wire: Wire, script: str, keys: Sequence[Word], words: Sequence[Word], *more: Any) -> Answer:
+            raws.extend(one for one in words[1:2] if script == MEET_SCRIPT and isinstance(one, bytes))
+            return channel(wire, script, keys, words, *more)
+
+        shown = Present(self.ann.session.token(), bytes(16), 7, "#000000", None, None, "Ann")
+        self.ann.session.show({b"ann": presence.presence_of(shown)})
+        with mock.patch.object(Wire, "ask", ask), mock.patch.object(Wire, "run", run):
+            for at in 1, 2:
+                data = presence.presence_of(Present(bob.session.token(), token, bob.session.number, "#000000", (1, at), None, ""))
+                bob.session.show({token: data})
+                wait_for(lambda at=at: [present(one).cursor for one in replicator.shown()] == [(1, at)], "the cursor to be shown")
+        old = [raw for raw in raws if (found := self.form.present(raw)) and (one := presence.read_presence(found)) and one.editor == token]
+        self.assertGreaterEqual(len(old), 2)
+
+        def says_again() -> None:
+            for number, raw in enumerate(old):
+                self.says(raw)
+                self.puts(b"%d" % number, raw)
+            self.hears()
+
+        says_again()
+        self.assertEqual([present(one).cursor for one in replicator.shown()], [(1, 2)])
         bob.session.show({})
-        wait_for(lambda: not self.ann.session._replicator.shown(), "the cursor to be gone", SOON)
-        for under, raw in zip((b"a", b"z"), raws):
-            self.puts(under, raw)
-        self.hears(Presence)
-        self.assertEqual(self.ann.session._replicator.shown(), [])
+        wait_for(lambda: not replicator.shown(), "the cursor to be gone")
+        says_again()
+        self.assertEqual(replicator.shown(), [])
 
 
 class Damaged(Case):
@@ -232,7 +252,7 @@ class Damaged(Case):
         notices = bob.session.notices
         bob.session.notices = lambda: [told.append(one) or one for one in notices()]
         self.assert_comes_to(bob, b"one two ")
-        wait_for(lambda: (bob.take_in(), "damaged and was left out" in " ".join(told))[1], "it to be told", SOON)
+        wait_for(lambda: (bob.take_in(), "damaged and was left out" in " ".join(told))[1], "it to be told")
         type_at_the_end(bob, "three ")
         self.assertEqual(self.assert_meet(ann, bob), b"one two three ")
         self.assertEqual(ann.session._replicator.reading(), before)

@@ -1,5 +1,5 @@
-"""`--print` takes no number, makes and changes nothing, and says what is missing on standard error with a status of its
-own."""
+"""`--print` takes no number, makes and changes nothing but that it keeps what came from the log, and says what is missing on standard error
+with a status of its own."""
 import os
 import pathlib
 import shutil
@@ -63,9 +63,13 @@ class Printing(Case):
     def test_the_log_may_have_more(self) -> None:
         bob = self.opened(self.person("bob"), link=self.ann.link())
         written(bob, "four ")
-        before = files_of(self.ann.data)
+        names = files_of(self.ann.data).keys()
         self.assert_prints(self.printed(self.ann), "one two three four ")
-        self.assertEqual(files_of(self.ann.data), before)
+        # It is kept, and nothing else is made.
+        self.assertEqual(files_of(self.ann.data).keys(), names)
+        bob.session.close()
+        shutil.rmtree(self.folder / "shared")
+        self.assert_prints(self.printed(self.ann), "one two three four ", "The log can't be read .*what is here")
 
     def test_beside_an_editor(self) -> None:
         note = self.opened(self.ann)
@@ -83,7 +87,9 @@ class Printing(Case):
     def test_a_log_that_was_tampered_with(self) -> None:
         link = self.ann.link()
         log = pathlib.Path(self.file_log())
-        change(log, "UPDATE entry SET raw = CAST(substr(raw, 1, length(raw) - 1) || x'07' AS BLOB) WHERE place = 3")
+        with closing(self.ann.disk()) as disk:
+            _, second, _ = [row.entry.raw for row in disk.entries.rows() if row.entry.size]
+        change(log, "UPDATE entry SET raw = CAST(substr(raw, 1, length(raw) - 1) || x'07' AS BLOB) WHERE raw = ?", second)
         run = self.printed(self.person("nobody"), VIALSHOAL_LINK=link)
         self.assert_prints(run, "one ", "An entry of the log is damaged", "1 message lacks")
         self.assert_prints(self.printed(self.ann), "one two three ", "An entry of the log is damaged")

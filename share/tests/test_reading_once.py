@@ -18,7 +18,10 @@ from share.format.operation import DELETE, Operation
 from share.program.process import Program
 from share.program.site import Site
 from share.store import notes
+from share.store.entries import Entries
+from share.sync.replicator import Watch
 from share.sync.session import Session
+from share.sync.state import Holdings
 from share.tests import naive
 from share.tests.editors import Engines
 from share.tests.naive import about, chunk_of, entry_of, inserting
@@ -77,12 +80,12 @@ class Here:
         self._asked: list[bytes | None] = []
         self.mirror = Mirror(json.loads(self._sent.pop(0)), lambda line: self._asked.append(json.dumps(line).encode()))
 
-    def turn(self) -> None:
+    def turn(self, is_called: bool = True) -> None:
         """Does what is asked, and takes in what came."""
         with self._person.here():
             while self._asked:
                 self.engine.take(self._peer, self._asked)
-            self.engine.turn()
+            self.engine.turn(is_called)
         for line in map(json.loads, self._sent):
             self.mirror.take(line)
         self._sent.clear()
@@ -100,6 +103,77 @@ class Here:
         session = self.engine.session
         assert session
         return session.status().can_type and session.has_sent(session.last()) and not session.status().unsent
+
+
+class OwnKeys(Case):
+    """What this editor writes itself."""
+
+    def test_they_are_not_read_back(self) -> None:
+        person = self.person()
+        note = self.opened(person)
+        for _ in range(2):
+            note.take_in()
+        with mock.patch.object(Holdings, "read", autospec=True, side_effect=Holdings.read) as read:
+            for _ in range(5):
+                note.type("x")
+                note.take_in()
+        self.assertEqual(read.call_count, 0)
+        other = self.opened(person)
+        for _ in range(5):
+            for one in other, note, note:
+                one.type("y")
+            wait_for(lambda: (note.take_in(), other.take_in(), note.text == other.text)[2], "both to be the same")
+        with mock.patch.object(Entries, "_row", autospec=True, side_effect=Entries._row) as rows:
+            for _ in range(3):
+                note.type("z")
+            other.take_in()
+            other.type("z")
+            wait_for(lambda: (note.take_in(), other.take_in(), note.text == other.text)[2], "both to be the same")
+        # Each reads what the other one typed.
+        self.assertEqual(rows.call_count, 4)
+
+    def test_nobody_is_woken_for_them(self) -> None:
+        person = self.person()
+        note, other = self.opened(person), self.opened(person)
+        watch = Watch(mock.Mock(), note.session._replicator._known, mock.Mock(), None, mock.Mock())
+        with contextlib.closing(person.disk()) as disk:
+            self.assertTrue(watch._has_news(disk))
+            for one, is_news in (note, False), (note, False), (other, True), (note, False), (other, True):
+                one.type("x")
+                self.assertEqual(watch._has_news(disk), is_news)
+                self.assertFalse(watch._has_news(disk))
+
+    def test_they_are_answered_before_what_came_is_looked_for(self) -> None:
+        author, answered = Here(self.person()), list[list[str]]()
+        self.addCleanup(author.engine.close)
+        author.turn()
+        arrived = Session.arrived
+
+        def seen(session: Session) -> object:
+            answered.append([json.loads(line).get("answer") for line in author._sent])
+            return arrived(session)
+
+        with mock.patch.object(Session, "arrived", seen):
+            author.mirror.edit([(0, 0, "x")])
+            author.turn()
+        self.assertEqual(answered, [["edit"]])
+
+    def test_keys_in_a_row_are_followed_by_one_look(self) -> None:
+        author = Here(self.person())
+        self.addCleanup(author.engine.close)
+        author.turn()
+        with (mock.patch.object(Session, "arrived", autospec=True, side_effect=Session.arrived) as looked,
+              mock.patch("share.engine.engine.PUT_OFF_SECONDS", 1_000)):
+            for at in range(5):
+                author.mirror.edit([(at, at, "x")])
+                author.turn(is_called=False)
+                self.assertEqual(author.mirror.answered, author.mirror.made)
+                # The server calls soon.
+                self.assertTrue(author.engine.is_restless())
+            self.assertEqual(looked.call_count, 0)
+            author.turn()
+        self.assertEqual(looked.call_count, 1)
+        self.assertFalse(author.engine.is_restless())
 
 
 class Letters(Engines):

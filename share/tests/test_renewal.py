@@ -107,6 +107,7 @@ class Renewing(Case):
             with contextlib.suppress(OSError):
                 while os.read(terminal, 65_536):
                     pass
+            os.close(terminal)
             os.waitpid(child, 0)
             self.assertEqual(self.ann.path("note.old-1").exists(), answer == "y\n")
 

@@ -2,12 +2,14 @@
 import contextlib
 import json
 import os
+import signal
 import subprocess
 
 from share.cli.html import page
 from share.cli.line_changes import line_changes
 from share.tests.editors import Editor
 from share.tests.support import NOTE, Case, Person, raws_of, wait_for
+from share.tests.terminals import Answering
 from share.text.looks import Run
 
 
@@ -32,7 +34,7 @@ class Verbs(Case):
 
     def test_texts_go_in_and_out(self) -> None:
         text = "tea\njam\r\nhoney\rfig\n\n🎉\0é\n"
-        self.note("import", "note", "-", given=text.encode())
+        self.note("import", "note", "-", "--new", given=text.encode())
         self.assertEqual(self.note("cat", "note"), text)
         self.assertEqual(self.note("note", "--print"), text)
         path = self.folder / "out.txt"
@@ -56,7 +58,7 @@ class Verbs(Case):
 
     def test_what_is_not_there(self) -> None:
         for words in (["cat", "note"], ["replace", "note", "a", "b"], ["log", "note"], ["history", "note", "--at", "0"],
-                      ["export", "note", "-"], ["cat"], ["log"], ["cat", "../x"], ["import", "note", "/nowhere/x"],
+                      ["export", "note", "-"], ["cat"], ["log"], ["cat", "../x"], ["import", "note", "/nowhere/x", "--new"],
                       ["export", "note", "-", "--format", "pdf"]):
             self.note(*words, status=2)
             self.assertTrue(self.said)
@@ -64,6 +66,42 @@ class Verbs(Case):
         for verb in "cat", "append", "replace", "import", "export", "list", "history", "log":
             self.assertIn("usage: bin/note " + verb, self.note(verb, "--help"))
         self.assertEqual(self.note("list"), "")
+
+    def test_a_typing_error_makes_no_note(self) -> None:
+        (self.folder / "text").write_text("text")
+        for words in ["append", "drfat", "x"], ["import", "drfat", str(self.folder / "text")], ["web", "drfat", "--no-browser"]:
+            self.note(*words, status=2)
+            self.assertIn("There is no note drfat here. --new makes one.", self.said)
+        for answer, status in ("n", 2), ("\x03", 2), ("y", 0):
+            self.assertFalse((self.folder / "data" / "notes" / "drfat.note").exists())
+            with Answering(self.folder / "data", "append", "drfat", "x") as run:
+                run.sees("There is no note drfat here. Make a new one")
+                run.type(answer + "\n")
+                self.assertEqual(run.status(), status, run.shown)
+                self.assertNotIn("Traceback", run.shown)
+        self.assertEqual(self.note("cat", "drfat"), "x\n")
+
+    def test_words_that_begin_with_a_hyphen(self) -> None:
+        self.note("append", "note", "-milk", "--new")
+        self.note("append", "note", "--", "--jam")
+        self.note("replace", "note", "-milk", "-m")
+        self.assertEqual(self.note("cat", "note"), "-m\n--jam\n")
+        self.assertEqual(self.note("search", "-M"), "note:1: -m\n")
+        self.note("append", "note", "--jam", status=2)
+        self.assertIn("usage", self.note("append", "note", "-h"))
+        self.assertRegex(self.note("--version"), "^Vialshoal")
+
+    def test_interrupted_at_any_time(self) -> None:
+        self.note("append", "note", "one", "--new")
+        for number in range(10):
+            with subprocess.Popen([NOTE, "cat", "note"], stdout=subprocess.DEVNULL, stderr=subprocess.PIPE, text=True,
+                                  env={**os.environ, "VIALSHOAL_DATA": str(self.folder / "data")}) as run:
+                # Whenever it comes: the time decides nothing.
+                with contextlib.suppress(subprocess.TimeoutExpired):
+                    run.wait(number * 0.03)
+                run.send_signal(signal.SIGINT)
+                said = run.communicate(timeout=120)[1]
+            self.assertEqual((said, run.returncode in (0, -signal.SIGINT)), ("", True), number)
 
     def test_by_the_engine_that_runs_no_number_is_spent(self) -> None:
         editor = Editor(self.folder / "data")
@@ -85,25 +123,31 @@ class Verbs(Case):
 
     def test_history(self) -> None:
         for word in "one", "two":
-            self.note("append", "note", word)
+            self.note("append", "note", word, "--new")
         self.note("replace", "note", "one", "1")
         found = json.loads(self.note("log", "note", "--json"))
         self.assertEqual([(step["typed"], step["deleted"], step["text"], step["own"]) for step in found["steps"]],
-                         [(8, 0, "one\ntwo\n", True), (0, 3, "", True), (1, 0, "1", True)])
+                         [(8, 0, "one\ntwo\n", True), (1, 3, "1", True)])
         self.assertEqual(found["length"], 4)
+        # What replaces something stands inside that until it goes.
         self.assertEqual([self.note("history", "note", "--at", str(at)) for at in range(5)],
-                         ["", "one\n", "one\ntwo\n", "\ntwo\n", "1\ntwo\n"])
+                         ["", "one\n", "one\ntwo\n", "o1ne\ntwo\n", "1\ntwo\n"])
         past = json.loads(self.note("history", "note", "--at", "2", "--json"))
         self.assertEqual([one["text"] for one in past["stretches"]], ["one\ntwo\n"])
         wrong: list[list[str]] = [["--at", "5"], ["--at", "-1"], []]
         for words in wrong:
             self.note("history", "note", *words, status=2)
-        self.assertIn("typed '1'", self.note("log", "note"))
+        self.assertIn("typed '1' in the place of 3 bytes\n", self.note("log", "note"))
 
     def test_a_log_that_is_away(self) -> None:
         log = self.folder / "shared" / "note.log"
-        self.note("append", "note", "one", "--log", str(log))
-        wait_for(lambda: self.person().log() and raws_of(self.person().log()), "the log to have it")
+        self.note("append", "note", "one", "--new", "--log", str(log))
+
+        def has_it() -> bool:
+            with contextlib.closing(self.person().log()) as found:
+                return bool(raws_of(found))
+
+        wait_for(has_it, "the log to have it")
         os.rename(log.parent, self.folder / "away")
         (self.folder / "shared").write_bytes(b"")
         self.assertEqual(json.loads(self.note("append", "note", "two", "--json"))["sent"], False)
@@ -117,7 +161,7 @@ class Verbs(Case):
         self.assertIn("<title>a&lt;b</title>", made)
         for never in "<script", "\x1b", "\u202e":
             self.assertNotIn(never, made)
-        self.note("append", "note", "<b>&")
+        self.note("append", "note", "<b>&", "--new")
         self.assertIn("<pre>\n&lt;b&gt;&amp;\n</pre>", self.note("export", "note", "-", "--format", "html"))
 
     def test_differences(self) -> None:
@@ -127,7 +171,7 @@ class Verbs(Case):
             for begin, end, part in line_changes(old, new):
                 text = text[:begin] + part + text[end:]
             self.assertEqual(text, new)
-        self.assertEqual(line_changes("a\nb\nc\n", "a\nB\nc\n"), [(2, 4, "B\n")])
+        self.assertEqual(line_changes("a\nb\nc\n", "a\nB\nc\n"), [(2, 3, "B")])
 
 
 if __name__ == "__main__":

@@ -198,16 +198,29 @@ class Links(unittest.TestCase):
             self.assertEqual(link.read_link(f" \n{one.spelled()}\r\n"), one)
 
     def test_the_spelling_lasts(self) -> None:
+        before = "vialshoal:1:s:AAECAwQFBgcICQoLDA0ODxAREhMUFRYXGBkaGxwdHh_9wj7X@redis://127.0.0.1:7000"
+        self.assertEqual(self.sealed.spelled(link.UNCHECKED), before)
+        self.assertEqual(link.read_link(before), self.sealed)
         self.assertEqual(self.sealed.spelled(),
-                         "vialshoal:1:s:AAECAwQFBgcICQoLDA0ODxAREhMUFRYXGBkaGxwdHh_9wj7X@redis://127.0.0.1:7000")
+                         "vialshoal:1.1:s:AAECAwQFBgcICQoLDA0ODxAREhMUFRYXGBkaGxwdHh9dlOS5@redis://127.0.0.1:7000")
 
     def test_a_mistyped_letter_is_noticed(self) -> None:
         for one in (self.sealed, Link("plain", bytes(range(16)), "/x.db")):
             text = one.spelled()
-            for at in range(text.index("@")):
+            for at in range(len(text)):
                 wrong = text[:at] + ("B" if text[at] != "B" else "C") + text[at + 1:]
                 with self.assertRaises(Trouble):
                     link.read_link(wrong)
+            for end in range(len(text)):
+                with self.assertRaises(Trouble, msg=text[:end]):
+                    link.read_link(text[:end])
+                with self.assertRaises(Trouble):
+                    link.read_link(text + text[end])
+
+    def test_a_link_of_a_later_form_is_refused_in_words(self) -> None:
+        for number in "1.2", "2", "2.1", "13":
+            with self.assertRaisesRegex(Trouble, "of a newer version"):
+                link.read_link(self.sealed.spelled().replace("1.1", number, 1))
 
     def test_what_is_no_link_is_refused(self) -> None:
         text = self.sealed.spelled()

@@ -11,7 +11,6 @@ import socket
 import stat
 import subprocess
 import threading
-import time
 import unittest
 from unittest import mock
 
@@ -20,6 +19,7 @@ from share.format.entry import MOST_BYTES, Author, Entry, Form
 from share.format.heartbeat import OF_BEFORE
 from share.format.link import Link, read_link
 from share.format.operation import DELETE, Operation
+from share.log.redis import RedisLog
 from share.store.note_file import About
 from share.tests.naive import about, entry_of, inserting
 from share.tests.note import Note
@@ -36,18 +36,18 @@ CONTROLS = "\x1b[31m\x1b]0;title\x07\x1b]52;c;d29yZHM=\x07\x9b31m\x08\x7f"
 
 # Joins a note, and prints what it shows as soon as it has some words, and how much memory that took.
 JOINS = """
-import json, os, pathlib, re, sys, time
+import json, os, pathlib, re, sys
 from share.format import link
 from share.store import notes
 from share.sync.session import Session
+from share.tests.waiting import wait_for
 session = Session(notes.open_note("note", None, link.read_link(os.environ["VIALSHOAL_LINK"])))
-end = time.monotonic() + 120
 told = []
-while time.monotonic() < end and not (session.text() == b"one two " and (told or sys.argv[1] == "quiet")):
+def is_read():
     session.arrived()
-    told += session.notices()
-    time.sleep(0.05)
-time.sleep(0.5)
+    told.extend(session.notices())
+    return session.text() == b"one two " and (told or sys.argv[1] == "quiet") and session._replicator.has_read()
+wait_for(is_read, "the log to be read")
 most = int(re.search("VmHWM:\\s+(\\d+)", pathlib.Path("/proc/self/status").read_text())[1])
 print(json.dumps([session.text().decode(), most, told]))
 session.close()
@@ -155,18 +155,30 @@ class Operators(Shared):
     """What a server's operator can't do."""
 
     def test_an_operator_reads_neither_text_nor_who_is_on_nor_keys(self) -> None:
+        for name, way in ("bob", b"PUBLISH"), ("bo", b"ZADD"):
+            with self.subTest(way=way), contextlib.ExitStack() as stack:
+                if way == b"ZADD":
+                    # As where the server lets nobody use a channel.
+                    stack.enter_context(mock.patch.object(RedisLog, "channel", return_value=None))
+                self.reads_nothing(name, way)
+
+    def reads_nothing(self, name: str, way: bytes) -> None:
+        """That an operator reads nothing of what goes to the server, by which presence is said in this way."""
         tapped = Tapped(self.server.port)
         self.addCleanup(tapped.close)
         note = self.opened(self.ann, url=tapped.url)
-        bob = self.opened(self.person("bob"), link=self.link.split("@")[0] + "@" + tapped.url)
+        bob = self.opened(self.person(name), link=read_link(self.link)._replace(url=tapped.url).spelled())
         for words in "marzipan", "gooseberry":
             written(note, words)
         self.assert_meet(note, bob)
+        wait_for(lambda: note.session._replicator.on > 2 and bob.session._replicator.on > 2, "each other to be seen")
         seen = [bytes(tapped.sent), *(path.read_bytes() for path in (self.folder / "redis").rglob("*")
                                       if path.is_file())]
         self.assertIn(self.form.note.hex().encode(), seen[0])
         token = note.session._replicator.token
-        self.assertIn(token, seen[0])
+        self.assertIn(way, seen[0])
+        # In the table its token is the name under which it is met.
+        self.assertEqual(token in seen[0], way == b"ZADD")
         key = self.about.secret
         with contextlib.closing(self.ann.disk()) as disk:
             secrets = [one.author.secret[:32] for one in disk.own.clients()]
@@ -441,15 +453,15 @@ class Accounts(Case):
         self.assertEqual(run.stdout.decode(), f"begin {CONTROLS} end")
         editor = Terminal(self, self.person(), "note")
         wait_for(lambda: (editor.read(), b"begin" in editor.shown)[1], "the editor")
-        time.sleep(0.3)
-        editor.read()
+        editor.press(b"\x11")
+        editor.read_to_end()
         for one in "\x1b[31m", "\x1b]", "\x9b", "\x07":
             self.assertNotIn(one.encode(), editor.shown)
 
     def test_what_a_server_says_does_nothing_to_a_terminal(self) -> None:
         hostile = Hostile(lambda asked: b"-ERR begin " + CONTROLS.encode() + b" end\r\n")
         self.addCleanup(hostile.close)
-        link = "vialshoal:1:s:" + self.link_of_nobody() + "@" + hostile.url
+        link = Link("sealed", bytes(32), hostile.url).spelled()
         run = self.note("note", "--print", VIALSHOAL_LINK=link)
         self.assertEqual(run.returncode, 3)
         self.assertIn("begin", run.stderr)
@@ -460,10 +472,6 @@ class Accounts(Case):
         self.assert_harmless(run.stderr.encode())
         run = self.note("recover", "/\x1b]0;title\x07")
         self.assert_harmless(run.stderr.encode())
-
-    def link_of_nobody(self) -> str:
-        """The secret of a note's link."""
-        return Link("sealed", bytes(32), "redis://127.0.0.1:1").spelled().split(":")[3].split("@")[0]
 
     def assert_harmless(self, shown: bytes, *parts: bytes) -> None:
         """That no control characters but line ends are in what was written, and that these parts are."""

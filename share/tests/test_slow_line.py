@@ -1,5 +1,6 @@
 """A log that is reached by a slow line: who has a number types at once, and who is new sees the text as it comes."""
 import contextlib
+import math
 import threading
 import time
 from unittest import mock
@@ -11,6 +12,7 @@ from share.tests.naive import entry_of, inserting
 from share.tests.support import Case, raws_of, wait_for, written
 from share.tests.test_joining import history, in_entries
 from share.tests.throttle import Throttle
+from share.tests.waiting import PATIENCE
 
 LONG = 1_000
 # What is typed by somebody else meanwhile.
@@ -28,15 +30,16 @@ class SlowLine(Case):
         self.link = links.Link("sealed", about.secret, self.server.url)
         rounds, self.text = history(LONG)
         self.raws = in_entries(self.form, rounds)
+        self.size = sum(map(len, self.raws))
 
     def fill(self) -> None:
         """Puts the history into the log."""
         with contextlib.closing(open_log(self.server.url, self.form.note)) as log:
             log.append(self.raws)
 
-    def slow(self, rate: float) -> Throttle:
-        """A line of so many bytes a second."""
-        line = Throttle(self.server.port, rate)
+    def slow(self, most: float) -> Throttle:
+        """A line on which no more than this comes, until the test lets more through."""
+        line = Throttle(self.server.port, most)
         self.addCleanup(line.close)
         return line
 
@@ -46,34 +49,37 @@ class SlowLine(Case):
         written(note, "mine ")
         note.session.close()
         self.fill()
-        line = self.slow(sum(map(len, self.raws)) / 60)
-        begin = time.monotonic()
-        with mock.patch("share.sync.session.OPEN_SECONDS", 30), mock.patch("share.log.redis.LEAST_ROOM", 2**12):
+        # A line that passes nothing on is no server that is away.
+        patient = mock.patch("share.log.resp.REPLY_SECONDS", 10 * PATIENCE)
+        patient.start()
+        self.addCleanup(patient.stop)
+        line, begin = self.slow(2_048), time.monotonic()
+        with mock.patch("share.sync.session.OPEN_SECONDS", PATIENCE), mock.patch("share.log.redis.LEAST_ROOM", 2**12):
             note = self.opened(ann, url=line.url)
-        self.assertLess(time.monotonic() - begin, 15)
+        self.assertLess(time.monotonic() - begin, PATIENCE)
         self.assertTrue(note.session.status().can_type)
         note.type("at once ")
         self.assertEqual(note.text, b"at once mine ")
         done, total = wait_for(lambda: (note.take_in(), note.session.status().reading)[1], "the log to be read")
         self.assertGreater(total, len(self.raws))
-        self.assertLess(done, total / 2)
+        self.assertEqual(done, 0)
+        line.lets_through(self.size / 4)
         wait_for(lambda: (note.take_in(), len(note.text) > 20)[1], "text to come")
         reading = note.session.status().reading
         self.assertLess(reading and reading[0], total / 2)
-        line.rate = 10**9
+        line.lets_through(math.inf)
         wait_for(lambda: (note.take_in(), note.session.status())[1].reading is None, "all to be read")
         self.assertEqual(len(self.assert_meet(note)), len(self.text) + len(b"at once mine "))
 
     def test_who_is_new_waits_for_no_log_that_grows(self) -> None:
         self.fill()
-        rate = sum(map(len, self.raws)) / 3
-        line, ends = self.slow(rate), threading.Event()
-        writer = threading.Thread(target=self.grow, args=(ends, 2 * rate))
+        line, ends = self.slow(self.size / 2), threading.Event()
+        writer = threading.Thread(target=self.grow, args=(ends, line))
         writer.start()
         try:
             note = self.opened(self.person("new"), link=self.link._replace(url=line.url).spelled())
             self.assertFalse(note.session.status().can_type)
-            claim = self.form.claim(note.session.number, note.session._client.author).raw
+            claim = self.form.claim(note.session.number, note.session._numbers.own.author).raw
             with contextlib.closing(open_log(self.server.url, self.form.note)) as log:
                 wait_for(lambda: claim in raws_of(log), "the claim to be in the log")
             # It is there before all was read that the log had.
@@ -94,16 +100,19 @@ class SlowLine(Case):
         self.assertGreater(len(lengths), 3)
         self.assertGreaterEqual(len(note.text), len(self.text))
         note.type("at last ")
-        line.rate = 10**9
+        line.lets_through(math.inf)
         self.assertIn(b"at last ", self.assert_meet(note))
 
-    def grow(self, ends: threading.Event, rate: float) -> None:
-        """Has the log grow by so many bytes a second."""
+    def grow(self, ends: threading.Event, line: Throttle) -> None:
+        """Has the log grow by two bytes for each one that comes on a line, on which never all comes."""
         author = self.form.new_author()
-        last, seq, begin, size = self.form.claim(7, author), 0, time.monotonic(), 0
+        last, seq, size = self.form.claim(7, author), 0, 0
         with contextlib.closing(open_log(self.server.url, self.form.note)) as log:
             log.append([last.raw])
-            while not ends.wait(max(0.0, begin + size / rate - time.monotonic())):
+            while not ends.wait(0.001):
+                if size > 2 * line.received:
+                    continue
+                line.lets_through((self.size + size) / 2)
                 last = entry_of(self.form, last, [inserting(7, seq + 1, seq + 1, None, seq * len(MORE), MORE)], author)
                 seq, size = seq + 1, size + len(last.raw)
                 log.append([last.raw])

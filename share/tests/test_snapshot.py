@@ -198,11 +198,12 @@ class Packing(Case):
         def put_back(name: str, what: str) -> None:
             for path in (self.folder / name / "notes").glob(what):
                 to = self.ann.data / "notes" / path.name
-                shutil.rmtree(to) if to.is_dir() else to.unlink()
                 if path.is_dir():
+                    shutil.rmtree(to)
                     shutil.copytree(path, to)
                 else:
-                    shutil.copyfile(path, to)
+                    # Another file takes its place: what is noted beside it is of the one that was there.
+                    pathlib.Path(shutil.copyfile(path, self.folder / "new")).replace(to)
 
         saved("early")
         self.closed("late")

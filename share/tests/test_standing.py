@@ -80,6 +80,20 @@ class Sets(unittest.TestCase):
         self.counts = {(3, 1): made.hash}
         self.assertFalse(standing.is_stood_for(fork, 2, self.entry_of, self.rows))
 
+    def test_of_two_histories_of_a_number_the_one_that_counts_stays(self) -> None:
+        # A disk that was put back made it anew a second time under a number, and, as that history lost, once more under another one.
+        lost, counts, again = self.copied(3, True, self.old), self.copied(3, False, self.old, seq=2), self.copied(4, True, self.old)
+        self.counts = {(3, 2): counts[1].hash, (4, 1): again[1].hash}
+        for order in itertools.permutations((lost, counts, again)):
+            standing, of_all = Standing(), Standing(most=1_000)
+            for row, _ in order:
+                standing.add(row, self.rows)
+                of_all.add(row._replace(made=True), self.rows)
+            hidden = Copy(again[1].author, 4, 1), True
+            self.assertEqual([*standing.made_here(self.entry_of, self.rows)], [hidden])
+            looked_at = of_all.made_by_all(self.entry_of, lambda author, site, last: 0 if last == lost[1].hash else 2)
+            self.assertEqual([*looked_at], [(Copy(counts[1].author, 3, 2), False), hidden])
+
     def test_only_who_made_messages_says_what_stands_for_them(self) -> None:
         row, made = self.copied(3, True, self.old)
         said = row.entry.copied
@@ -112,6 +126,28 @@ class Sets(unittest.TestCase):
                 standing.add(Row(0, word, True), rows)
             self.assertTrue(standing.is_stood_for(self.old, 2, self.entry_of, rows))
         self.assertEqual(len(words), 2)
+
+    def test_of_what_was_withdrawn_a_part_may_come_back(self) -> None:
+        author = Author(bytes(16), b"")
+        for size, most_missed in (7, 0), (64, 0), (200, 3):
+            old = [self.first]
+            for seq in range(2, size + 2):
+                old.append(entry_of(FORM, old[-1], [typed(50, seq, b"c")], OLD, length=seq - 1))
+            # What was typed last is first now, so that no two of them are in one stretch.
+            new = entry_of(FORM, FORM.claim(60, author), [typed(60, seq, b"c") for seq in range(1, size + 1)], author)
+            rows = self.rows | {entry.hash: Row(0, entry, True) for entry in old}
+            pairs = {entry.hash: [(entry.first, size + 2 - entry.first)] for entry in old[1:]}
+            words = said_of_copies(FORM, {(50, OLD.name): Client(50, OLD)}, rows, new, pairs, set(pairs))
+            self.assertLessEqual(len(words), 64)
+            self.counts = {(60, seq): new.hash for seq in range(1, size + 1)}
+            for back in (*range(0, size, 1 + size // 12), size):
+                rows = self.rows | {entry.hash: Row(0, entry, True) for entry in [*old[:back + 1], new]}
+                standing = Standing()
+                for word in words:
+                    standing.add(Row(0, word, True), rows)
+                missed = [entry for entry in old[1:back + 1] if not standing.is_stood_for(entry, entry.first, self.entry_of, rows)]
+                self.assertLessEqual(len(missed), 0 if back == size else most_missed)
+                self.assertEqual(len([*standing.made_here(self.entry_of, rows)]), back - len(missed))
 
     def test_what_was_typed_again_gives_way_to_a_copy_of_its_own_history(self) -> None:
         # Of three messages of one place one holds, another was typed again, and the third made anew.

@@ -5,6 +5,7 @@ it back.
 
     SHARE_STORM=200 SHARE_SEED=7 share/tests/run test_storm
     SHARE_STORM=50 SHARE_KINDS=kill,backup,snapshot share/tests/run test_storm
+    SHARE_STORM=50 SHARE_KINDS=crash,kill,lose_log share/tests/run test_storm
 
 Where `SHARE_KEEP` names a folder, all files of what went wrong are kept in it, to be looked at by share/tests/trace.py.
 """

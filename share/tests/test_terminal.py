@@ -45,6 +45,56 @@ class Terminals(Case):
         right.type("!")
         left.shows("Oh: Grüße 🎉 from here and from there!")
         left.cursor_is(6, 0)
+        # At a line's begin it goes with the line where another one is opened above.
+        left.press("Home")
+        left.cursor_is(0, 0)
+        right.press("Home", "Enter")
+        left.shows("", "Oh: Grüße 🎉 from here and from there!")
+        left.cursor_is(0, 1)
+        left.type("> ")
+        right.shows("", "> Oh: Grüße 🎉 from here and from there!")
+
+    def test_an_undo_takes_twenty_keys_back(self) -> None:
+        one = Terminal(self, "data", "diary")
+        for words in "a" * 12, "b" * 8, "c" * 3:
+            one.type(words)
+            one.sees(words)
+        one.press("C-z")
+        one.shows("a" * 12 + "b" * 8)
+        one.press("BSpace")
+        one.shows("a" * 12 + "b" * 7)
+        one.press("BSpace")
+        one.shows("a" * 12 + "b" * 6)
+        one.press("C-z")
+        one.shows("a" * 12 + "b" * 8)
+
+    def test_what_is_asked_for_is_found_where_it_is_when_that_is_answered(self) -> None:
+        left, right = Terminal(self, "data", "diary"), Terminal(self, "data", "diary")
+        left.type("a foo, b foo")
+        right.sees("a foo, b foo")
+        left.press("Home", "C-r")
+        left.type("foo")
+        left.press("Enter")
+        left.type("bar")
+        # Somebody opens a line above while the question stands.
+        right.press("Home", "Enter", "Up")
+        right.type("new")
+        left.sees("new")
+        left.press("Enter")
+        right.shows("new", "a bar, b bar")
+        left.press("C-f")
+        left.type("b")
+        right.type("er")
+        left.sees("newer")
+        left.press("Enter", "Delete")
+        right.shows("newer", "a ar, b bar")
+        # What is selected stays what it is.
+        left.press("C-Space", "Right", "Right")
+        right.press("Up", "Home")
+        right.type("2nd ")
+        left.sees("2nd newer")
+        left.press("C-x")
+        right.shows("2nd newer", "a , b bar")
 
     def test_taking_back_beside_another(self) -> None:
         left, right = Terminal(self, "data", "diary"), Terminal(self, "data", "diary")
@@ -186,6 +236,75 @@ class Terminals(Case):
         wait_for(lambda: "\x1b[7m" not in one.looks().split("\n")[0], "no selection")
         one.type("D")
         one.shows("nDd jam tea and")
+
+    def test_a_line_by_keys(self) -> None:
+        one = Terminal(self, "data", "diary")
+        one.type("one two\rthree\rfour")
+        one.press("Up", "Up", "C-a")
+        one.cursor_is(0, 0)
+        one.press("C-e")
+        one.cursor_is(7, 0)
+        one.press("C-a", "C-Right", "C-k")
+        one.shows("one", "three", "four")
+        # What is killed in one go is put in one go.
+        one.press("C-k", "C-k", "Down", "C-e", "C-v")
+        one.shows("one", "four two", "three")
+        one.press("C-k", "C-z", "C-z", "C-z", "C-z")
+        one.shows("one two", "three", "four")
+
+    def test_the_mouse(self) -> None:
+        one = Terminal(self, "data", "diary")
+        one.type("one two\rthree")
+        one.shows("one two", "three")
+        self.assertEqual(one.modes(), "11")
+        one.send(b"\x1b[<0;5;1M\x1b[<0;5;1m")
+        one.cursor_is(4, 0)
+        one.type("X")
+        one.shows("one Xtwo", "three")
+        # Drawn from one line to the next; typing takes its place.
+        one.send(b"\x1b[<0;5;1M\x1b[<32;6;1M\x1b[<32;4;2M\x1b[<0;4;2m")
+        one.cursor_is(3, 1)
+        wait_for(lambda: "\x1b[7mXtwo" in one.looks(), "a selection")
+        one.type("+")
+        one.shows("one +ee")
+        # Below the text, and on the last line of the screen.
+        one.send(b"\x1b[<0;3;7M\x1b[<0;3;7m")
+        one.cursor_is(7, 0)
+        one.send(b"\x1b[<0;1;12M\x1b[<0;1;12m")
+        one.cursor_is(7, 0)
+        one.type("\r" + "\r".join(f"line {number}" for number in range(30)))
+        one.sees("line 29")
+        one.press("C-l", "1", "Enter")
+        one.cursor_is(0, 0)
+        # The cursor stays on the screen.
+        one.send(b"\x1b[<65;1;1M\x1b[<65;1;1M")
+        one.shows(*(f"line {number}" for number in range(5, 16)))
+        one.cursor_is(0, 0)
+        one.send(b"\x1b[<64;1;1M")
+        one.shows(*(f"line {number}" for number in range(2, 13)))
+        one.cursor_is(0, 3)
+        one.press("C-f")
+        one.sees("Find:")
+        one.send(b"\x1b[<0;1;1M")
+        one.press("Escape", "C-q")
+        one.sees("status 0")
+        # The terminal is as it was.
+        self.assertEqual(one.modes(), "00")
+
+    def test_the_names_of_others(self) -> None:
+        one = Terminal(self, "data", "diary")
+        one.type("short\r" + "x" * 66)
+        one.sees("xxx")
+        for name, at in ("Zoë\x1b[31m", 2), ("Bob", 10):
+            other = Editor(self.folder / "data", name="diary", opens=False)
+            self.addCleanup(other.close)
+            opened = other.ask("open", protocol=1, units=["utf-16"], name=name)
+            other.send({"do": "cursor", "version": opened["version"], "at": at})
+        # After the text of the line, or on the one beside that has room.
+        one.shows("short  Zoë[31m", "x" * 66, "↑Bob")
+        one.press("Up", "C-e")
+        one.type("er line with words up to the end, so that no name has room in it")
+        one.shows("shorter line with words up to the end, so that no name has room in it", "x" * 66, "↑Bob")
 
     def test_another_editor_of_the_note(self) -> None:
         one, other = Terminal(self, "data", "diary"), Editor(self.folder / "data", name="diary")

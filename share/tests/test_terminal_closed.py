@@ -2,17 +2,15 @@
 import contextlib
 import os
 import pty
-import select
 import signal
-import time
 
 from share.tests.support import NOTE, TOP, Case, wait_for, written
+from share.tests.terminals import EMACS
 
-PATIENCE = 60
 # No editor shows this of its own.
 TYPED = "\u00e9"
-EMACS = ("emacs", "-nw", "-Q", "-L", str(TOP / "editors" / "emacs"), "-l", "vialshoal", "--eval",
-         f'(progn (setq vialshoal-command (list "{NOTE}")) (vialshoal-open "note"))')
+IN_EMACS = (*EMACS, "-L", str(TOP / "editors" / "emacs"), "-l", "vialshoal", "--eval",
+            f'(progn (setq vialshoal-command (list "{NOTE}")) (vialshoal-open "note"))')
 NEOVIM = ("nvim", "-u", "NONE", "-i", "NONE", "-n", "--cmd", f"set runtimepath^={TOP / 'editors' / 'neovim'}", "-c",
           "runtime plugin/vialshoal.lua", "-c", "Vialshoal note", "-c", "startinsert")
 
@@ -34,7 +32,7 @@ class Closed(Case):
             os.write(end, TYPED.encode())
             self.shown(end, TYPED.encode())
             os.close(end)
-            wait_for(lambda: os.waitpid(process, os.WNOHANG)[0], "the editor to end", PATIENCE)
+            wait_for(lambda: os.waitpid(process, os.WNOHANG)[0], "the editor to end")
         except BaseException:
             with contextlib.suppress(ProcessLookupError):
                 os.kill(process, signal.SIGKILL)
@@ -43,17 +41,21 @@ class Closed(Case):
 
     def shown(self, end: int, what: bytes) -> None:
         """Waits until a terminal has shown this."""
-        told, last = b"", time.monotonic() + PATIENCE
-        while what not in told:
-            self.assertLess(time.monotonic(), last, told)
-            if select.select([end], [], [], 1)[0]:
-                told += os.read(end, 1 << 16)
+        told = bytearray()
+        os.set_blocking(end, False)
+
+        def is_shown() -> bool:
+            with contextlib.suppress(BlockingIOError):
+                told.extend(os.read(end, 1 << 16))
+            return what in told
+
+        wait_for(is_shown, f"{what!r} to be shown")
 
     def test_of_the_own_editor(self) -> None:
         self.closed(NOTE, "note")
 
     def test_of_emacs(self) -> None:
-        self.closed(*EMACS)
+        self.closed(*IN_EMACS)
 
     def test_of_neovim(self) -> None:
         self.closed(*NEOVIM)

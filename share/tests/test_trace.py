@@ -15,7 +15,6 @@ from share.tests.support import Case, change, type_at_the_end, wait_for, written
 from share.text.errors import Trouble
 
 LINE = re.compile(r"(\d+\.\d{6}) (\d+) ([a-z_]+)((?: [a-z_]+=(?:\d+|[a-z]+))*)")
-SOON = 30
 
 
 class Kept:
@@ -84,7 +83,7 @@ class Sharing(Case):
             self.assert_meet(*notes)
             # What can't be reached is told with its address.
             server.kill()
-            wait_for(lambda: self.kept.has(Traced.OFFLINE), "the log to be away", SOON)
+            wait_for(lambda: self.kept.has(Traced.OFFLINE), "the log to be away")
         link = self.person("anna").link()
         words = {word for line in self.kept.lines() for word in re.findall("[a-z]+", line[0])}
         figures = set("entries messages new site log own made shown of others task look give fetch show".split())
@@ -103,16 +102,16 @@ class Sharing(Case):
         with self.kept.here():
             change(path, "DELETE FROM entry")
             wait_for(lambda: self.kept.path.exists() and self.kept.has(Traced.READ_FROM_FRONT, Traced.LOST, Traced.GIVEN),
-                     "it to be filled again", SOON)
+                     "it to be filled again")
         server, other = self.redis(), Kept(self.folder / "data")
         note = self.opened(self.person("berta"), url=server.url)
         other.path.parent.mkdir(exist_ok=True)
         with other.here(), mock.patch("share.sync.threads.RECONNECT_SECONDS", 0.05):
             server.kill()
-            wait_for(lambda: other.has(Traced.OFFLINE), "the log to be away", SOON)
+            wait_for(lambda: other.has(Traced.OFFLINE), "the log to be away")
             type_at_the_end(note, "two ")
             server.start()
-            wait_for(lambda: other.has(Traced.EDIT, Traced.RECONNECTED, Traced.GIVEN), "it to be sent", SOON)
+            wait_for(lambda: other.has(Traced.EDIT, Traced.RECONNECTED, Traced.GIVEN), "it to be sent")
 
 
 class OfAnEngine(Engines):
@@ -126,11 +125,11 @@ class OfAnEngine(Engines):
             self.assertEqual(self.alike(first, second), "secret words")
             # Who has lost what it shows asks for all of it.
             second.send({"do": "text", "edits": 0})
-            wait_for(lambda: (second.read(0.02), kept.has(Traced.TEXT_SENT))[1], "the text to be sent", SOON)
+            wait_for(lambda: (second.read(0.02), kept.has(Traced.TEXT_SENT))[1], "the text to be sent")
             first.close()
             second.close()
         wait_for(lambda: kept.has(Traced.NOTE_OPENED, Traced.EDIT, Traced.CHANGES_SENT, Traced.EDITOR_LEFT, Traced.NOTE_CLOSED),
-                 "the engine to end", SOON)
+                 "the engine to end")
         self.assertTrue(kept.has(Traced.EDITOR_JOINED, Traced.EDITOR_JOINED, Traced.EDIT))
         self.assertNotIn("secret", kept.path.read_text())
 
@@ -185,7 +184,7 @@ class Rebased(unittest.TestCase):
             self.assertTrue(kept.has(Traced.NUMBER_CLAIMED, Traced.NUMBER_GIVEN_UP, Traced.SITE_BEGUN_ANEW, Traced.EDIT,
                                      Traced.REBASED), kept.path.read_text())
             case.assert_shown("one behind two", second, case.opened(case.anna))
-            wait_for(lambda: kept.has(Traced.REBASED, Traced.COUNTED, Traced.HIDDEN), "the copy to be hidden", SOON)
+            wait_for(lambda: kept.has(Traced.REBASED, Traced.COUNTED, Traced.HIDDEN), "the copy to be hidden")
 
 
 if __name__ == "__main__":

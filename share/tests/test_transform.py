@@ -156,6 +156,19 @@ class Crossing(unittest.TestCase):
             assert isinstance(last, bytes)
             self.assertEqual(moved(end, second, units) - end, growth(second, units) - units.count(last))
 
+    def test_what_an_edit_met_at_its_place(self) -> None:
+        units = UNITS["utf-8"]
+        # What came in, by changes of a text of 30 units; the edit's place, and what it met there.
+        for changes, begin, end, met in (
+                ([(0, 0, b"first")], 3, 3, 0), ([(3, 3, b"here")], 3, 3, 4), ([(0, 0, b"first"), (8, 8, b"here")], 3, 3, 4),
+                ([(0, 0, b"12345"), (9, 9, b"other")], 3, 3, 0), ([(0, 2, b""), (1, 1, b"here")], 3, 3, 4),
+                ([(20, 20, b"far")], 3, 3, 0)):
+            carry = Transformer(units)
+            carry.changed(of_changes(changes, units))
+            _, left = carry.edit(0, [(begin, end, "own")], 30 + growth(carry._pending(), units))
+            carry.edited(left)
+            self.assertEqual(carry.met(), met, changes)
+
     @staticmethod
     def is_at_end(op: Op, end: int) -> bool:
         """Whether the last part of an op comes in just at a text's end, with nothing deleted before it."""

@@ -5,18 +5,22 @@ import os
 import pathlib
 import shutil
 import signal
+import socket
 import stat
 import subprocess
 import tempfile
 import unittest
+from collections.abc import AsyncIterator
+from typing import cast
 from unittest import mock
 
 import aiohttp
+from aiohttp import web
 
 from share.editors.web import guard
-from share.editors.web.bridge import MOST_MESSAGE, NO_FIELDS, page_refusal
+from share.editors.web.bridge import MOST_MESSAGE, NO_FIELDS, bridged, page_refusal
 from share.editors.web.opening import redirect
-from share.editors.web.server import files
+from share.editors.web.server import files, missing_package
 from share.tests.pages import Server, talking
 from share.tests.support import TOP, Case, Person, engine_of, python, wait_for
 from share.text.errors import Trouble
@@ -94,8 +98,44 @@ class Bridging(unittest.TestCase):
         self.assertEqual(refused(None)["error"], "long")
 
 
+class Gone(unittest.IsolatedAsyncioTestCase):
+    """A page that is gone before all that it sent was handed on."""
+
+    async def test_what_it_sent_goes_to_the_engine(self) -> None:
+        refused = asyncio.Event()
+
+        class Socket:
+            """Of a page that reads nothing more."""
+
+            async def send_bytes(self, _: bytes) -> None:
+                """Can't send."""
+                refused.set()
+                raise ConnectionResetError
+
+            async def close(self, **_: object) -> None:
+                """Is closed."""
+
+        async def said(_: object) -> AsyncIterator[bytes]:
+            yield b'{"do":"on","id":1}\n'
+            await refused.wait()
+            # The other tasks see that first.
+            for _ in range(10):
+                await asyncio.sleep(0)
+            yield b'{"do":"on","id":2}\n'
+
+        with tempfile.TemporaryDirectory() as folder:
+            kept = pathlib.Path(folder) / "kept"
+            with mock.patch("share.editors.web.bridge.messages", said):
+                await bridged(cast(web.WebSocketResponse, Socket()), ["tee", str(kept)], os.environ)
+            self.assertEqual(kept.read_bytes(), b'{"do":"on","id":1}\n{"do":"on","id":2}\n')
+
+
 class Missing(unittest.TestCase):
     """A machine that hasn't all."""
+
+    def test_a_view_whose_package_isn_t_here_is_left_out_and_the_rest_works(self) -> None:
+        with mock.patch("share.editors.web.server.MARKDOWN", ("/x.js", pathlib.Path("/none"), "libjs-some")):
+            self.assertEqual((missing_package(), files()["/x.js"]), ("libjs-some", pathlib.Path("/none")))
 
     def test_a_package_that_isn_t_here_is_named(self) -> None:
         with mock.patch("share.editors.web.server.CODEMIRROR", pathlib.Path("/none")):
@@ -135,7 +175,7 @@ class Starting(Served):
 
     def test_no_command_line_has_it(self) -> None:
         browser = self.folder / "browser"
-        browser.write_text(f"#!/bin/sh\necho \"$@\" >>{self.folder}/seen\nexec sleep 3\n")
+        browser.write_text(f"#!/bin/sh\necho \"$@\" >>{self.folder}/seen\n")
         browser.chmod(0o700)
         server = self.serve(BROWSER=str(browser))
         self.assertIn("is open in the browser", server.said)
@@ -157,7 +197,7 @@ class Starting(Served):
 
     def test_what_can_t_be_a_note_or_a_log_is_refused_at_once(self) -> None:
         self.assert_says(self.note("web", "a b", "--no-browser"), "can't be a note's name")
-        self.assert_says(self.note("web", "note", "--no-browser", "--log", "ftp://x"), "can't be a log")
+        self.assert_says(self.note("web", "note", "--new", "--no-browser", "--log", "ftp://x"), "can't be a log")
 
     async def test_the_user_has_a_name(self) -> None:
         async with talking(self.serve(VIALSHOAL_NAME="Ada")) as talk:
@@ -203,7 +243,9 @@ class Answers(OneServer):
         self.assertNotRegex(page, rb"(?i)<script>|\son\w+=|style=|https?:|//")
 
     def test_no_script_makes_elements_of_text(self) -> None:
-        for path in (TOP / "share" / "web").glob("*.js"):
+        paths = [*(TOP / "share" / "editors" / "web").glob("*.js")]
+        self.assertGreater(len(paths), 5)
+        for path in paths:
             script = path.read_text(encoding="utf-8")
             self.assertNotRegex(script, r"innerHTML|outerHTML|insertAdjacentHTML|document\.write|eval\(|Function\(|setAttribute",
                                 path)
@@ -261,6 +303,7 @@ class Answers(OneServer):
             self.assertNotIn(b"unsafe", head)
             self.assertNotIn(b"Access-Control", head)
             self.assertIn(b"default-src 'none'; script-src 'self'; style-src 'self'; connect-src ws://127.0.0.1:", head)
+            self.assertIn(b"require-trusted-types-for 'script'; trusted-types page\r\n", head)
 
     def test_rubbish_doesn_t_end_the_server(self) -> None:
         for data in (b"\0\1\2\r\n\r\n", b"GET\r\n\r\n", b"GET / HTTP/9.9\r\n\r\n", b"GET / HTTP/1.1\r\nHost" + b"x" * 70_000):
@@ -390,6 +433,84 @@ class Sockets(OneServer):
             self.assertEqual(await talk.code(), aiohttp.WSCloseCode.INTERNAL_ERROR)
         async with talking(self.server, opens=True) as talk:
             self.assertEqual((await talk.line(answer="open"))["text"][:8], "answered")
+
+
+class Again(Served):
+    """A server that ended and runs again."""
+
+    async def met(self, server: Server, key: str, own: str = "a" * 64) -> int | None:
+        """How a socket ends that shows a key; None where it goes on."""
+        async with talking(server, f"again {own}") as talk:
+            known = await talk.line(notice="known")
+            self.assertEqual(known["proof"], guard.proof(key, "server", server.port, own, known["nonce"]))
+            self.assertNotIn("welcome", [line["notice"] for line in talk.lines])
+            await talk.say(guard.proof(key, "page", server.port, own, known["nonce"]))
+            self.assertEqual((await talk.line(notice="welcome"))["secret"], server.secret)
+            return talk.socket.close_code
+
+    async def test_it_has_the_same_port_and_a_page_knows_it_by_its_key(self) -> None:
+        server = self.serve()
+        async with talking(server) as talk:
+            key = (await talk.line(notice="welcome"))["key"]
+        kept = self.folder / "data" / "run" / "note.web"
+        self.assertEqual(stat.S_IMODE(os.stat(kept).st_mode), 0o600)
+        server.close()
+        again = self.serve()
+        self.assertEqual((again.port, again.secret != server.secret), (server.port, True))
+        self.assertIsNone(await self.met(again, key))
+        async with talking(again, server.secret) as talk:
+            self.assertEqual(await talk.code(), POLICY_VIOLATION)
+        # A second one at the same time has a place of its own, and leaves the first one's alone.
+        beside = self.serve()
+        self.assertNotEqual(beside.port, again.port)
+        beside.close()
+        again.close()
+        kept.write_bytes(b'{"port": 80, "key"')
+        other = self.serve()
+        async with talking(other) as talk:
+            self.assertNotEqual((await talk.line(notice="welcome"))["key"], key)
+
+    async def test_another_program_with_its_port_isn_t_in_the_way(self) -> None:
+        port = self.server.port
+        self.server.close()
+        with socket.create_server(("127.0.0.1", port)):
+            self.assertNotEqual(self.serve().port, port)
+
+    async def test_who_has_no_key_isn_t_let_in(self) -> None:
+        for last in (guard.proof("0" * 64, "page", self.server.port, "b" * 64, "c" * 64), "", "again " + "b" * 64, None):
+            async with talking(self.server, "again " + "b" * 64) as talk:
+                known = await talk.line(notice="known")
+                # What the server itself shows is of no use to another page.
+                await talk.say(known["proof"] if last is None else last)
+                self.assertEqual(await talk.code(), POLICY_VIOLATION)
+                self.assertEqual(talk.lines, [known])
+        for said in "again " + "b" * 63, "again", "again " + "B" * 64:
+            async with talking(self.server, said) as talk:
+                self.assertEqual((await talk.code(), talk.lines), (POLICY_VIOLATION, []))
+
+
+class Lists(Served):
+    """The notes that a page lists, and opens."""
+
+    async def test_notes_are_listed_searched_and_opened(self) -> None:
+        for name, words in (("diary", "It rained.\nWe made Soup.\n"), ("plan", "a tent\n")):
+            self.assertEqual(self.note("append", "--new", name, words).returncode, 0)
+        (self.folder / "data" / "notes" / "broken.note").write_bytes(b"rubbish")
+        async with talking(self.server, opens=True) as talk:
+            listed = await talk.ask("notes")
+            self.assertEqual({one["name"] for one in listed["notes"]}, {"diary", "plan", "broken", "note"})
+            found = (await talk.ask("notes", words="soup"))["notes"]
+            self.assertEqual([(one["name"], one["line"]) for one in found], [("diary", "We made Soup.")])
+            self.assertEqual([one["name"] for one in (await talk.ask("notes", words="PLA"))["notes"]], ["plan"])
+            self.assertEqual((await talk.ask("notes", path="/"))["error"], "unknown")
+        async with talking(self.server, opens=True, note="diary") as talk:
+            self.assertEqual((await talk.line(answer="open"))["text"][:10], "It rained.")
+        # A name that nobody chose in the list makes no note.
+        for name in "other", "../diary", "", "a b":
+            async with talking(self.server, note=name) as talk:
+                self.assertEqual(await talk.code(), aiohttp.WSCloseCode.INTERNAL_ERROR)
+        self.assertEqual(sorted(path.name for path in (self.folder / "data" / "notes").glob("*.note")),
+                         ["broken.note", "diary.note", "note.note", "plan.note"])
 
 
 class Ends(Served):

@@ -1,28 +1,34 @@
-"""A slow line to a server: what goes through it takes its time, all connections together."""
+"""A line to a server on which no more comes back than the test has let through, all connections together."""
 import contextlib
+import math
 import socket
 import threading
-import time
 
-# So much goes at once; who wakes up late makes up for so many seconds at most.
-PIECE, LATE_SECONDS = 2_048, 0.5
+# The most that goes at once.
+PIECE = 2_048
 
 
 class Throttle:
-    """A port of the loopback that passes on to another one, so many bytes a second each way."""
+    """A port of the loopback that passes on to another one, and back what is let through."""
 
-    def __init__(self, port: int, rate: float):
-        self.port, self.rate = port, rate
-        # How many bytes came back from the server.
-        self.received = 0
+    def __init__(self, port: int, most: float = math.inf):
+        self.port = port
+        # How many bytes came back from the server, and how many may.
+        self.received, self._most, self._changed = 0, most, threading.Condition()
         self._listening = socket.create_server(("127.0.0.1", 0))
         self.url = f"redis://127.0.0.1:{self._listening.getsockname()[1]}"
         self._open = [self._listening]
-        self._ways = _Way(), _Way()
         threading.Thread(target=self._listen, daemon=True).start()
+
+    def lets_through(self, most: float) -> None:
+        """Lets so many bytes come back in all."""
+        with self._changed:
+            self._most = most
+            self._changed.notify_all()
 
     def close(self) -> None:
         """Passes nothing on any more."""
+        self.lets_through(math.inf)
         for line in self._open:
             with contextlib.suppress(OSError):
                 line.shutdown(socket.SHUT_RDWR)
@@ -37,28 +43,15 @@ class Throttle:
                     # A line has little room for what waits.
                     line.setsockopt(socket.SOL_SOCKET, socket.SO_RCVBUF, 4 * PIECE)
                     self._open.append(line)
-                for one, other, way in (client, server, self._ways[0]), (server, client, self._ways[1]):
-                    threading.Thread(target=self._pass_on, args=(one, other, way), daemon=True).start()
+                for one, other, comes_back in (client, server, False), (server, client, True):
+                    threading.Thread(target=self._pass_on, args=(one, other, comes_back), daemon=True).start()
 
-    def _pass_on(self, one: socket.socket, other: socket.socket, way: "_Way") -> None:
+    def _pass_on(self, one: socket.socket, other: socket.socket, comes_back: bool) -> None:
         with contextlib.suppress(OSError):
             while data := one.recv(PIECE):
-                way.takes(len(data) / self.rate)
-                if way is self._ways[1]:
-                    self.received += len(data)
+                if comes_back:
+                    with self._changed:
+                        self._changed.wait_for(lambda: self.received + len(data) <= self._most)
+                        self.received += len(data)
                 other.sendall(data)
             other.shutdown(socket.SHUT_RDWR)
-
-
-class _Way:
-    """One way of a line, on which one thing goes after the other."""
-
-    def __init__(self) -> None:
-        self._lock, self._free = threading.Lock(), 0.0
-
-    def takes(self, seconds: float) -> None:
-        """Waits until something has gone that takes this long."""
-        with self._lock:
-            self._free = max(self._free, time.monotonic() - LATE_SECONDS) + seconds
-            end = self._free
-        time.sleep(max(0.0, end - time.monotonic()))

@@ -67,7 +67,7 @@ def verdict(judge: Judge, entry: Entry) -> str:
     """What becomes of an entry."""
     if not entry.size:
         return "holds" if entry.kind is Kind.CLAIM and judge.holder(entry.site) == entry.author else "says"
-    if judge.counts(entry):
+    if judge.entry_of(entry.site, entry.last) == entry.hash:
         return "counts"
     held = entry.hash in {one.hash for one in judge.held_up(entry.site)}
     is_out = entry.hash not in {row.entry.hash for row in judge.of(entry.site, entry.author)}

@@ -1,7 +1,9 @@
 // Runs what share/engine/vectors/client.json says of an editor that counts in UTF-16 by the page's client.
 import assert from "node:assert/strict";
 import { readFileSync } from "node:fs";
+import "./codemirror.mjs";
 import { changed, Client, Lines, pieces } from "../editors/web/client.js";
+import { Edited } from "../editors/web/edited.js";
 
 const VECTORS = new URL("../engine/vectors/client.json", import.meta.url);
 
@@ -13,8 +15,28 @@ class Shown {
   words = "";
   state = {};
 
+  #editor = new Edited(CodeMirror(), { edit() {}, moved() {}, changed() {} });
+
   constructor(text) {
-    this.text = text;
+    this.#editor.change([[0, 0, text]], 0);
+  }
+
+  /** The page's text, which is the editor's. */
+  get text() { return this.#editor.text; }
+
+  change(changes, cursor) { this.#editor.change(changes, cursor); }
+
+  replace(text) { this.#editor.replace(text); }
+
+  /** Where the user is, and the other end of a selection. */
+  get place() { return this.#editor.place(); }
+
+  set place([at, anchor = at]) {
+    const [head, other] = [at, anchor].map((index) => {
+      const before = this.text.slice(0, index).split("\n");
+      return { line: before.length - 1, ch: before.at(-1).length };
+    });
+    this.#editor.cm.setSelections([{ anchor: other, head }]);
   }
 }
 
@@ -22,10 +44,10 @@ class Shown {
 function viewOf(shown) {
   return {
     change(changes, cursor) {
-      shown.text = changed(shown.text, changes);
+      shown.change(changes, cursor);
       shown.cursor = cursor ?? shown.cursor;
     },
-    replace(text) { shown.text = text; },
+    replace(text) { shown.replace(text); },
     cursors(list) { shown.cursors = list; },
     looks(list) { shown.looks = list; },
     state(line) { shown.state = line; },
@@ -37,10 +59,12 @@ function viewOf(shown) {
 /** Does what a step says. */
 function does(step, client, shown) {
   if ("user" in step) {
-    shown.text = changed(shown.text, step.user);
+    assert.equal(changed(shown.text, step.user), (shown.change(step.user), shown.text));
     client.edit(step.user);
   } else if ("line" in step) {
     client.take(step.line);
+  } else if ("place" in step) {
+    shown.place = step.place;
   } else if ("key" in step) {
     assert.equal(client.waits(), step.waits);
   } else if ("patience" in step) {
@@ -62,7 +86,7 @@ function play(one) {
       assert.deepEqual(sent, step.sends);
       sent = [];
     }
-    const has = { ...shown, types: shown.state.types, version: client.version, made: client.made };
+    const has = { ...shown, text: shown.text, place: shown.place, types: shown.state.types, version: client.version, made: client.made };
     for (const [name, value] of Object.entries(step.then ?? {})) assert.deepEqual(has[name], value, name);
   }
 }

@@ -21,16 +21,14 @@ from urllib3.exceptions import HTTPError
 
 from share.tests.browser import MIRROR, Browser, Window
 from share.tests.pages import Server
-from share.tests.support import NOTE, TOP, Case, engine_of, wait_for
-from share.tests.terminals import Terminal, children
+from share.tests.support import NOTE, TOP, Case, alive, engine_of, wait_for
+from share.tests.terminals import EMACS, Terminal, children
+from share.tests.waiting import PATIENCE as PATIENCE
 
 EDITORS = TOP / "editors"
-PATIENCE = 120
-# An editor starts its engine anew if that ended no sooner.
-STEADY_SECONDS = 2.5
-CALL_SECONDS = 60
+CALL_SECONDS = PATIENCE
 # What an Emacs tells of a note in its buffer, and how a person starts it.
-EMACS = """(progn
+SERVING = """(progn
   (setq server-socket-dir "%s" vialshoal-command (list "%s"))
   (server-start)
   (defun save-state (path) (with-current-buffer "*note note*" (save-restriction (widen)
@@ -39,11 +37,12 @@ EMACS = """(progn
       :quiet (if (and (null vialshoal--changes) (= vialshoal--made vialshoal--answered)) t :false)
       :types (if (and vialshoal--is-open (not buffer-read-only)) t :false)
       :session (format "%%s" (process-id vialshoal--process)))) nil path nil 0))))
+  (defun grow-old () (with-current-buffer "*note note*" (setq vialshoal--begun 0)))
   (vialshoal-open "note"))"""
 NEOVIM = """
   vim.opt.runtimepath:prepend('%s')
   vim.o.cmdheight, vim.o.laststatus = 3, 2
-  vim.cmd('runtime plugin/vialshoal.lua | Vialshoal note')
+  vim.cmd('runtime plugin/vialshoal.lua | Vialshoal! note')
   function save_state(path)
     local note = require('vialshoal').note()
     local lines = vim.api.nvim_buf_get_lines(note.buffer, 0, -1, false)
@@ -52,17 +51,22 @@ NEOVIM = """
       quiet = #note.changes == 0 and not note.is_unsure and note.made == note.answered,
       types = note.is_open and vim.bo[note.buffer].modifiable, session = tostring(note.job and vim.fn.jobpid(note.job)) }
     return vim.fn.writefile({ vim.json.encode(state) }, path)
+  end
+  function grow_old()
+    require('vialshoal').note().begun = -60
+    return 0
   end"""
 # Has Neovim take commands. Esc with a key right after it would be Alt with that key.
 NORMAL = "C-\\", "C-n"
 # The page asks whoever leaves it where an edit is unanswered.
 PAGE = """{ text: MIRROR.getValue(), types: !MIRROR.getOption("readOnly"), session: document.title,
   quiet: window.dispatchEvent(new Event("beforeunload", { cancelable: true })) }""".replace("MIRROR", MIRROR)
-DELETING = """((word) => {
+SELECTING = """((word) => {
   const at = MIRROR.getValue().indexOf(word);
   MIRROR.setSelection(MIRROR.posFromIndex(at), MIRROR.posFromIndex(at + word.length));
-  MIRROR.execCommand("delCharAfter");
+  DOES
 })(arguments[0])""".replace("MIRROR", MIRROR)
+DELETING = SELECTING.replace("DOES", f'{MIRROR}.execCommand("delCharAfter");')
 
 
 class Cut(Exception):
@@ -95,7 +99,7 @@ class Writer(ABC):
         self.keys = threading.Lock()
         # Whether it, or its engine, was killed, and nobody has looked after it yet.
         self.is_cut = False
-        self._session, self.opened_at = "", 0.0
+        self._session = ""
         self.start()
         self._wait_until_it_types()
 
@@ -120,6 +124,10 @@ class Writer(ABC):
         """Deletes a word, which stands once in the text."""
 
     @abstractmethod
+    def rewrite(self, old: str, new: str, waits: Callable[[], None]) -> None:
+        """Writes a word in the place of another one, which stands once in the text; waits where a command asks, or types on."""
+
+    @abstractmethod
     def undo(self) -> None:
         """Takes back the last edit that was made here."""
 
@@ -134,6 +142,9 @@ class Writer(ABC):
     def marked(self, session: str) -> str:
         """Tells this opening from others; by what."""
         return session
+
+    def grows_old(self) -> None:
+        """Has it take its engine for one that has run for a while, which is started anew where it ends."""
 
     def close(self) -> None:
         """Ends what is left of it."""
@@ -193,7 +204,6 @@ class Writer(ABC):
                 return state if state.types and state.session != self._session else None
             return None
         self._session = self.marked(self._waits(types, "the note open").session)
-        self.opened_at = time.monotonic()
 
     def called(self, *words: str) -> str:
         """What a command says that talks to this editor."""
@@ -215,15 +225,7 @@ def kill(writers: Iterable[Writer], processes: Callable[[], Iterable[int]]) -> N
         for process in processes():
             with contextlib.suppress(ProcessLookupError):
                 os.kill(process, signal.SIGKILL)
-            wait_for(functools.partial(lambda one: not runs(one), process), "a process to end", PATIENCE)
-
-
-def runs(process: int) -> bool:
-    """Whether a process hasn't ended."""
-    try:
-        return pathlib.Path(f"/proc/{process}/stat").read_text(encoding="utf-8").rpartition(") ")[2][0] != "Z"
-    except (FileNotFoundError, ProcessLookupError):
-        return False
+            wait_for(functools.partial(lambda one: not alive(one), process), "a process to end", PATIENCE)
 
 
 def kill_editor(writer: Writer) -> None:
@@ -233,7 +235,8 @@ def kill_editor(writer: Writer) -> None:
 
 def kill_engine(writers: list[Writer]) -> None:
     """Kills the engine that these editors share."""
-    time.sleep(max(0.0, max(one.opened_at for one in writers) + STEADY_SECONDS - time.monotonic()))
+    for writer in writers:
+        writer.grows_old()
     kill(writers, lambda: [engine_of(writers[0].data)])
 
 
@@ -264,6 +267,14 @@ class InTerminal(Writer):
 
     def processes(self) -> list[int]:
         return [self._process]
+
+    def told(self, *words: str) -> None:
+        """Tells it something by a command, which says something."""
+        def is_told() -> str:
+            with contextlib.suppress(Silent):
+                return self.called(*words)
+            return ""
+        wait_for(is_told, f"{self.tag} to take {words}", PATIENCE)
 
     def saved(self, path: pathlib.Path, *words: str) -> State:
         """What it has, which a command has it write into a file: of a long answer Neovim shows only both ends, and of one of
@@ -309,6 +320,12 @@ class OwnEditor(InTerminal):
         self.press("C-r")
         self.type(f"{word}\n\n")
 
+    def rewrite(self, old: str, new: str, waits: Callable[[], None]) -> None:
+        self.press("C-r")
+        self.type(f"{old}\n")
+        waits()
+        self.type(f"{new}\n")
+
     def undo(self) -> None:
         self.press("C-z")
 
@@ -327,14 +344,17 @@ class Emacs(InTerminal):
         self._socket = pathlib.Path(self.case.folder) / f"{self.tag}-{self.person}"
         shutil.rmtree(self._socket, ignore_errors=True)
         self._socket.mkdir(mode=0o700)
-        self.command = shlex.join(["emacs", "-nw", "-Q", "-L", str(EDITORS / "emacs"), "-l", "vialshoal", "-l", "server",
-                                   "--eval", EMACS % (self._socket, NOTE)])
+        self.command = shlex.join([*EMACS, "-L", str(EDITORS / "emacs"), "-l", "vialshoal", "-l", "server",
+                                   "--eval", SERVING % (self._socket, NOTE)])
         super().start()
         wait_for((self._socket / "server").exists, "Emacs to listen", PATIENCE)
 
     def state(self) -> State:
         path = self._socket.with_suffix(".json")
         return self.saved(path, "emacsclient", "-s", str(self._socket / "server"), "--eval", f'(progn (save-state "{path}") t)')
+
+    def grows_old(self) -> None:
+        self.told("emacsclient", "-s", str(self._socket / "server"), "--eval", "(grow-old)")
 
     def go_to(self, line: int) -> None:
         self.press("M-g", "g")
@@ -344,12 +364,18 @@ class Emacs(InTerminal):
         self.press("M-<", "M-x")
         self.type(f"replace-string\n{word}\n\n")
 
+    def rewrite(self, old: str, new: str, waits: Callable[[], None]) -> None:
+        self.press("M-<", "M-%")
+        self.type(f"{old}\n{new}\n")
+        waits()
+        self.type("y")
+
     def undo(self) -> None:
         self.press("C-_")
 
     def goes_on(self) -> bool:
         self.terminal.press("Escape", "Escape", "Escape")
-        return runs(self._process)
+        return alive(self._process)
 
 
 class Neovim(InTerminal):
@@ -370,13 +396,37 @@ class Neovim(InTerminal):
         path = self._socket.with_suffix(".json")
         return self.saved(path, "nvim", "--server", str(self._socket), "--remote-expr", f"luaeval('save_state(_A)', '{path}')")
 
+    def grows_old(self) -> None:
+        self.told("nvim", "--server", str(self._socket), "--remote-expr", "luaeval('grow_old()')")
+
     def go_to(self, line: int) -> None:
         self.press(*NORMAL)
-        self.type(f"{line}G0i")
+        self.type(f"{line}GI")
 
     def delete(self, word: str) -> None:
         self.press(*NORMAL)
         self.type(f":%s/\\V{word}//\n")
+
+    def rewrite(self, old: str, new: str, waits: Callable[[], None]) -> None:
+        self.press(*NORMAL)
+        self.type(f":%s/\\V{old}/{new}/c\n")
+        waits()
+        self.type("y")
+
+    def write_in_block(self, line: int, more: int, word: str, waits: Callable[[], None]) -> int:
+        """Types a word at the begin of a line, and of so many more; in how many lines that is."""
+        self.press(*NORMAL)
+        with self.pressing():
+            self.terminal.send(f"{line}G0\x16{more}jI".encode())
+        self.wait_for(lambda _: self._says("mode()") == "i", "a block")
+        lines = int(self._says("line(\"'>\") - line(\"'<\") + 1"))
+        self.type(word)
+        waits()
+        self.press("Escape")
+        return lines
+
+    def _says(self, expression: str) -> str:
+        return self.called("nvim", "--server", str(self._socket), "--remote-expr", expression).strip()
 
     def undo(self) -> None:
         self.press(*NORMAL)
@@ -384,7 +434,7 @@ class Neovim(InTerminal):
 
     def goes_on(self) -> bool:
         self.terminal.press(*NORMAL)
-        return runs(self._process)
+        return alive(self._process)
 
 
 class PageInChromium(Writer):
@@ -424,6 +474,14 @@ class PageInChromium(Writer):
         with self.pressing():
             self._run(DELETING, word)
 
+    def rewrite(self, old: str, new: str, waits: Callable[[], None]) -> None:
+        with self.pressing():
+            self._run(SELECTING.replace("DOES", ""), old)
+        for words in new[0], new[1:]:
+            with self.pressing(), self._driven():
+                self._window.type_over(words)
+            waits()
+
     def undo(self) -> None:
         with self.pressing(), self._driven():
             self._window.type(Keys.CONTROL, "z")
@@ -435,7 +493,7 @@ class PageInChromium(Writer):
 
     def goes_on(self) -> bool:
         assert self._browser
-        return runs(self._browser.driver.service.process.pid)
+        return alive(self._browser.driver.service.process.pid)
 
     def close(self) -> None:
         if browser := self._browser:

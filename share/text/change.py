@@ -1,5 +1,6 @@
 """What a change of a text is, how positions follow it, and how it is found by comparing the text before and
 after."""
+import re
 from collections.abc import Callable
 from dataclasses import dataclass, field
 
@@ -7,6 +8,8 @@ from share.text.names import Names
 
 # The line end inside a text.
 LINE_END = b"\r"
+# What is between words, and how many bytes a word may have.
+SPACE, LONGEST_WORD = re.compile(rb"[ \t\r\n]"), 100
 # The bytes that are compared at once; only where these differ they are compared one by one.
 BLOCK = 4_096
 
@@ -21,13 +24,28 @@ class Change:
     # The names of what came or of what went, where it is one stretch of them and they are known.
     names: Names | None = field(default=None, compare=False)
 
-    def moved(self, position: int) -> int:
-        """Where a position is then: after the same character, or where that was."""
-        if position <= self.begin:
+    # Whether whole lines come in at the begin of a line, with which a place there goes; who knows the text says so.
+    opens_line: bool = field(default=False, compare=False)
+
+    def look(self, before: bytes, size: int) -> None:
+        """Notes whether whole lines come in at the begin of a line, by the byte before them, or none, and the size of the text before
+        the change. An empty text has no line."""
+        self.opens_line = self.begin == self.end and size > 0 and before in (b"", LINE_END) and self.new.endswith(LINE_END)
+
+    def moved(self, position: int, is_end: bool = False) -> int:
+        """Where a position is then: after the same character, or where that was; at the begin of a line with that, but for the end of
+        a selection."""
+        if position < self.begin or position == self.begin and (is_end or not self.opens_line):
             return position
         if position < self.end:
             return self.begin
         return position + len(self.new) - (self.end - self.begin)
+
+    def moved_both(self, cursor: int, anchor: int | None) -> tuple[int, int | None]:
+        """Where a cursor and the other end of a selection are then."""
+        if anchor is None:
+            return self.moved(cursor), None
+        return self.moved(cursor, anchor < cursor), self.moved(anchor, cursor < anchor)
 
 
 def make(text: bytearray, changes: list[Change]) -> None:
@@ -55,6 +73,28 @@ def change(before: bytes, after: bytes) -> Change:
     while back and after[ends[1] - back] & 0xC0 == 0x80:
         back -= 1
     return Change(begin, ends[0] - back, bytes(after[begin:ends[1] - back]))
+
+
+def change_of_words(before: bytes, after: bytes) -> Change:
+    """The same, of whole words: what is typed within it meanwhile ends beside a word, and not in one."""
+    one = change(before, after)
+    # What both texts have between the change and the nearest space.
+    begin = begins_word(before, one.begin)
+    end = one.end if one.end == one.begin == begin else ends_word(before, one.end)
+    return Change(begin, end, bytes(after[begin:len(after) - len(before) + end]))
+
+
+def begins_word(text: bytes, position: int) -> int:
+    """Where the word begins that goes on at a position; the position, where no space is near."""
+    found = SPACE.search(text[max(0, position - LONGEST_WORD):position][::-1])
+    return position - found.start() if found else position if position > LONGEST_WORD else 0
+
+
+def ends_word(text: bytes, position: int) -> int:
+    """Where the word ends, with the space after it, that a position follows; the position, where no space is near."""
+    begin = max(0, position - 1)
+    found = SPACE.search(text[begin:begin + LONGEST_WORD])
+    return begin + found.end() if found else len(text) if len(text) <= begin + LONGEST_WORD else position
 
 
 def boundary(text: bytes, position: int) -> int:

@@ -78,6 +78,11 @@ class _Reader:
         part = self.next()
         return (len(part) // self._size if isinstance(part, bytes) else abs(part)) - self._taken
 
+    def replaces(self) -> bool:
+        """Whether something is deleted directly behind what is next."""
+        after = self._op[self._place + 1] if self._place + 1 < len(self._op) else 0
+        return isinstance(after, int) and after < 0
+
     def take(self, count: int) -> bytes:
         """Takes this many units of it; what they insert."""
         part, begin = self.next(), self._taken
@@ -111,16 +116,22 @@ def composed(first: Op, second: Op, units: Units) -> Op:
     return made.done()
 
 
-def transformed(first: Op, second: Op, units: Units) -> tuple[Op, Op]:
+def transformed(first: Op, second: Op, units: Units, behind: int = 0) -> tuple[Op, Op]:
     """Two ops of one text, the first as it is after the second, and the second as it is after the first. In one
-    place what the first inserts stands before what the second does."""
+    place what the first inserts stands before what the second does, but behind so many units of it; where it takes
+    something's place, behind all of it."""
     if not first or not second:
         return first, second
     made_first, made_second = _Maker(), _Maker()
     one, other = _Reader(first, units.size), _Reader(second, units.size)
     while one.has_more() or other.has_more():
         now, then = one.next(), other.next()
-        if isinstance(now, bytes):
+        if isinstance(now, bytes) and isinstance(then, bytes) and (one.replaces() or behind):
+            count = other.left() if one.replaces() else min(behind, other.left())
+            behind -= min(behind, count)
+            made_first.keep(count)
+            made_second.insert(other.take(count))
+        elif isinstance(now, bytes):
             made_second.keep(one.left())
             made_first.insert(one.take(one.left()))
         elif isinstance(then, bytes):
@@ -137,12 +148,12 @@ def transformed(first: Op, second: Op, units: Units) -> tuple[Op, Op]:
     return made_first.done(), made_second.done()
 
 
-def moved(position: int, op: Op, units: Units) -> int:
-    """Where a position is after an op: what comes in just there comes in after it."""
+def moved(position: int, op: Op, units: Units, behind: bool = False) -> int:
+    """Where a position is after an op: before or behind what comes in just there."""
     left, shift = position, 0
     for part in op:
         if isinstance(part, bytes):
-            if left <= 0:
+            if left < 0 or left == 0 and not behind:
                 break
             shift += units.count(part)
         elif part > 0:
@@ -153,6 +164,11 @@ def moved(position: int, op: Op, units: Units) -> int:
         if left < 0:
             break
     return position + shift
+
+
+def brought_to(position: int, op: Op, units: Units) -> int:
+    """How many units an op brings to a position of the text before it."""
+    return sum(units.count(data) for begin, _, data in in_text(op, units) if begin == position)
 
 
 def growth(op: Op, units: Units) -> int:

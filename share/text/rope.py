@@ -100,7 +100,7 @@ class Measured:
 
     def slice(self, begin: int, end: int) -> bytes:
         """The note's bytes from one place to another."""
-        return swapped(self._slice(begin, end))
+        return swapped(self._slice(begin, end)) if begin < end else b""
 
     def position(self, place: int, units: Units) -> int:
         """The number of units before a byte."""
@@ -164,19 +164,19 @@ class Measured:
         return self._ends_of(unit)[number - 1] if number else 0
 
     def _end(self, unit: str) -> int:
-        return self._begin(len(self._parts), unit)
+        ends = self._ends_of(unit)
+        return ends[-1] if ends else 0
 
     def _find(self, place: int) -> tuple[int, int]:
         """The part that has a byte, and where it begins."""
-        number = bisect_right(self._ends_of(AS_BYTES), place)
-        return number, self._begin(number, AS_BYTES)
+        ends = self._ends_of(AS_BYTES)
+        number = bisect_right(ends, place)
+        return number, ends[number - 1] if number else 0
 
     def _byte(self, place: int) -> int:
         """A byte; none goes on after the last one."""
-        if place >= self.size:
-            return 0
         number, begin = self._find(place)
-        return self._parts[number][place - begin]
+        return self._parts[number][place - begin] if number < len(self._parts) else 0
 
     def _slice(self, begin: int, end: int) -> bytes:
         low, before = self._find(begin)
@@ -186,11 +186,12 @@ class Measured:
 
 def _bytes_of(data: bytes, position: int, units: Units, told: int) -> int:
     """The number of bytes before a position in a part."""
-    if data.isascii():
+    before = data[:position]
+    if len(before) == position and before.isascii():
         return position
     text = readable(data)
-    before = units.decode(units.encode(text)[:units.size * position])
+    cut = units.decode(units.encode(text)[:units.size * position])
     # What was cut isn't a begin of the text any more, or is too long.
-    if not text.startswith(before) or units.count(units.encode(before)) != position:
+    if not text.startswith(cut) or units.count(units.encode(cut)) != position:
         raise Split(f"Position {told} is inside a character.")
-    return len(data.decode("utf-8", "surrogateescape")[:len(before)].encode("utf-8", "surrogateescape"))
+    return len(data.decode("utf-8", "surrogateescape")[:len(cut)].encode("utf-8", "surrogateescape"))

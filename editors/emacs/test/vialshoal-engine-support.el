@@ -30,7 +30,14 @@
          (when (buffer-local-value 'vialshoal--note buffer)
            (kill-buffer buffer)))
        (vialshoal--close-all)
-       (delete-directory vialshoal-engine--folder t))))
+       (vialshoal-engine--delete-folder))))
+
+(defun vialshoal-engine--delete-folder ()
+  "Delete the test's folder, in which an engine that ends may still write."
+  (vialshoal-engine--wait
+   (lambda ()
+     (ignore-errors (delete-directory vialshoal-engine--folder t))
+     (not (file-exists-p vialshoal-engine--folder)))))
 
 (defconst vialshoal-engine--patience 120
   "How many seconds are waited for what has to come.")

@@ -22,6 +22,21 @@
         (vialshoal-engine--command #'delete-char 4))
       (vialshoal-engine--shows bo "🍰漢!\r\nmilk"))))
 
+(ert-deftest vialshoal-engine-a-line-is-killed-above-which-another-opens-one ()
+  (vialshoal-engine-with-folder
+    (pcase-let ((`(,ada ,bo) (vialshoal-engine--two)))
+      (vialshoal-engine--type ada "tea\nmilk\nrice")
+      (vialshoal-engine--shows bo "tea\nmilk\nrice")
+      (with-current-buffer ada
+        (vialshoal-engine--command #'goto-char 5))
+      (with-current-buffer bo
+        (goto-char 5)
+        (vialshoal-engine--command #'insert "jam\n"))
+      (vialshoal-engine--shows ada "tea\njam\nmilk\nrice")
+      (with-current-buffer ada
+        (vialshoal-engine--command #'kill-line))
+      (vialshoal-engine--shows bo "tea\njam\n\nrice"))))
+
 (ert-deftest vialshoal-engine-undo-takes-back-ones-own-edit ()
   (vialshoal-engine-with-folder
     (pcase-let ((`(,ada ,bo) (vialshoal-engine--two)))
@@ -43,6 +58,16 @@
         (vialshoal-redo))
       (vialshoal-engine--shows ada "mi yours ne")
       (vialshoal-engine--shows bo "mi yours ne"))))
+
+(ert-deftest vialshoal-engine-an-undo-takes-twenty-keys-back ()
+  (vialshoal-engine-with-folder
+    (let ((ada (vialshoal-engine--open "Ada")))
+      (dolist (words '("aaaaaaaaaaaa" "bbbbbbbb" "ccc"))
+        (vialshoal-engine--type ada words)
+        (vialshoal-engine--wait (lambda () (vialshoal-engine--is-quiet ada))))
+      (with-current-buffer ada
+        (vialshoal-undo))
+      (vialshoal-engine--shows ada "aaaaaaaaaaaabbbbbbbb"))))
 
 (ert-deftest vialshoal-engine-two-who-edit-at-random-meet ()
   (vialshoal-engine-with-folder

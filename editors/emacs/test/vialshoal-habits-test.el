@@ -207,7 +207,7 @@ sys.exit(main())
                                "before is in *picnic as it was here*"))))
       (kill-buffer "*picnic as it was here*"))))
 
-(ert-deftest vialshoal-habits-undo-takes-a-count-and-no-region ()
+(ert-deftest vialshoal-habits-undo-takes-a-count-and-a-region ()
   (vialshoal-engine-with-folder
     (let ((ada (vialshoal-engine--open "Ada")) (transient-mark-mode t))
       (with-current-buffer ada
@@ -220,18 +220,35 @@ sys.exit(main())
         (vialshoal-engine--shows ada "three\nfour\n")
         (vialshoal-redo 2)
         (vialshoal-engine--shows ada "one\ntwo\nthree\nfour\n")
-        (goto-char 1)
-        (push-mark 5 t t)
-        (dolist (arg '(nil 1 (4)))
-          (should (string-match-p
-                   "no undo within a region"
-                   (cadr (should-error (vialshoal-undo arg)
-                                       :type 'user-error)))))
-        (deactivate-mark)
-        (should-error (vialshoal-undo '(4)) :type 'user-error)
-        (should (equal (vialshoal-support--text) "one\ntwo\nthree\nfour\n"))
+        ;; The last edit in the region, which stays.
+        (goto-char 9)
+        (push-mark 15 t t)
         (vialshoal-undo)
-        (vialshoal-engine--shows ada "two\nthree\nfour\n")))))
+        (vialshoal-engine--shows ada "one\ntwo\nfour\n")
+        (should (equal (list mark-active (point) (mark)) '(t 9 9)))
+        ;; By C-u the mark is enough; and there may be nothing in between.
+        (deactivate-mark)
+        (goto-char 2)
+        (set-marker (mark-marker) 4)
+        (let (said)
+          (cl-letf (((symbol-function 'message)
+                     (lambda (format &rest rest)
+                       (setq said (apply #'format format rest)))))
+            (vialshoal-undo '(4))
+            (vialshoal-engine--wait (lambda () said)))
+          (should (equal said "You have nothing to take back in the region")))
+        (goto-char 1)
+        (set-marker (mark-marker) 9)
+        (vialshoal-undo '(4))
+        (vialshoal-engine--shows ada "two\nfour\n")
+        ;; A count takes back so many of them.
+        (goto-char 1)
+        (push-mark 10 t t)
+        (vialshoal-undo 2)
+        (vialshoal-engine--shows ada "")
+        (deactivate-mark)
+        (vialshoal-redo 4)
+        (vialshoal-engine--shows ada "one\ntwo\nthree\nfour\n")))))
 
 (ert-deftest vialshoal-habits-an-indirect-buffer-is-a-part-of-the-note ()
   (vialshoal-engine-with-folder
@@ -269,6 +286,30 @@ sys.exit(main())
     (dolist (name (list "café" "" ".hidden" "a b" (make-string 65 ?a)))
       (should-error (vialshoal-open name) :type 'user-error)
       (should-not (get-buffer (format "*note %s*" name))))))
+
+;; What `vialshoal-open' asks is answered in place of the user.
+(ert-deftest vialshoal-habits-a-typing-error-makes-no-note ()
+  (vialshoal-engine-with-folder
+    (let* ((data (expand-file-name "Ada" vialshoal-engine--folder))
+           (process-environment
+            (cons (concat "VIALSHOAL_DATA=" data) process-environment))
+           (names nil) (typed "picnik") (answer nil) (asked nil))
+      (vialshoal-engine--open "Ada")
+      (cl-letf (((symbol-function 'completing-read)
+                 (lambda (_ table &rest _) (setq names table) typed))
+                ((symbol-function 'y-or-n-p)
+                 (lambda (words) (setq asked words) answer)))
+        (let ((buffer (call-interactively #'vialshoal-open)))
+          (vialshoal-engine--wait (lambda () (not (buffer-live-p buffer)))))
+        (should (string-match-p "no note picnik here" asked))
+        (should (equal names '("picnic")))
+        (should-not (file-exists-p
+                     (expand-file-name "notes/picnik.note" data)))
+        (setq typed "plan" answer t)
+        (with-current-buffer (call-interactively #'vialshoal-open)
+          (vialshoal-engine--wait (lambda () vialshoal--is-open))
+          (should (equal (vialshoal--names) '("picnic" "plan")))
+          (kill-buffer))))))
 
 (defmacro vialshoal-habits--with-closed-note (&rest body)
   "Run BODY with the note picnic of Ada closed, and its folder set."

@@ -262,6 +262,21 @@
     (should (equal (plist-get (car (vialshoal-support--sent)) :changes)
                    '((10 10 "-"))))))
 
+(ert-deftest vialshoal-test-filling-keeps-the-words ()
+  (vialshoal-support-with-note
+      (vialshoal-test--opened "one two\nthree  four\nfive six seven\n")
+    (goto-char (point-min))
+    (setq fill-column 9)
+    (vialshoal-test--command #'fill-paragraph)
+    (should (equal (vialshoal-support--text)
+                   "one two\nthree\nfour five\nsix seven\n"))
+    (pcase-dolist (`(,begin ,end ,new)
+                   (mapcan (lambda (line) (plist-get line :changes))
+                           (vialshoal-support--sent)))
+      (should (<= (- end begin) 2))
+      (should (string-blank-p new)))
+    (vialshoal-support--check-mirror)))
+
 (ert-deftest vialshoal-test-only-characters-of-unicode-are-sent ()
   (vialshoal-support-with-note (vialshoal-test--opened "ab\n")
     (vialshoal-test--command #'insert (string ?x #x3fff80 #xd800 ?y))

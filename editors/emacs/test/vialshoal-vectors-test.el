@@ -38,6 +38,12 @@
    ((plist-get step :line)
     (vialshoal--take-line
      (json-serialize (vialshoal-vectors--with-vectors (plist-get step :line)))))
+   ((plist-get step :place)
+    (pcase-let ((`(,at . ,anchor) (plist-get step :place)))
+      (goto-char (1+ at))
+      (if anchor
+          (push-mark (1+ (car anchor)) t t)
+        (setq mark-active nil))))
    ((plist-get step :key)
     (should (eq (plist-get step :waits) (vialshoal--is-behind))))
    ((plist-get step :patience) (vialshoal--caught-up))
@@ -64,7 +70,8 @@
     (:types (plist-get vialshoal--state :types))
     (:words vialshoal--words)
     (:cursors vialshoal--cursors)
-    (:cursor (1- (point)))))
+    (:cursor (1- (point)))
+    (:place (cons (1- (point)) (and mark-active (list (1- (mark))))))))
 
 (defun vialshoal-vectors--joined (edits)
   "Return the changes of EDITS one behind the other.

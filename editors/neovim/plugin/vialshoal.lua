@@ -16,8 +16,15 @@ vim.api.nvim_create_autocmd('SessionLoadPost', { group = group, callback = funct
 end })
 
 command('Vialshoal', function(given)
-  require('vialshoal').open(given.fargs[1], given.fargs[2])
-end, { nargs = '+', desc = 'Open a note: its name, and perhaps the log that carries it' })
+  require('vialshoal').open(given.fargs[1], given.fargs[2], nil, given.bang)
+end, {
+  nargs = '+',
+  bang = true,
+  desc = 'Open a note: its name, and perhaps the log that carries it; with ! a new one',
+  complete = function(begun)
+    return require('vialshoal').names(begun)
+  end,
+})
 
 command('VialshoalJoin', function(given)
   require('vialshoal').open(given.args, nil, vim.fn.inputsecret('Link: '))

@@ -27,7 +27,7 @@ end
 --- Starts a Neovim that is opening the note picnic.
 function Child.opening(folder, person, log, link, program)
   local self = Child.started(folder, person, nil, link, program)
-  vim.rpcrequest(self.job, 'nvim_command', 'Vialshoal picnic ' .. (log or ''))
+  vim.rpcrequest(self.job, 'nvim_command', 'Vialshoal! picnic ' .. (log or ''))
   return self
 end
 
@@ -42,6 +42,11 @@ end
 --- Runs Lua in it.
 function Child:run(code, ...)
   return vim.rpcrequest(self.job, 'nvim_exec_lua', code, { ... })
+end
+
+--- Has it do what it has put off until its keys were taken.
+function Child:does_the_rest()
+  self:run('local done; vim.schedule(function() done = true end); vim.wait(..., function() return done end)', support.PATIENCE)
 end
 
 --- Types keys, as a terminal would send them.

@@ -126,7 +126,7 @@ with_folder('however much waits, a command is carried over', function(_, folder)
   local function opened()
     local child = Child.started(folder, 'Ada')
     child:run([[v.setup({ command = { '/usr/bin/python3', '-B', '-c', ... } })]], program)
-    child:type('<Cmd>Vialshoal picnic<CR>')
+    child:type('<Cmd>Vialshoal! picnic<CR>')
     support.wait(function() return child:run('return v.note().is_open and v.note().state.types == true') end)
     return child
   end
@@ -244,7 +244,7 @@ with_folder('a note is opened by its name, and by a session', function(open, fol
   end, 'the session\'s note')
   support.same({ 'one', 'two' }, again:run('return vim.api.nvim_buf_get_lines(..., 0, -1, false)', buffer))
   again:type(':only<CR>:bdelete ' .. buffer .. '<CR>')
-  again:run('vim.wait(50)')
+  again:does_the_rest()
   again:quit()
   again = Child.started(folder, 'Ada')
   again:type(':edit vialshoal://picnic<CR>')
@@ -273,11 +273,38 @@ with_folder('no note is made for a name that is none', function(_, folder)
   ada:quit()
 end)
 
+with_folder('a typing error makes no note', function(open, folder)
+  local ada, notes = open('Ada'), folder .. '/Ada/notes'
+  ada:run([[
+    asked, answer = {}, 2
+    vim.fn.confirm = function(words)
+      table.insert(asked, words)
+      return answer
+    end
+  ]])
+  local buffers = ada:run('return #vim.api.nvim_list_bufs()')
+  for number, opens in ipairs({ ':Vialshoal picnik<CR>', ':edit vialshoal://picnik<CR>' }) do
+    ada:type(opens)
+    support.wait(function()
+      return ada:run('return #asked') == number and ada:run('return #vim.tbl_keys(v.notes())') == 1
+    end, 'a question')
+  end
+  support.same('There is no note picnik here. Make a new one?', ada:run('return asked[1]'))
+  support.same({ notes .. '/picnic.note' }, vim.fn.glob(notes .. '/*.note', true, true))
+  support.same(buffers, ada:run('return #vim.api.nvim_list_bufs()'))
+  ada:run('answer = 1')
+  ada:type(':Vialshoal plan<CR>')
+  support.wait(function() return ada:run('return v.note().name == "plan" and v.note().is_open') end, 'a new note')
+  support.same({ 'picnic', 'plan' }, ada:run([[return vim.fn.getcompletion('Vialshoal p', 'cmdline')]]))
+  support.same({ 'plan' }, ada:run([[return vim.fn.getcompletion('Vialshoal pl', 'cmdline')]]))
+  ada:quit()
+end)
+
 with_folder('others see the name that the environment says', function(open, folder)
   vim.env.VIALSHOAL_NAME = 'Zoë'
   local zoe = Child.started(folder, 'Ada', '')
   vim.env.VIALSHOAL_NAME = nil
-  zoe:type(':Vialshoal picnic<CR>')
+  zoe:type(':Vialshoal! picnic<CR>')
   support.wait(function() return zoe:run('return v.note().is_open and v.note().state.types == true') end)
   local ada = open('Ada')
   zoe:type('iwords<Esc>')

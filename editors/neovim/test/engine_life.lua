@@ -81,7 +81,12 @@ end)
 
 with_folder('what was closed just before the end is read', function(open, folder)
   local ada = open('Ada')
-  ada:run('v.setup({ command = { "sh", "-c", "sleep 1; cat >$0", ... } })', folder .. '/read')
+  -- It reads once Neovim ends.
+  ada:run([[
+    local path = ...
+    v.setup({ command = { 'sh', '-c', 'while [ ! -e "$0.ends" ]; do sleep 0.01; done; cat >"$0"', path } })
+    vim.api.nvim_create_autocmd('ExitPre', { callback = function() vim.fn.writefile({}, path .. '.ends') end })
+  ]], folder .. '/read')
   ada:type('<Cmd>Vialshoal other<CR>')
   ada:type('<Cmd>bwipeout!<CR>')
   ada:quit()
@@ -107,10 +112,14 @@ with_folder('what commands do with files leaves the text', function(open, folder
   ada:type('<Cmd>write ' .. folder .. '/saved<CR>')
   support.wait(function() return vim.fn.filereadable(folder .. '/saved') == 1 end, 'the file')
   support.same({ 'one', 'two', 'three' }, vim.fn.readfile(folder .. '/saved', 'b'))
+  ada:type('<Cmd>saveas ' .. folder .. '/copied<CR>')
+  support.wait(function() return vim.fn.filereadable(folder .. '/copied') == 1 end, 'the copy')
+  support.same({ 'one', 'two', 'three' }, vim.fn.readfile(folder .. '/copied', 'b'))
+  ada:does_the_rest()
+  support.same({ 'vialshoal://picnic', 0 }, ada:run('return { vim.fn.bufname(), vim.fn.bufexists(...) }', folder .. '/copied'))
   support.wait(function() return ada:is_quiet() end)
   ada:type('<Cmd>bwipeout!<CR>')
-  -- What is done later is done then.
-  ada:run('vim.wait(50)')
+  ada:does_the_rest()
   ada:quit()
   support.same('one\ntwo\nthree', open('Ada'):text())
 end)

@@ -84,6 +84,12 @@ with_folder('cursors and selections stay where they are', function(open, folder)
   ada:shows('<new 🍰xy\n>> one\ntwo\n!!three ')
   ada:type('z<Esc>')
   bo:shows('<new 🍰xyz\n>> one\ntwo\n!!three ')
+  -- At a line's begin, where another line is opened above.
+  ada:type('3G0')
+  bo:type('3GOmore<Esc>')
+  ada:shows('<new 🍰xyz\n>> one\nmore\ntwo\n!!three ')
+  ada:type('dd')
+  bo:shows('<new 🍰xyz\n>> one\nmore\n!!three ')
 end)
 
 with_folder('others\' cursors are shown with their names', function(open)

@@ -104,6 +104,30 @@ test('bytes that are of no character are replaced where they are typed', functio
   fake.check(note)
 end)
 
+test('a cursor on a character goes with it', function()
+  for keys, expected in pairs({
+    dd = 'tea\njam\nrice', dw = 'tea\njam\ntea\nrice', x = 'tea\njam\nilk tea\nrice', D = 'tea\njam\n\nrice',
+    ['vjd'] = 'tea\njam\nice', ['Vd'] = 'tea\njam\nrice',
+  }) do
+    local note = fake.with('tea\nmilk tea\nrice')
+    vim.cmd('normal! 2G0')
+    fake.others(note, { 4, 4, 'jam\n' })
+    support.same({ 3, 0 }, vim.api.nvim_win_get_cursor(0))
+    vim.cmd('normal! ' .. keys)
+    support.same(expected, support.text(note))
+  end
+  local note = fake.with('tea\n\nrice')
+  vim.cmd('normal! gg02l')
+  fake.others(note, { 2, 2, 'ns, te' })
+  support.same({ 1, 8 }, vim.api.nvim_win_get_cursor(0))
+  -- An empty line has no character: what comes into it comes behind the cursor.
+  vim.cmd('normal! 2G')
+  fake.others(note, { 10, 10, 'jam' })
+  support.same({ 2, 0 }, vim.api.nvim_win_get_cursor(0))
+  fake.others(note, { 10, 10, 'oat\n' })
+  support.same({ 3, 0 }, vim.api.nvim_win_get_cursor(0))
+end)
+
 test('NUL is a character as any other', function()
   local note = fake.with('a\0b\n')
   same('a\0b\n', support.text(note))
@@ -120,6 +144,19 @@ test('a key goes where it was typed', function()
   fake.check(note)
 end)
 
+test('what is typed in a block goes where it was typed', function()
+  local note = fake.with('aab\naac\naad')
+  vim.cmd('normal! 1G0\22jjIaa\27')
+  same({ { 0, 0, 'aa' }, { 6, 6, 'aa' }, { 12, 12, 'aa' } }, fake.changes(note))
+  fake.check(note)
+  vim.cmd('%s/aa\\ze[cd]/a,a')
+  same({ { 9, 9, ',' }, { 16, 16, ',' } }, fake.changes(note))
+  -- What is put before what begins alike.
+  vim.cmd('%s/^/aaa')
+  same({ { 0, 0, 'aaa' }, { 9, 9, 'aaa' }, { 19, 19, 'aaa' } }, fake.changes(note))
+  fake.check(note)
+end)
+
 test('a key goes where it was typed, though Vim tells late where a line end came', function()
   local note = fake.with('b\nn1\nn2\n')
   vim.cmd('normal! 1G0ix\13')
@@ -132,6 +169,33 @@ test('a key goes where it was typed, though Vim tells late where a line end came
   same({ { 3, 3, '\n' } }, fake.changes(note))
   same({ { 2, 2, 'x' } }, text.change('abc', 'abxc', 0, 1))
   same({ { 1, 1, 'b' } }, text.change('abc', 'abbc', 0, 1))
+end)
+
+test('filling keeps the words', function()
+  local note = fake.with('one two\nthree  four\nfive six seven\n')
+  vim.bo[note.buffer].textwidth = 10
+  vim.cmd('normal! gggqap')
+  same('one two\nthree\nfour five\nsix seven\n', support.text(note))
+  local changes = fake.changes(note)
+  same(support.text(note), replayed('one two\nthree  four\nfive six seven\n', changes))
+  for _, change in ipairs(changes) do
+    same(true, change[2] - change[1] <= 2 and change[3]:find('%S') == nil, vim.inspect(change))
+  end
+  fake.check(note)
+end)
+
+test('what is replaced all over a line leaves the words between', function()
+  local note = fake.with('so the cat and the dog and the cow\n')
+  vim.cmd('s/the/THE/g')
+  same({ { 3, 6, 'THE' }, { 15, 18, 'THE' }, { 27, 30, 'THE' } }, fake.changes(note))
+  vim.cmd('s/THE c/a  c/g')
+  same({ { 3, 6, 'a' }, { 4, 5, '  ' }, { 26, 29, 'a' }, { 27, 27, ' ' } }, fake.changes(note))
+  vim.cmd('s/dog.*/one two/')
+  same({ { 18, 32, 'one two' } }, fake.changes(note))
+  fake.check(note)
+  note = fake.with('the cat the\n')
+  vim.cmd('s/the/THE/g')
+  same({ { 0, 3, 'THE' }, { 8, 11, 'THE' } }, fake.changes(note))
 end)
 
 test('much is sent in parts that are undone together', function()
@@ -200,13 +264,13 @@ test('all that changes at random is sent', function()
   end
 end)
 
-test('cursors stay behind their characters', function()
+test('cursors stay on their characters', function()
   local note = fake.with('one two three\nfour')
   vim.api.nvim_win_set_cursor(0, { 1, 4 })
   fake.others(note, { 0, 0, '>>\n' }, { 3, 6, '1' })
   same({ 2, 2 }, vim.api.nvim_win_get_cursor(0))
   fake.others(note, { 5, 5, 'X' })
-  same({ 2, 2 }, vim.api.nvim_win_get_cursor(0))
+  same({ 2, 3 }, vim.api.nvim_win_get_cursor(0))
   fake.others(note, { 4, 9, 'new' })
   same({ 2, 1 }, vim.api.nvim_win_get_cursor(0))
 end)

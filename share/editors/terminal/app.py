@@ -10,7 +10,7 @@ from contextlib import suppress
 
 from share.editors.note import EngineNote
 from share.editors.terminal.edits import Edits
-from share.editors.terminal.keys import Event, Key, Pasted
+from share.editors.terminal.keys import Event, Key, Mouse, Pasted
 from share.editors.terminal.layout import ScreenRow, cluster_after, cluster_before, word_after, word_before
 from share.editors.terminal.moves import Moves
 from share.editors.terminal.prompts import Prompts
@@ -31,7 +31,7 @@ EARLY_SECONDS = 1.0
 NOT_CLOSED = "The note was left before it was closed, since it didn't answer."
 BY_ROWS = (Key.UP, Key.DOWN, Key.PAGE_UP, Key.PAGE_DOWN)
 # The keys that edit, besides characters.
-EDITING = (Key.ENTER, Key.BACKSPACE, Key.DELETE, Key.UNDO, Key.REDO, Key.CUT, Key.PUT)
+EDITING = (Key.ENTER, Key.BACKSPACE, Key.DELETE, Key.UNDO, Key.REDO, Key.CUT, Key.KILL, Key.PUT)
 
 OpenNote = Callable[[Bar, Callable[[], None]], EngineNote]
 
@@ -60,6 +60,7 @@ class Editor:
             Key.ENTER: lambda: edits.type("\r"), Key.BACKSPACE: edits.backspace, Key.DELETE: edits.delete,
             Key.UNDO: edits.undo, Key.REDO: edits.redo, Key.REPLACE: lambda: ask("Replace", edits.ask_for_replacement),
             Key.MARK: view.mark, Key.ESCAPE: view.unmark, Key.CUT: edits.cut, Key.COPY: edits.copy, Key.PUT: edits.put,
+            Key.KILL: edits.kill,
             Key.FIND: lambda: ask("Find", self._find), Key.SAVE: self._saving.ask, Key.QUIT: self._quit,
             Key.OTHER: lambda: self._line.say(HELP),
         }
@@ -123,14 +124,18 @@ class Editor:
 
     def _is_early(self, key: Event) -> bool:
         """Whether a key waits for the number of a note that has just been opened."""
-        edits = key not in self._commands or key in EDITING
+        edits = not isinstance(key, Mouse) and (key not in self._commands or key in EDITING)
         can_wait = not (self._prompts.asks or self.work.failure or self.work.status.can_type)
         return edits and can_wait and time.monotonic() < self._opened + EARLY_SECONDS
 
     def _command(self, key: Event) -> None:
         if key not in BY_ROWS:
             self._moves.forget_column()
-        if isinstance(key, Pasted):
+        if key is not Key.KILL:
+            self._edits.end_kill()
+        if isinstance(key, Mouse):
+            self._moves.mouse(key)
+        elif isinstance(key, Pasted):
             self._edits.paste(key)
         elif isinstance(key, Key) and (command := self._commands.get(key)):
             command()
@@ -138,6 +143,7 @@ class Editor:
     def _type(self, characters: str) -> None:
         if characters:
             self._moves.forget_column()
+            self._edits.end_kill()
             self._edits.type(characters)
 
     def _find(self, words: str) -> None:
@@ -173,8 +179,7 @@ class Editor:
         asks = self._prompts.asks and not words
         said = (words or self._prompts.words(), "") if words or asks else self._line.words(
             self.work.status, self._waiting.silent, self.work.failure)
-        others = [place for place, _ in self._view.others]
-        self._screen.draw(rows, self._view.cursor, said, asks, others, self._view.selected())
+        self._screen.draw(rows, self._view.cursor, said, asks, self._view.others, self._view.selected())
 
     def _rows(self) -> list[ScreenRow]:
         try:
@@ -209,7 +214,7 @@ def edit(window: "curses.window", name: str, open_note: OpenNote) -> EngineNote:
     """Opens a note with a bar, and edits it on a window. All that the note does is done in one thread, which
     isn't this one. Raises Trouble at the end where the note ended the editing."""
     screen, thread = Screen(window), Worker()
-    with screen.pastes():
+    with screen.tells():
         note, status = opened_with_bar(screen, name, open_note, thread)
         editor = Editor(screen, name, note, status, thread)
         editor.run()

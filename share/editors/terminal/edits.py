@@ -6,6 +6,7 @@ from share.editors.terminal.prompts import Prompts
 from share.editors.terminal.status_line import StatusLine
 from share.editors.terminal.view import View
 from share.editors.terminal.work import Work
+from share.text.change import LINE_END
 from share.text.errors import counted
 
 
@@ -14,8 +15,8 @@ class Edits:
 
     def __init__(self, note: EngineNote, work: Work, view: View, line: StatusLine, prompts: Prompts):
         self._note, self._work, self._view, self._line, self._prompts = note, work, view, line, prompts
-        # What was cut or copied last.
-        self._kept = ""
+        # What was cut or copied last, and whether it goes on with what is cut next to a line's end.
+        self._kept, self._kills = "", False
 
     def type(self, characters: str) -> None:
         """Types characters, if there are any."""
@@ -43,6 +44,19 @@ class Edits:
         if stretch := self._view.selected():
             self.copy()
             self._erase(*stretch)
+
+    def kill(self) -> None:
+        """Keeps what is left of the line, or its end where nothing is, and deletes it; what is killed in one go is kept together."""
+        text, begin = self._view.text, self._view.cursor
+        end = text.find(LINE_END, begin)
+        end = len(text) if end < 0 else end + (end == begin)
+        self._kept = (self._kept if self._kills else "") + text[begin:end].decode("utf-8", "ignore")
+        self._kills = True
+        self._erase(begin, end)
+
+    def end_kill(self) -> None:
+        """What is killed next is kept by itself."""
+        self._kills = False
 
     def put(self) -> None:
         """Types what was cut or copied last."""

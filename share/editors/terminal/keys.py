@@ -28,6 +28,8 @@ LONGEST_PASTE = 1 << 24
 LONGEST_SEQUENCE = 4_096
 
 PASTES_ON, PASTES_OFF = b"\x1b[?2004h", b"\x1b[?2004l"
+# The buttons, the moves while one is down, and the wheel, spelled as numbers.
+MOUSE_ON, MOUSE_OFF = b"\x1b[?1002h\x1b[?1006h", b"\x1b[?1006l\x1b[?1002l"
 _PASTE_BEGIN, _PASTE_END = b"\x1b[200~", b"\x1b[201~"
 
 
@@ -66,6 +68,7 @@ class Key(Enum):
     CUT = auto()
     COPY = auto()
     PUT = auto()
+    KILL = auto()
     FIND = auto()
     SAVE = auto()
     QUIT = auto()
@@ -82,12 +85,31 @@ class Pasted:
     too_long: bool = False
 
 
-# A key, a pasted text, or characters that were typed.
-Event = Key | Pasted | str
+class Button(Enum):
+    """What the mouse does."""
+
+    DOWN = auto()
+    MOVED = auto()
+    UP = auto()
+    WHEEL_UP = auto()
+    WHEEL_DOWN = auto()
+
+
+@dataclass(frozen=True)
+class Mouse:
+    """The mouse at a cell of the screen: its first button, moved while that is down, or its wheel."""
+
+    does: Button
+    column: int
+    line: int
+
+
+# A key, a pasted text, the mouse, or characters that were typed.
+Event = Key | Pasted | Mouse | str
 
 _CONTROLS = {"\r": Key.ENTER, "\n": Key.ENTER, "\b": Key.BACKSPACE, "\x7f": Key.BACKSPACE, "\x1a": Key.UNDO,
              "\x19": Key.REDO, "\x12": Key.REPLACE, "\x0c": Key.LINE, "\0": Key.MARK, "\x18": Key.CUT,
-             "\x16": Key.PUT,
+             "\x16": Key.PUT, "\x01": Key.HOME, "\x05": Key.END, "\x0b": Key.KILL,
              "\x06": Key.FIND, "\x13": Key.SAVE, "\x11": Key.QUIT, "\x03": Key.ESCAPE, "\x07": Key.ESCAPE}
 # By the last letter of a sequence, and by the number of one that ends in ~.
 _LETTERS = {"A": Key.UP, "B": Key.DOWN, "C": Key.RIGHT, "D": Key.LEFT, "H": Key.HOME, "F": Key.END}
@@ -97,13 +119,17 @@ _ALT: dict[str, Key] = {"w": Key.COPY, "b": Key.WORD_LEFT, "f": Key.WORD_RIGHT, 
 # The keys of a number pad that is switched to sequences.
 _PAD: dict[str, Event] = {"M": Key.ENTER, "X": "=", **dict(zip("jklmnopqrstuvwxy", "*+,-./0123456789"))}
 _SHIFT = 1
+# A mouse's number, without the bits of what is held beside; and what it is as the button is let go.
+_MOUSE, _HELD = {0: Button.DOWN, 32: Button.MOVED, 64: Button.WHEEL_UP, 65: Button.WHEEL_DOWN}, 4 | 8 | 16
 
 _TEXT = re.compile(rb"[\t\x20-\x7e\x80-\xff]+")
 # The sequences of xterm, tmux, screen, rxvt and the Linux console; Alt puts one more Esc before in some.
 _SEQUENCE = re.compile(rb"""\x1b(?:
     \x1b?\[\[[A-E]
-  | \x1b?\[(?P<numbers>[0-9;]{0,16})(?P<last>[@-Z\\-~$])
-  | \x1b?\[[0-?]*[ -/]*[@-Z\\-~]
+  | \[<(?P<mouse>[0-9]{1,5};[0-9]{1,5};[0-9]{1,5})(?P<mouse_last>[Mm])
+  | \[M[\x20-\xff]{3}
+  | \x1b?\[(?!M)(?P<numbers>[0-9;]{0,16})(?P<last>[@-Z\\-~$])
+  | \x1b?\[(?!M)[0-?]*[ -/]*[@-Z\\-~]
   | \x1b?O(?P<pad_numbers>[0-9;]{0,16})(?P<pad>[@-~])
   | [\]P_^X][^\x07\x1b]*(?:\x07|\x1b\\)
   | (?P<alt>[\0-\x1a\x1c-NQ-WYZ\\`-\x7f]
@@ -111,7 +137,7 @@ _SEQUENCE = re.compile(rb"""\x1b(?:
     )""", re.VERBOSE)
 # What can become a sequence with more bytes.
 _UNFINISHED = re.compile(rb"""\x1b(?:
-    \x1b?(?:\[(?:\[|[0-?]*[ -/]*)?)?
+    \x1b?(?:\[(?:\[|M[\x20-\xff]{0,2}|[0-?]*[ -/]*)?)?
   | \x1b?O[0-9;]*
   | [\]P_^X][^\x07\x1b]*\x1b?
   | [\xc0-\xf7][\x80-\xbf]{0,2}
@@ -241,6 +267,11 @@ class Keyboard:
             last = found["pad"].decode()
             yield _PAD.get(last) or _with(found[0], _LETTERS.get(last.upper()), found["pad_numbers"],
                                           last.islower())
+        elif found["mouse"] is not None:
+            number, column, line = map(int, found["mouse"].split(b";"))
+            does = _MOUSE.get(number & ~_HELD)
+            if does:
+                yield Mouse(Button.UP if found["mouse_last"] == b"m" else does, column - 1, line - 1)
         elif found["last"] is not None:
             yield _of_sequence(found[0], found["numbers"], found["last"].decode())
         # Whatever else a terminal sends is no key.

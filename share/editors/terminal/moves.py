@@ -1,10 +1,14 @@
 """Moving the cursor."""
 from collections.abc import Callable
 
+from share.editors.terminal.keys import Button, Mouse
 from share.editors.terminal.layout import cluster_before
 from share.editors.terminal.screen import Screen
 from share.editors.terminal.view import View
 from share.text.change import LINE_END
+
+# By how many rows the wheel scrolls.
+WHEEL = {Button.WHEEL_UP: -3, Button.WHEEL_DOWN: 3}
 
 
 class Moves:
@@ -43,6 +47,27 @@ class Moves:
         rows = count * max(1, self._screen.height - 1)
         self.rows(rows)
         self._view.scroll(rows)
+
+    def wheel(self, rows: int) -> None:
+        """Scrolls, and has the cursor stay on the screen."""
+        view = self._view
+        view.scroll(rows)
+        shown = view.layout.below(view.layout.row_at(view.top), self._screen.height)
+        row = view.row()
+        if row.begin < shown[0].begin or row.begin > shown[-1].begin:
+            self._column = row.column(view.cursor) if self._column is None else self._column
+            self._view.go_to((shown[0] if row.begin < shown[0].begin else shown[-1]).position(self._column))
+
+    def mouse(self, mouse: Mouse) -> None:
+        """Goes where the mouse is pressed, selects what it is drawn over, and scrolls by its wheel."""
+        if mouse.does in WHEEL:
+            self.wheel(WHEEL[mouse.does])
+        elif (place := self._view.at(mouse.line, mouse.column)) is not None:
+            self._view.go_to(place)
+            if mouse.does is Button.DOWN:
+                self._view.select_from(place)
+        if mouse.does is Button.UP and not self._view.selected():
+            self._view.unmark()
 
     def to_line(self, number: str) -> None:
         """Moves to the begin of a line, which are counted from 1."""

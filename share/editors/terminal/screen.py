@@ -1,19 +1,19 @@
 """The terminal's screen: what is drawn on it, and what comes from its keys."""
 import curses
 import os
-import select
 import sys
 import time
 from collections import deque
 from collections.abc import Iterator, Sequence
 from contextlib import contextmanager, suppress
 
-from share.editors.terminal.keys import PASTES_OFF, PASTES_ON, Event, Keyboard, safe_for_terminal
+from share.editors.terminal.keys import MOUSE_OFF, MOUSE_ON, PASTES_OFF, PASTES_ON, Event, Keyboard, safe_for_terminal
 from share.editors.terminal.layout import ScreenRow, rows_of
+from share.log.bell import Bell
+from share.log.polling import can_read, ready
 
 # What is read of a paste at a time, and in one read.
 MOST_TYPED_AT_ONCE, READ_BYTES = 1 << 18, 1 << 16
-WAKE_BYTES = 4_096
 
 
 class Screen:
@@ -24,20 +24,19 @@ class Screen:
         self.keys: deque[Event] = deque()
         self.progress: tuple[int, int] | None = None
         self.keyboard = Keyboard()
-        self._woken, self._waking = os.pipe()
-        os.set_blocking(self._waking, False)
+        self._bell = Bell()
         curses.raw()
         window.keypad(False)
 
     @contextmanager
-    def pastes(self) -> Iterator[None]:
-        """The terminal marks what is pasted while this is open."""
+    def tells(self) -> Iterator[None]:
+        """The terminal marks what is pasted, and tells of the mouse, while this is open."""
         self.window.refresh()
-        _send(PASTES_ON)
+        _send(PASTES_ON + MOUSE_ON)
         try:
             yield
         finally:
-            _send(PASTES_OFF)
+            _send(MOUSE_OFF + PASTES_OFF)
 
     @property
     def height(self) -> int:
@@ -51,9 +50,7 @@ class Screen:
 
     def wake(self) -> None:
         """Ends the waiting, from any thread."""
-        # A full pipe wakes as it is.
-        with suppress(BlockingIOError):
-            os.write(self._waking, b"!")
+        self._bell.ring()
 
     def progressed(self, done: int, total: int) -> None:
         """Takes over how much is done of all, from any thread."""
@@ -65,10 +62,10 @@ class Screen:
         due = self.keyboard.due()
         seconds = seconds if due is None else min(seconds, due - time.monotonic())
         try:
-            ready, _, _ = select.select([sys.stdin, self._woken], [], [], max(0, seconds))
-            if self._woken in ready:
-                os.read(self._woken, WAKE_BYTES)
-            typed = self._typed() if sys.stdin in ready else b""
+            found, _ = ready(seconds, [sys.stdin, self._bell])
+            if self._bell.fileno() in found:
+                self._bell.silence()
+            typed = self._typed() if sys.stdin.fileno() in found else b""
         except (OSError, ValueError):
             self.gone, typed = True, b""
         now = time.monotonic()
@@ -78,7 +75,7 @@ class Screen:
     def _typed(self) -> bytes:
         """What the terminal has sent; of a long paste, a good part."""
         out = bytearray()
-        while len(out) < MOST_TYPED_AT_ONCE and select.select([sys.stdin], [], [], 0)[0]:
+        while len(out) < MOST_TYPED_AT_ONCE and can_read(sys.stdin, 0):
             if not (more := os.read(sys.stdin.fileno(), READ_BYTES)):
                 self.gone = True
                 break
@@ -110,6 +107,26 @@ class Screen:
             with suppress(curses.error):
                 self.window.chgat(line, min(first, self.width), max(1, last - first), curses.A_REVERSE)
 
+    def _name(self, rows: list[ScreenRow], place: int, name: str) -> None:
+        """Writes the name of who has a cursor at a place after the text of its row, or of a row beside it that has room."""
+        at = next((line for line, row in enumerate(rows) if row.begin <= place < row.end), len(rows) - 1)
+        at = next((line for line, row in enumerate(rows) if place == row.begin), at)
+        for line, sign in (at, ""), (at + 1, "\u2191"), (at - 1, "\u2193"):
+            if 0 <= line < self.height and (line < len(rows) or line == at + 1):
+                used = sum(width for _, _, width in rows[line].cells) + 2 if line < len(rows) else 0
+                if self._flag(line, used, sign + safe_for_terminal(name)):
+                    return
+
+    def _flag(self, line: int, column: int, words: str) -> bool:
+        """Writes words where the line has room for them, and nothing else was written; whether it has."""
+        cells = rows_of(words.encode("utf-8", "ignore"), self.width)[0][2]
+        size = sum(width for _, _, width in cells)
+        with suppress(curses.error):
+            if column + size <= self.width and not self.window.instr(line, column).strip():
+                self.window.addstr(line, column, "".join(seen for _, seen, _ in cells), curses.A_REVERSE | curses.A_DIM)
+                return True
+        return False
+
     def say(self, left: str, right: str = "") -> tuple[int, int]:
         """Draws the status line, with more to the right where there is room, and gives the place after what is
         said. Long words take lines of the text, too."""
@@ -123,7 +140,7 @@ class Screen:
         return self.height, 1 + size
 
     def draw(self, rows: list[ScreenRow], cursor: int, words: tuple[str, str], asks: bool = False,
-             others: Sequence[int] = (), selected: tuple[int, int] | None = None) -> None:
+             others: Sequence[tuple[int, str]] = (), selected: tuple[int, int] | None = None) -> None:
         """Draws rows of a text with others' cursors and what is selected, the status line, and the cursor at its place;
         after a question, where one is asked."""
         at = 0, 0
@@ -133,8 +150,11 @@ class Screen:
             if row and row.begin <= cursor <= row.end:
                 at = line, row.column(cursor)
             if row:
-                for begin, end in [*((place, place + 1) for place in others), *([selected] if selected else [])]:
+                for begin, end in [*((place, place + 1) for place, _ in others), *([selected] if selected else [])]:
                     self._mark(line, row, begin, end)
+        for place, name in others:
+            if name and rows and rows[0].begin <= place <= rows[-1].end:
+                self._name(rows, place, name)
         said = self.say(*words)
         line, column = said if asks else at
         with suppress(curses.error):

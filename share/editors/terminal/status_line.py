@@ -68,7 +68,7 @@ class StatusLine:
     def words(self, status: Status, silent: float, failure: BaseException | None) -> tuple[str, str]:
         """What is said to the left and to the right. The note has been silent for some seconds, and may have failed."""
         parts = self._notice, self._waits(silent), _trouble(status, failure)
-        if words := " ".join(part for part in parts if part):
+        if words := " ".join(part for part in dict.fromkeys(parts) if part):
             return words, ""
         site = f"site {status.site}" if status.can_type else "no number yet"
         return f"{self.name}  {site}  {status.on} on  {state(status)}{state_of_others(status)}", HELP

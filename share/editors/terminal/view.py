@@ -1,7 +1,8 @@
 """What is seen of a note."""
 from share.editors.note import EngineNote
-from share.editors.terminal.layout import Layout, ScreenRow
+from share.editors.terminal.layout import Layout, ScreenRow, cluster_before
 from share.editors.terminal.screen import Screen
+from share.text.change import boundary
 
 
 class View:
@@ -9,6 +10,8 @@ class View:
 
     def __init__(self, note: EngineNote, screen: Screen):
         self._note, self._screen = note, screen
+        # The rows that were drawn last.
+        self._shown: list[ScreenRow] = []
         self.look()
 
     def look(self) -> None:
@@ -34,6 +37,22 @@ class View:
         if self._anchor is None or self._anchor == self.cursor:
             return None
         return min(self._anchor, self.cursor), max(self._anchor, self.cursor)
+
+    def at(self, line: int, column: int) -> int | None:
+        """The position at a cell of the screen as it was drawn last; None below the text's lines."""
+        if not self._shown or line >= self._screen.height:
+            return None
+        row = self._shown[min(line, len(self._shown) - 1)]
+        place = row.position(column) if line < len(self._shown) else row.end
+        # Where a long line goes on in the row below, the place after its last character is there.
+        place = cluster_before(self.text, place) if place == row.end and self.layout.goes_on(row) else place
+        # The text may be another one since it was drawn.
+        return boundary(self.text, min(place, len(self.text)))
+
+    def select_from(self, position: int) -> None:
+        """Begins to select at a position."""
+        self._note.anchor = position
+        self.look()
 
     def mark(self) -> None:
         """Begins to select at the cursor, or ends that."""
@@ -65,4 +84,5 @@ class View:
         self.top = first.begin
         if note_is_idle:
             self._note.top = first.begin
+        self._shown = rows
         return rows

@@ -5,18 +5,22 @@ Lines are handed on as they are, in pieces; of those that come from a page only 
 import asyncio
 import contextlib
 from asyncio.subprocess import PIPE, Process
-from collections.abc import AsyncIterator, Sequence
+from collections.abc import AsyncIterator, Mapping, Sequence
 
 from aiohttp import WSCloseCode, WSMsgType, web
 
+from share.editors.web import listing
 from share.engine.protocol import Wrong, parse, serialize
 from share.text.line import PIECE, Assembler, Line
 
-# What a page may ask for. It names no file: who has the secret alone is to reach this note and nothing else.
-REQUESTS = {"open", "edit", "undo", "redo", "looks", "cursor", "seen", "text", "on", "who", "history", "past", "close"}
+# What a page may ask for. It names no file: who has the secret alone is to reach notes and nothing else. `notes` is the bridge's own.
+LIST = "notes"
+REQUESTS = {"open", "edit", "undo", "redo", "looks", "cursor", "seen", "text", "on", "who", "history", "past", "close", LIST}
 NO_FIELDS = {"path", "replace", "link", "log", "url"}
 # The most bytes of a page's message, so that who hasn't said the secret can't fill the memory.
 MOST_MESSAGE = 1 << 18
+# The most bytes of a request for notes.
+MOST_LIST_BYTES = 4_096
 # What the engine's command says at its end, and how much of that a WebSocket's last words may be.
 MOST_STDERR, MOST_REASON = 4_096, 120
 # How long an engine's command may take to end by itself, before it is killed.
@@ -38,6 +42,18 @@ def page_refusal(data: bytes | None) -> Line | None:
     return line
 
 
+def asked_words(line: bytes) -> Line | None:
+    """A page's request for a list of notes; None where a line is another one."""
+    request = parse(line) if len(line) < MOST_LIST_BYTES else {}
+    return request if request.get("do") == LIST else None
+
+
+def listed(request: Line) -> Line:
+    """The answer to a request for notes, which takes a while where texts are searched."""
+    words = request.get("words")
+    return {"answer": LIST, "id": request.get("id"), "notes": listing.search_notes(words if isinstance(words, str) else "")}
+
+
 async def messages(socket: web.WebSocketResponse) -> AsyncIterator[bytes]:
     """What a page sends, until it is something else than bytes."""
     async for message in socket:
@@ -55,19 +71,22 @@ class Bridge:
     def __init__(self, socket: web.WebSocketResponse, engine: Process):
         self._socket, self._engine = socket, engine
         self._said = b""
+        # Lists of notes that are to be made, one after the other.
+        self._asked: asyncio.Queue[Line] = asyncio.Queue()
 
     async def run(self) -> None:
         """Hands on until one of both ends."""
-        up, down, listening = (asyncio.create_task(one) for one in (self._up(), self._down(), self._listen()))
+        up, down, listening, lists = (asyncio.create_task(one) for one in (self._up(), self._down(), self._listen(), self._list()))
         try:
             await asyncio.wait([up, down], return_when=asyncio.FIRST_COMPLETED)
         finally:
             down.cancel()
+            lists.cancel()
             await self._end_engine()
             await asyncio.wait([listening], timeout=1)
             up.cancel()
             listening.cancel()
-            await asyncio.gather(up, down, listening, return_exceptions=True)
+            await asyncio.gather(up, down, listening, lists, return_exceptions=True)
         await self._close()
 
     async def _end_engine(self) -> None:
@@ -102,15 +121,26 @@ class Bridge:
                 answer = page_refusal(line)
                 if answer is not None:
                     await self._socket.send_str(serialize(answer).decode())
+                elif line is not None and (request := asked_words(line)):
+                    self._asked.put_nowait(request)
                 elif line is not None:
                     self._engine.stdin.write(line + b"\n")
             await self._engine.stdin.drain()
+
+    async def _list(self) -> None:
+        """Answers requests for notes."""
+        while True:
+            answer = await asyncio.to_thread(listed, await self._asked.get())
+            with contextlib.suppress(ConnectionError, RuntimeError):
+                await self._socket.send_str(serialize(answer).decode())
 
     async def _down(self) -> None:
         """From the engine to the page."""
         assert self._engine.stdout
         while data := await self._engine.stdout.read(PIECE):
-            await self._socket.send_bytes(data)
+            # What a page that is gone has sent before may still be on its way up.
+            with contextlib.suppress(ConnectionError, RuntimeError):
+                await self._socket.send_bytes(data)
 
     async def _listen(self) -> None:
         """Keeps what the engine's command says last."""
@@ -119,9 +149,9 @@ class Bridge:
             self._said = (self._said + data)[-MOST_STDERR:]
 
 
-async def bridged(socket: web.WebSocketResponse, command: Sequence[str]) -> None:
+async def bridged(socket: web.WebSocketResponse, command: Sequence[str], environment: Mapping[str, str]) -> None:
     """Is the way between a page and the engine that a command is the way to."""
     # Of a session of its own, so that Ctrl-C ends it by its line's end, when all has gone through.
     engine = await asyncio.create_subprocess_exec(*command, stdin=PIPE, stdout=PIPE, stderr=PIPE, limit=PIECE,
-                                                  start_new_session=True)
+                                                  start_new_session=True, env=environment)
     await Bridge(socket, engine).run()

@@ -16,6 +16,11 @@ export function changed(text, changes) {
   return text;
 }
 
+/** Whether what comes in at a column is whole lines at a line's begin: a place there goes with that line. */
+export function opensLine(column, text) {
+  return column === 0 && text.endsWith("\n");
+}
+
 /** A line that is to be sent, in pieces of bytes. */
 export function* pieces(line, size) {
   const bytes = new TextEncoder().encode(`${JSON.stringify(line)}\n`);

@@ -1,28 +1,28 @@
-// The note's text in CodeMirror: what the user changes is handed on as positions, and what others change is shown.
-import { colourOf, paint, pale, shownName } from "./people.js";
-import { Places } from "./places.js";
+// The note's text in the page: how it looks, who is where in it, and how what is typed is read back from the browser.
+import { Edited } from "./edited.js";
+import { SIGN_KEYS } from "./graphemes.js";
+import { Others } from "./others.js";
+import { colourOf } from "./people.js";
 
 /* global CodeMirror */
 
-/** The options of all texts: "\r" is a character as any other. */
-export const OPTIONS = { lineSeparator: "\n", lineWrapping: true, undoDepth: 0, screenReaderLabel: "Text" };
-
-/** Where two texts begin to differ, and where that ends in each of them. */
-export function difference(before, now) {
-  const most = Math.min(before.length, now.length);
-  let begin = 0;
-  while (begin < most && before[begin] === now[begin]) begin += 1;
-  let same = 0;
-  while (same < most - begin && before[before.length - 1 - same] === now[now.length - 1 - same]) same += 1;
-  return [begin, before.length - same, now.length - same];
-}
-
-/** Adds a change to those of one edit; what goes on where the last one ended becomes one with it. */
-function gather(changes, begin, end, text) {
-  const last = changes.at(-1);
-  if (last && begin === end && begin === last[0] + last[2].length) last[2] += text;
-  else if (begin !== end || text) changes.push([begin, end, text]);
-}
+// What stands as an element of its own, from which CodeMirror reads it back as it was: also the space that isn't broken.
+const SPECIAL = /[\0-\x1f\x7f-\xa0\xad\u061c\u200b\u200e\u200f\u2028\u2029\ufeff\ufff9-\ufffc]/;
+const AGAIN_MS = 50;
+// A text that has more lines isn't in the page as a whole.
+const MOST_LINES = 1000;
+const SIGN = "[cm-text]";
+const NO_BREAK = "\u00a0";
+const dot = CodeMirror.defaults.specialCharPlaceholder;
+/**
+ * The options of all texts: "\r" is a character as any other, and the browser knows the text as one that is edited.
+ * @type {CodeMirror.EditorConfiguration}
+ */
+export const OPTIONS = {
+  lineSeparator: "\n", lineWrapping: true, undoDepth: 0, screenReaderLabel: "Text", inputStyle: "contenteditable",
+  spellcheck: true, autocorrect: true, autocapitalize: true, specialChars: SPECIAL,
+  specialCharPlaceholder: (sign) => (sign === NO_BREAK ? Object.assign(document.createElement("span"), { textContent: sign }) : dot(sign)),
+};
 
 /** Pastes what has "\r", which CodeMirror's own pasting would turn into line ends. */
 export function paste(cm, event) {
@@ -32,36 +32,42 @@ export function paste(cm, event) {
   cm.replaceSelection(text, "end", "paste");
 }
 
-export class Editor {
-  // What the user's command has changed until now.
-  #gathered = [];
-  #isOwn = true;
-  #places;
-  // Others' cursors and selections, by who they are.
-  #others = new Map();
+export class Editor extends Edited {
+  #others;
   // The marks of what has looks, and those of them that are bold.
   #dressed = [];
   #bold = new Set();
+  // The elements that stand for one character each, by what they show.
+  #signs = new WeakMap();
 
-  /** `told` is told of `edit(changes)` and `moved()`. */
+  /** `told` is told what `Edited` tells. */
   constructor(place, told) {
-    this.cm = CodeMirror(place, { ...OPTIONS, autofocus: true, readOnly: true, search: { bottom: true } });
-    this.#places = new Places(this.cm);
-    this.cm.on("beforeChange", (_, { from, to, text }) => {
-      if (!this.#isOwn) return;
-      const end = this.#places.of(to);
-      gather(this.#gathered, this.#places.of(from), end, text.join("\n"));
+    super(CodeMirror(place, { ...OPTIONS, autofocus: true, readOnly: true, extraKeys: { ...SIGN_KEYS } }), told);
+    this.#others = new Others(this.cm, this.places);
+    this.cm.on("renderLine", (_, __, line) => line.querySelectorAll(SIGN).forEach((sign) => this.#signs.set(sign, sign.textContent)));
+    this.cm.on("changes", () => this.#fit());
+    this.cm.on("blur", () => this.#endComposing());
+    const field = this.cm.getInputField();
+    field.addEventListener("input", (event) => { if (!(/** @type {InputEvent} */ (event)).isComposing) this.#freeText(field); });
+    field.addEventListener("compositionend", () => this.#freeText(field));
+    // CodeMirror would type one half of a character that has two, where a key types it; the browser types all of it.
+    this.cm.on("keypress", (_, event) => {
+      if (event.charCode >= 0xd800 && (event.charCode < 0xe000 || event.charCode > 0xffff)) event.codemirrorIgnore = true;
     });
-    this.cm.on("changes", () => {
-      const changes = this.#gathered;
-      this.#gathered = [];
-      if (changes.length) told.edit(changes);
-    });
-    this.cm.on("cursorActivity", () => { if (this.#isOwn) told.moved(); });
+    // CodeMirror sees no change of its size but by the window's.
+    new ResizeObserver(() => this.#refresh()).observe(place);
   }
 
-  get text() {
-    return this.cm.getValue();
+  /** Draws the text anew, when nothing is composed in it. */
+  #refresh() {
+    if (this.isComposing) setTimeout(() => this.#refresh(), AGAIN_MS);
+    else this.cm.refresh();
+  }
+
+  /** Has all lines in the page, where they aren't too many, so that all can be read aloud. */
+  #fit() {
+    const margin = this.cm.lineCount() > MOST_LINES ? CodeMirror.defaults.viewportMargin : Infinity;
+    if (this.cm.getOption("viewportMargin") !== margin) this.cm.setOption("viewportMargin", margin);
   }
 
   /** Shows the text anew, after it was hidden. */
@@ -70,16 +76,10 @@ export class Editor {
     this.cm.focus();
   }
 
-  /** Where the user's cursor is, and the other end of a selection, if there is one. */
-  place() {
-    const [at, anchor] = ["head", "anchor"].map((end) => this.#places.of(this.cm.getCursor(end)));
-    return at === anchor ? [at] : [at, anchor];
-  }
-
   /** The stretches that are selected. */
   selected() {
     return this.cm.listSelections().filter((one) => !one.empty())
-      .map((one) => [this.#places.of(one.from()), this.#places.of(one.to())]);
+      .map((one) => [this.places.of(one.from()), this.places.of(one.to())]);
   }
 
   /** Whether all that is selected is bold. */
@@ -99,103 +99,70 @@ export class Editor {
     if (this.cm.getOption("readOnly") === may) this.cm.setOption("readOnly", !may);
   }
 
-  /** Shows changes of others, or an undo of the user's, which puts the cursor somewhere. */
-  change(changes, cursor) {
-    this.#shows(() => {
-      for (const [begin, end, text] of changes) this.#put(text, this.#places.at(begin), this.#places.at(end));
-      if (cursor !== undefined) this.cm.setCursor(this.#places.at(cursor));
-    });
-  }
-
-  /** Has a text stand in the place of another. What comes in just after a cursor or a selection doesn't move that. */
-  #put(text, from, to) {
-    const before = this.cm.listSelections();
-    const stays = (range, place) => [place, range.to()].every((one) => CodeMirror.cmpPos(one, from) === 0);
-    this.cm.replaceRange(text, from, to);
-    const after = this.cm.listSelections();
-    if (after.length !== before.length || !before.some((range) => stays(range, range.to()))) return;
-    this.cm.setSelections(after.map(({ anchor, head }, at) => ({
-      anchor: stays(before[at], before[at].anchor) ? from : anchor,
-      head: stays(before[at], before[at].head) ? from : head,
-    })), undefined, { scroll: false });
-  }
-
-  /** Shows another text, and leaves what is the same as it is. */
-  replace(text) {
-    const [begin, end, upTo] = difference(this.text, text);
-    if (end > begin || upTo > begin) this.change([[begin, end, text.slice(begin, upTo)]]);
-  }
-
-  #shows(does) {
-    this.#isOwn = false;
-    try {
-      this.cm.operation(does);
-    } finally {
-      this.#isOwn = true;
-    }
-  }
-
   /** Shows these looks, and no others. */
   looks(list, colours) {
     this.cm.operation(() => {
       for (const mark of this.#dressed) mark.clear();
       this.#bold.clear();
       this.#dressed = list.map((one) => {
-        const mark = this.cm.markText(this.#places.at(one.begin), this.#places.at(one.end), { css: styleOf(one, colours) });
+        const options = { css: styleOf(one, colours), className: one.colour ? "looked" : "", looks: true };
+        const mark = this.cm.markText(this.places.at(one.begin), this.places.at(one.end), options);
         if (one.bold) this.#bold.add(mark);
         return mark;
       });
     });
   }
 
-  /** Shows these cursors of others, and no others. */
-  cursors(list) {
-    const before = this.#others;
-    this.#others = new Map();
-    this.cm.operation(() => {
-      for (const one of list) {
-        const old = before.get(one.who);
-        before.delete(one.who);
-        this.#others.set(one.who, old && this.#isThere(old, one) ? old : this.#shown(one, old));
-      }
-      for (const old of before.values()) old.marks.forEach((mark) => mark.clear());
+  /** The positions of what is in the page. */
+  seen() {
+    const { from, to } = this.cm.getViewport();
+    const end = to > this.cm.lastLine() ? { line: this.cm.lastLine(), ch: this.cm.getLine(this.cm.lastLine()).length } : { line: to, ch: 0 };
+    return [{ line: from, ch: 0 }, end].map((place) => this.places.of(place));
+  }
+
+  /** Marks stretches so, in the place of other marks. */
+  marked(before, list) {
+    return this.cm.operation(() => {
+      for (const mark of before) mark.clear();
+      return list.map(({ begin, end, ...how }) => this.cm.markText(this.places.at(begin), this.places.at(end), how));
     });
   }
 
-  #isThere(old, { name, colour, at, anchor }) {
-    const place = old.marks[0].find();
-    return old.name === name && old.colour === colour && old.anchor === undefined && anchor === undefined
-      && place && this.#places.of(place) === at;
+  /** Whether the browser has text that isn't read back yet, as of an input method: what would come in now could take it away. */
+  get isComposing() {
+    const { input } = /** @type {any} */ (this.cm).display;
+    return Boolean(input.composing) || input.readDOMTimeout !== null;
   }
 
-  #shown({ name, colour, at, anchor }, old) {
-    old?.marks.forEach((mark) => mark.clear());
-    const [place, other] = [at, anchor ?? at].map((index) => this.#places.at(index));
-    /** @type {{ clear(): void }[]} */
-    const marks = [this.cm.setBookmark(place, { widget: caret(name, colour), handleMouseEvents: true })];
-    if (anchor !== undefined) {
-      const [from, to] = at < anchor ? [place, other] : [other, place];
-      marks.push(this.cm.markText(from, to, { css: `background-color: ${pale(colour)}` }));
+  /** Puts what the browser has put into an element that stands for one character beside that, since CodeMirror reads there. */
+  #freeText(field) {
+    for (const sign of field.querySelectorAll(SIGN)) {
+      const [shown, now] = [this.#signs.get(sign), sign.textContent];
+      if (shown === undefined || shown === now) continue;
+      sign.textContent = shown;
+      if (now.startsWith(shown)) sign.after(now.slice(shown.length));
+      else sign.before(now.endsWith(shown) ? now.slice(0, now.length - shown.length) : now);
     }
-    return { name, colour, anchor, marks };
+  }
+
+  /** Reads back what an input method has left, of which no end may have been told. */
+  #endComposing() {
+    const { input } = /** @type {any} */ (this.cm).display;
+    if (!input.composing) return;
+    input.composing = null;
+    input.readFromDOMSoon();
+  }
+
+  /** Shows these cursors of others, and no others. */
+  cursors(list) {
+    this.#others.show(list);
   }
 }
 
 /** Looks as a style. */
 function styleOf({ bold, italic, colour, offset }, colours) {
   const found = [bold && "font-weight: bold", italic && "font-style: italic"];
-  if (colour) found.push(`color: ${colourOf(colours[colour])}`);
+  if (colour) found.push(`color: ${colourOf(colours[colour])}`, `--colour: ${colourOf(colours[colour])}`);
   if (Number.isInteger(offset)) found.push(`vertical-align: ${offset}px`);
   return found.filter(Boolean).join("; ");
-}
-
-/** A cursor with a name. */
-function caret(name, colour) {
-  const element = document.createElement("span");
-  const label = element.appendChild(document.createElement("b"));
-  element.className = "caret";
-  element.style.borderColor = colourOf(colour);
-  label.textContent = shownName(name);
-  paint(label, colour);
-  return element;
 }

@@ -65,15 +65,18 @@ export class Keys {
     if (types(event)) return () => this.#cm.replaceSelection(event.key, "end", "+input");
     const name = CodeMirror.keyName(event);
     let found = null;
-    for (const map of [this.#cm.getOption("extraKeys"), this.#cm.getOption("keyMap")]) {
-      if (found === null && name && map) {
-        CodeMirror.lookupKey(name, map, (bound) => {
-          found = bound;
-          return true;
-        }, this.#cm);
-      }
+    for (const map of this.#maps()) {
+      const how = name && CodeMirror.lookupKey(name, map, (bound) => {
+        found = bound;
+        return true;
+      }, this.#cm);
+      if (how) break;
     }
     return found === null ? null : () => this.#does(found);
+  }
+
+  #maps() {
+    return [.../** @type {any} */ (this.#cm).state.keyMaps, this.#cm.getOption("extraKeys"), this.#cm.getOption("keyMap")].filter(Boolean);
   }
 
   #does(bound) {

@@ -1,4 +1,5 @@
 """Listens on the loopback for this account alone: every account of the machine reaches a port there."""
+import contextlib
 import os
 import socket
 import struct
@@ -24,9 +25,9 @@ class OwnSocket(socket.socket):
             line, address = super().accept()
             if account_of(line) in (os.getuid(), ROOT, None):
                 return line, address
-            # With nothing left of it here.
-            line.setsockopt(socket.SOL_SOCKET, socket.SO_LINGER, struct.pack("ii", 1, 0))
-            line.close()
+            with line, contextlib.suppress(OSError):
+                # With nothing left of it here.
+                line.setsockopt(socket.SOL_SOCKET, socket.SO_LINGER, struct.pack("ii", 1, 0))
         # The others have their turn.
         raise BlockingIOError
 

@@ -6,10 +6,10 @@ import os
 import pathlib
 import sys
 import webbrowser
-from collections.abc import Iterator, Sequence
+from collections.abc import Iterator
 
-from share.editors.web import guard
-from share.editors.web.server import Page, listening, serve
+from share.editors.web import guard, remembered
+from share.editors.web.server import Commands, Page, serve_page
 from share.engine.server import run_folder
 from share.log.folder import make_folder
 
@@ -55,13 +55,13 @@ def opens_a_browser(path: pathlib.Path) -> bool:
     return False
 
 
-def serve_note(name: str, command: Sequence[str], user: str, browses: bool) -> None:
+def serve_note(name: str, commands: Commands, user: str, browses: bool) -> None:
     """Serves the note's page until the user ends it, who is called so at first."""
     secret = guard.new_secret()
-    with listening() as socket:
-        page = Page(socket.getsockname()[1], secret, command, user)
+    with remembered.place(name) as place:
+        page = Page(name, place.socket.getsockname()[1], secret, place.key, commands, user)
         with redirect(name, page.port, secret) as path:
-            asyncio.run(serve(page, socket, lambda: _show(name, path, browses)))
+            asyncio.run(serve_page(page, place.socket, lambda: _show(name, path, browses)))
 
 
 def _show(name: str, path: pathlib.Path, browses: bool) -> None:

@@ -1,69 +1,71 @@
 // The page of a note: a connection to the note's engine, and what is shown of it.
-import { Client, Lines, pieces } from "./client.js";
-import { colourOf, nameOf, paint, shownName } from "./people.js";
+import { Changes, isHeard, tell } from "./aloud.js";
+import { Client } from "./client.js";
+import { Connection, NO_ENGINE, WRONG_SECRET } from "./connection.js";
 import { Editor, paste } from "./editor.js";
+import { Finding } from "./finding.js";
+import { Formatted } from "./formatted.js";
+import { SIGN_KEYS } from "./graphemes.js";
 import { Keys } from "./keys.js";
+import { opensLinks } from "./links.js";
+import { Notes } from "./notes.js";
 import { Past } from "./past.js";
+import { colourOf, paint, shownName } from "./people.js";
+import { printsAll } from "./printing.js";
+import { stateWords } from "./state.js";
+import { Writers } from "./writers.js";
 
 /* global CodeMirror */
 
-const PIECE = 1 << 17;
 const CURSOR_MS = 50;
-const AGAIN_MS = 500;
-// How the server ends a WebSocket whose secret is wrong, and one whose engine has ended.
-const WRONG_SECRET = 1008;
-const NO_ENGINE = 1011;
 const MOST_WORDS = 5;
-const MOST_LEFT_OUT = 3;
+// After how many lines that wait the engine is told what the text has.
+const WAITING = 100;
 
 /** @type {(id: string) => any} */
 const element = (id) => document.getElementById(id);
 
-/** How much of somebody's text is left out for good, in words. */
-function leftOutWords(line) {
-  return `${line.characters} of ${nameOf(line)}`;
-}
-
-/** The state of the log, in words. */
-function stateWords({ log, unsent, waiting, on, types, read, of, left_out: leftOut = [], renewed, unproved }) {
-  const edits = unsent === 1 ? "1 edit" : `${unsent} edits`;
-  const kept = unsent ? `, ${edits} kept` : "";
-  const words = { none: "kept here alone", sent: "all sent", sending: `${edits} to be sent`, away: `offline${kept}` };
-  const parts = [words[log] ?? log, of && `${Math.floor((100 * read) / of)} % read`, on > 1 && `${on} on`,
-    waiting && `${waiting} wait for others`, !types && "can't type yet",
-    leftOut.length && `left out: ${leftOut.slice(0, MOST_LEFT_OUT).map(leftOutWords).join(", ")}${leftOut[MOST_LEFT_OUT] ? ", .." : ""}`,
-    renewed && `renewed by ${nameOf(renewed)}`, unproved && "not proved"];
-  return parts.filter(Boolean).join(", ");
-}
-
 class Page {
-  #socket;
+  #connection = new Connection({
+    came: (line) => this.#came(line),
+    ended: (code, reason) => this.#ended(code, reason),
+    isBusy: () => this.editor.isComposing,
+    waits: (many) => { if (many % WAITING === 0) this.#send({ do: "seen", version: this.#client?.version ?? 0 }); },
+  });
   // Who talks to the engine; none while there is no connection. And who did so last.
   #client;
   #last;
   #cursorTimer;
   #isRenamed = false;
-  // How many are on, and whose cursors are shown.
+  // How many are on, and whose cursors are shown; and who they are.
   #known = {};
+  #people = new Map();
   // The colours of the sites that are on.
   #colours = new Map();
 
   constructor() {
-    this.editor = new Editor(element("text"), { edit: (changes) => this.#client?.edit(changes), moved: () => this.#moved() });
-    this.keys = new Keys(this.editor.cm, () => this.#client);
+    this.editor = new Editor(element("text"), {
+      edit: (changes) => this.#client?.edit(changes), moved: () => this.#moved(), changed: (place) => this.changes.at(place),
+    });
+    const { cm } = this.editor;
+    this.changes = new Changes(cm);
+    this.keys = new Keys(cm, () => this.#client);
     this.past = new Past((request) => this.#ask(request), (site) => this.#colours.get(site), () => this.editor.show());
+    this.finding = new Finding(cm, () => this.keys.release());
+    this.formatted = new Formatted(() => this.editor.text);
+    this.writers = new Writers(this.editor, (begin, end) => this.#whoWrote(begin, end), (site) => this.#colours.get(site));
+    this.notes = new Notes((words) => this.#ask({ do: "notes", words }));
+    opensLinks(cm);
+    isHeard(cm, "Text of the note");
+    printsAll(() => this.#printed());
     this.#bind();
-    this.#connect();
+    this.#connection.open();
   }
 
   #bind() {
-    for (const command of ["undo", "redo"]) {
-      CodeMirror.commands[command] = (cm) => { if (cm === this.editor.cm) this.#ask({ do: command }); };
-    }
-    CodeMirror.commands.bold = () => this.#look({ bold: !this.editor.isBold() });
-    this.editor.cm.setOption("extraKeys", { "Ctrl-B": "bold", "Cmd-B": "bold" });
-    // All is kept as it is typed.
-    CodeMirror.commands.save = () => {};
+    const { cm } = this.editor;
+    this.#commands();
+    cm.setOption("extraKeys", { ...SIGN_KEYS, "Ctrl-B": "bold", "Cmd-B": "bold", "Ctrl-H": "replace" });
     for (const command of ["undo", "redo", "bold", "find", "replace"]) {
       element(command).addEventListener("click", () => this.#does(command));
     }
@@ -71,19 +73,38 @@ class Page {
       this.keys.release();
       this.#look({ colour: Number(target.value) });
       target.selectedIndex = 0;
-      this.editor.cm.focus();
+      cm.focus();
     });
     element("history").addEventListener("click", () => this.past.show());
+    element("notes").addEventListener("click", () => this.notes.show());
+    element("format").addEventListener("click", () => this.formatted.toggle());
+    element("writers").addEventListener("click", () => this.writers.toggle());
     element("name").addEventListener("change", () => this.#rename());
     window.addEventListener("beforeunload", (event) => { if (this.#isUnanswered()) event.preventDefault(); });
-    this.editor.cm.on("paste", paste);
-    // The browser's own undo, of its menu, would take back letters of a field that the text isn't in.
-    this.editor.cm.getInputField().addEventListener("beforeinput", (event) => {
-      const own = { historyUndo: "undo", historyRedo: "redo" }[event.inputType];
+    cm.on("paste", paste);
+    cm.on("changes", () => this.formatted.changed());
+    // The browser's own undo, of its menu, would take back letters that the note has already.
+    cm.getInputField().addEventListener("beforeinput", (event) => {
+      const own = { historyUndo: "undo", historyRedo: "redo", formatBold: "bold" }[event.inputType];
       if (!own) return;
       event.preventDefault();
       this.#does(own);
     });
+  }
+
+  #commands() {
+    const { commands } = CodeMirror;
+    for (const command of ["undo", "redo"]) {
+      commands[command] = (cm) => { if (cm === this.editor.cm) this.#ask({ do: command }); };
+    }
+    commands.bold = () => this.#look({ bold: !this.editor.isBold() });
+    const finds = { find: () => this.finding.open(false), replace: () => this.finding.open(true), replaceAll: () => this.finding.open(true),
+      findNext: () => this.finding.again(true), findPrev: () => this.finding.again(false) };
+    for (const [command, does] of Object.entries(finds)) {
+      commands[command] = (cm) => (cm === this.editor.cm ? does() : CodeMirror.Pass);
+    }
+    // All is kept as it is typed.
+    commands.save = () => {};
   }
 
   #does(command) {
@@ -103,40 +124,40 @@ class Page {
     return this.#client ? this.#client.ask(request) : { error: "away" };
   }
 
+  /** Who wrote a stretch; an old answer where something was typed meanwhile. */
+  async #whoWrote(begin, end) {
+    const client = this.#client;
+    const answer = await this.#ask({ do: "who", version: client?.version, begin, end });
+    return { ...answer, isOld: answer.edits !== client?.made };
+  }
+
   #isUnanswered() {
     return this.#last !== undefined && this.#last.answered < this.#last.made;
   }
 
-  // The connection.
-
-  #connect() {
-    const socket = new WebSocket(`ws://${location.host}/socket`);
-    const lines = new Lines();
-    socket.binaryType = "arraybuffer";
-    socket.onopen = () => socket.send(new TextEncoder().encode(sessionStorage.getItem("secret") ?? ""));
-    socket.onmessage = ({ data }) => {
-      const came = typeof data === "string" ? [JSON.parse(data)] : lines.of(new Uint8Array(data));
-      for (const line of came) this.#came(line);
-    };
-    socket.onclose = (event) => { if (socket === this.#socket) this.#ended(event); };
-    this.#socket = socket;
+  /** What is printed. */
+  #printed() {
+    if (!element("past").hidden) return this.past.cm;
+    return this.formatted.isShown ? element("formatted") : this.editor.cm;
   }
 
+  // The connection.
+
   #send(line) {
-    if (this.#socket.readyState !== WebSocket.OPEN) return;
-    for (const piece of pieces(line, PIECE)) this.#socket.send(piece);
+    this.#connection.send(line);
   }
 
   #came(line) {
-    if (line.notice === "welcome") this.#open(line.name);
+    if (line.notice === "welcome") this.#open(line);
     else if (line.notice === "opening") this.#state(`reading, ${Math.floor((100 * line.done) / (line.of || 1))} %`);
     else if (line.answer === "open") this.#opened(line);
     else if (this.#client) this.#client.take(line);
     else if (line.words) this.#say(line.words);
   }
 
-  #open(account) {
-    element("name").value = sessionStorage.getItem("name") ?? account;
+  #open({ name, missing }) {
+    this.formatted.missing = missing;
+    element("name").value = sessionStorage.getItem("name") ?? name;
     this.#send({ do: "open", id: 0, protocol: 1, units: ["utf-16"], looks: true, name: element("name").value });
   }
 
@@ -158,7 +179,7 @@ class Page {
     this.#moved();
   }
 
-  #ended({ code, reason }) {
+  #ended(code, reason) {
     this.keys.release();
     this.#client?.end();
     this.#client = undefined;
@@ -166,14 +187,12 @@ class Page {
     this.editor.cursors([]);
     if (this.#isRenamed) {
       this.#isRenamed = false;
-      this.#connect();
-      return;
+      return true;
     }
-    // A server that has ended isn't looked for again: whoever has its port then is another one.
     const words = { [WRONG_SECRET]: "This page can't be opened so: open the file that bin/note web has named.",
       [NO_ENGINE]: `${reason} Trying again. What was answered is kept.` };
-    this.#state(words[code] ?? "bin/note web has ended. What was answered is kept.", true);
-    if (code === NO_ENGINE) setTimeout(() => this.#connect(), AGAIN_MS);
+    this.#state(words[code] ?? "bin/note web has ended. What was answered is kept. This page goes on when it runs again.", true);
+    return false;
   }
 
   /** Opens the note anew, under another name, as soon as all is answered. */
@@ -207,7 +226,9 @@ class Page {
   }
 
   #state(words, isTrouble = false, why = "") {
-    element("state").textContent = isTrouble && why ? `${words}: ${why}` : words;
+    const shown = isTrouble && why ? `${words}: ${why}` : words;
+    // What is the same isn't read aloud again.
+    if (element("state").textContent !== shown) element("state").textContent = shown;
     element("state").title = why ?? "";
     element("state").classList.toggle("trouble", isTrouble);
   }
@@ -234,6 +255,7 @@ class Page {
   async #askWhoIsOn(news) {
     const known = { ...this.#known, ...news };
     if (JSON.stringify(known) === JSON.stringify(this.#known)) return;
+    const isFirst = !this.#known.on;
     this.#known = known;
     const answer = await this.#ask({ do: "on" });
     if (!answer.people) return;
@@ -244,6 +266,15 @@ class Page {
       paint(item, colour);
       return item;
     }));
+    this.#tellWhoCame(new Map(answer.people.map(({ who, name }) => [who, shownName(name)])), isFirst);
+  }
+
+  #tellWhoCame(people, isFirst) {
+    const names = (here, others) => [...here].filter(([who]) => !others.has(who)).map(([, name]) => name);
+    const [came, left] = [names(people, this.#people), names(this.#people, people)];
+    this.#people = people;
+    const words = [came.length && `${came.join(", ")} came.`, left.length && `${left.join(", ")} left.`].filter(Boolean).join(" ");
+    if (words && !isFirst) tell(words);
   }
 
   // The user's cursor.

@@ -34,7 +34,7 @@ function wordsOf(step, at, of) {
 
 export class Past {
   #ask;
-  #cm;
+  cm;
   #steps = [];
   // What doesn't count, behind the last step.
   #leftOut = [];
@@ -52,15 +52,15 @@ export class Past {
   constructor(ask, colourOf, left) {
     this.#ask = ask;
     this.#colourOf = colourOf;
-    this.#cm = CodeMirror(element("past-text"), { ...OPTIONS, readOnly: true });
-    this.#cm.on("viewportChange", () => this.#colour());
+    this.cm = CodeMirror(element("past-text"), { ...OPTIONS, readOnly: true });
+    this.cm.on("viewportChange", () => this.#colour());
     element("at").addEventListener("input", () => this.#look());
     element("earlier").addEventListener("click", () => this.#go(-1));
     element("later").addEventListener("click", () => this.#go(1));
     element("slide").addEventListener("submit", (event) => event.preventDefault());
     element("back").addEventListener("click", () => {
       element("past").hidden = true;
-      element("text").hidden = false;
+      element("sheets").hidden = false;
       left();
     });
   }
@@ -95,7 +95,7 @@ export class Past {
 
   #open(slides) {
     element("past").hidden = false;
-    element("text").hidden = true;
+    element("sheets").hidden = true;
     for (const id of ["at", "earlier", "later"]) element(id).hidden = !slides;
   }
 
@@ -142,19 +142,19 @@ export class Past {
   #set(text, stretches) {
     this.#stretches = stretches;
     this.#marks = [];
-    this.#cm.setValue(text);
-    this.#cm.refresh();
+    this.cm.setValue(text);
+    this.cm.refresh();
     this.#colour();
   }
 
   /** Colours what can be seen. */
   #colour() {
-    const { from, to } = this.#cm.getViewport();
-    const [begin, end] = [from, to].map((line) => this.#cm.indexFromPos({ line, ch: 0 }));
-    this.#cm.operation(() => {
+    const { from, to } = this.cm.getViewport();
+    const [begin, end] = [from, to].map((line) => this.cm.indexFromPos({ line, ch: 0 }));
+    this.cm.operation(() => {
       for (const mark of this.#marks) mark.clear();
-      this.#marks = this.#seen(begin, end).map((one) => this.#cm.markText(
-        this.#cm.posFromIndex(Math.max(one.begin, begin)), this.#cm.posFromIndex(Math.min(one.end, end)),
+      this.#marks = this.#seen(begin, end).map((one) => this.cm.markText(
+        this.cm.posFromIndex(Math.max(one.begin, begin)), this.cm.posFromIndex(Math.min(one.end, end)),
         { className: `of-${this.#sites.get(one.site)}`, css: `background-color: ${this.#pale(one.site)}` },
       ));
     });

@@ -2,7 +2,7 @@
 // page can be loaded anew.
 function takeSecret() {
   if (location.hash.length > 1) sessionStorage.setItem("secret", location.hash.slice(1));
-  history.replaceState(null, "", location.pathname);
+  history.replaceState(null, "", location.pathname + location.search);
 }
 
 takeSecret();

@@ -112,6 +112,25 @@ local function attach(note)
   })
 end
 
+--- Gives a note's buffer its name back after `:saveas` or `:file`: what is typed goes on into the note.
+local function keep_name(note)
+  local own, given = PREFIX .. note.name, api.nvim_buf_get_name(note.buffer)
+  if notes[note.buffer] ~= note or given == own then
+    return
+  end
+  -- Vim keeps a name of before in a buffer that has no text.
+  local function drop(name)
+    for _, buffer in ipairs(api.nvim_list_bufs()) do
+      if api.nvim_buf_get_name(buffer) == name and not api.nvim_buf_is_loaded(buffer) then
+        api.nvim_buf_delete(buffer, { force = true })
+      end
+    end
+  end
+  drop(own)
+  api.nvim_buf_set_name(note.buffer, own)
+  drop(given)
+end
+
 local let_in
 
 local function set_events(note)
@@ -125,11 +144,15 @@ local function set_events(note)
     vim.schedule(function() let_in(note) end)
   end)
   on('BufWriteCmd', function(event) M.write(note, event.match) end)
+  on('BufFilePost', function()
+    -- When `:saveas` has written its file.
+    vim.schedule(function() keep_name(note) end)
+  end)
 end
 
 --- Saves a note as a file, which `:write` names.
 function M.write(note, path)
-  if path == api.nvim_buf_get_name(note.buffer) then
+  if path == PREFIX .. note.name then
     vim.bo[note.buffer].modified = false
     return say('All is kept; :w FILE saves it as a file.')
   end
@@ -173,7 +196,7 @@ end
 
 -- Opening and closing.
 
-local start
+local start, send_open
 
 --- Starts the engine again that has ended unasked, unless it ended at once.
 local function ended(note, words)
@@ -239,10 +262,31 @@ function start(note)
     end
   end)
   note.job = job
+  send_open(note)
+end
+
+--- Asks whether a note that isn't here is to be made.
+local function ask_for_new(note)
+  if notes[note.buffer] ~= note or not note.job then
+    return
+  end
+  local question = ("There is no note %s here. Make a new one?"):format(note.name)
+  if vim.fn.confirm(question, '&Yes\n&No', 2) == 1 then
+    note.makes = true
+    send_open(note)
+  else
+    api.nvim_buf_delete(note.buffer, { force = true })
+  end
+end
+
+--- Has the engine open the note, unless it would have to make it.
+function send_open(note)
   note.waiting = {
     [0] = function(answer)
-      if answer.error then
-        engine.close(job)
+      if answer.error == 'absent' then
+        return vim.schedule(function() ask_for_new(note) end)
+      elseif answer.error then
+        engine.close(note.job)
         note.job = nil
         return
       end
@@ -251,7 +295,7 @@ function start(note)
     end,
   }
   note.send({ id = 0, ['do'] = 'open', protocol = 1, units = { 'utf-8' }, name = text.name(M.options.name),
-    colour = M.options.colour })
+    colour = M.options.colour, new = note.makes })
 end
 
 --- Tells once that the log can't be reached, and that all is sent again: a status line may not have that.
@@ -266,7 +310,7 @@ local function tell_of_log(note, state)
 end
 
 --- A note's buffer, which has no text yet.
-local function new_note(buffer, name, log, link)
+local function new_note(buffer, name, log, link, makes)
   local note
   note = Note.new(buffer, function(line) engine.send(note.job, line) end, clock, {
     words = say,
@@ -283,6 +327,8 @@ local function new_note(buffer, name, log, link)
     end,
   })
   note.name = name
+  -- Who names a log or has a link means a note that may not be here yet.
+  note.makes = makes or (log or '') .. (link or '') ~= ''
   note.command = vim.list_extend(vim.deepcopy(M.options.command), { 'engine', name })
   if log and log ~= '' then
     vim.list_extend(note.command, { '--log', log })
@@ -300,10 +346,10 @@ local function name_fault(name)
 end
 
 --- Opens a note in a buffer that is loaded.
-local function open_in(buffer, name, log, link)
+local function open_in(buffer, name, ...)
   set_options(buffer)
   api.nvim_buf_set_lines(buffer, 0, -1, false, {})
-  local note = new_note(buffer, name, log, link)
+  local note = new_note(buffer, name, ...)
   notes[buffer] = note
   attach(note)
   set_events(note)
@@ -341,15 +387,27 @@ function M.load_session()
   end
 end
 
---- Opens a note; `log` carries it between people, and by `link` another's is joined.
-function M.open(name, log, link)
+--- The names of the notes that are here and begin so.
+function M.names(begun)
+  local function variable(name, otherwise)
+    local value = vim.env[name]
+    return value and value ~= '' and value or otherwise
+  end
+  local data = variable('VIALSHOAL_DATA', variable('XDG_DATA_HOME', vim.fn.expand('~/.local/share')) .. '/vialshoal')
+  local found = vim.fn.globpath(vim.fn.escape(data, ',') .. '/notes', '*.note', true, true)
+  return vim.tbl_filter(function(name) return vim.startswith(name, begun) end,
+    vim.tbl_map(function(path) return vim.fn.fnamemodify(path, ':t:r') end, found))
+end
+
+--- Opens a note; `log` carries it between people, and by `link` another's is joined. One that isn't here is made unasked if `makes`.
+function M.open(name, log, link, makes)
   local fault = name_fault(name)
   if fault then
     return say(fault)
   end
   local buffer = vim.fn.bufadd(PREFIX .. name)
   if not notes[buffer] then
-    asked[buffer] = { log or '', link }
+    asked[buffer] = { log or '', link or '', makes }
     vim.fn.bufload(buffer)
     if not notes[buffer] then
       -- It was loaded, or no event told of it.

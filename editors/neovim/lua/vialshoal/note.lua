@@ -81,12 +81,9 @@ function Note:hinted(row, column, gone, came)
     local place = text.offset(self.lines, row) + column
     late[1], late[3] = text.moved_up(self.lines, row, column, late[1] - place, late[3], late[1])
     late[2] = late[1]
-  elseif self.hint == nil then
-    self.hint = { row, column }
-  elseif self.hint and self.hint[1] == row then
-    self.hint[2] = math.min(self.hint[2], column)
   else
-    self.hint = false
+    self.hints = self.hints or {}
+    self.hints[row] = math.min(self.hints[row] or column, column)
   end
 end
 
@@ -99,15 +96,19 @@ function Note:gather(first, last, new_last)
   end
   local new = api.nvim_buf_get_lines(self.buffer, first, new_last, false)
   local old = vim.list_slice(self.lines, first + 1, last)
-  local hint, is_told = self.hint and { self.hint[1] - first, self.hint[2] }, self.hint ~= nil
-  self.hint, self.late = nil, nil
-  local found = text.changes(old, new, text.offset(self.lines, first), is_last, hint)
+  local hints, is_told = {}, self.hints ~= nil
+  for row, column in pairs(self.hints or {}) do
+    hints[row - first] = column
+  end
+  self.hints, self.late = nil, nil
+  local found = text.changes(old, new, text.offset(self.lines, first), is_last, hints)
   for _, change in ipairs(found) do
     if text.clean(change[3]) ~= change[3] then
       self.is_unsure = true
       return
     end
   end
+  found = self:joined(found, old, text.offset(self.lines, first)) or found
   text.splice(self.lines, first, last, new)
   for _, change in ipairs(found) do
     self:add(change)
@@ -116,6 +117,20 @@ function Note:gather(first, last, new_last)
     -- Where a line end came in is told behind its lines.
     self.late = self.changes[#self.changes]
   end
+end
+
+--- What stands for the last change that was gathered and the one that was found in `old` lines, if they join lines.
+function Note:joined(found, old, base)
+  local before, change = self.changes[#self.changes], found[1]
+  if not before or #found ~= 1 or self.unit_of[before] ~= self.unit then
+    return nil
+  end
+  local gone = (table.concat(old, '\n') .. '\n'):sub(change[1] - base + 1, change[2] - base)
+  local joined = text.joined(before, change, gone, base)
+  if joined then
+    table.remove(self.changes)
+  end
+  return joined
 end
 
 --- Adds a change to those that are gathered, in parts where its text is long.
@@ -140,7 +155,7 @@ function Note:find_changes()
     return
   end
   -- Until all of it is known.
-  self.is_unsure, self.hint = true, nil
+  self.is_unsure, self.hints = true, nil
   local lines = api.nvim_buf_get_lines(self.buffer, 0, -1, false)
   self:apply(function()
     for number, line in ipairs(lines) do
@@ -168,7 +183,7 @@ end
 --- Sends what a command has changed, unless many edits are unanswered: then it goes with what follows.
 function Note:flush_command()
   -- What was told behind its lines is no hint for the next ones.
-  self.hint, self.late = nil, nil
+  self.hints, self.late = nil, nil
   if self.made - self.answered < MOST_UNANSWERED then
     self:flush()
   end
@@ -436,12 +451,8 @@ function Note:change(changes)
   local kept = self:kept_places()
   self:apply(function()
     for _, change in ipairs(changes) do
+      self:move_places(kept, change)
       self:replace(change[1], change[2], change[3])
-      for _, window in ipairs(kept) do
-        for name, place in pairs(window.places) do
-          window.places[name] = text.moved(place, change)
-        end
-      end
     end
     self:hide_end(kept)
   end)
@@ -504,7 +515,7 @@ end
 
 --- Looks what the buffer has.
 function Note:look()
-  self.is_unsure, self.hint, self.late = false, nil, nil
+  self.is_unsure, self.hints, self.late = false, nil, nil
   self.lines = api.nvim_buf_get_lines(self.buffer, 0, -1, false)
   self.has_end = vim.bo[self.buffer].endofline
 end
@@ -557,6 +568,25 @@ function Note:kept_places()
     table.insert(kept, { window = window, places = places })
   end
   return kept
+end
+
+--- Whether a window's cursor stands between characters, as where one types, and not on one.
+function Note.is_between(window)
+  return window == api.nvim_get_current_win() and api.nvim_get_mode().mode:find('^[iR]') ~= nil
+end
+
+--- Moves what windows have along with a change that is to be made. A place on a character goes with that, and one at a
+--- line's begin with the line where whole lines come in.
+function Note:move_places(kept, change)
+  local opens = text.opens_line(self.lines, self.has_end, change)
+  local row, column = text.position(self.lines, change[1])
+  local is_character = column < #self.lines[row + 1]
+  for _, window in ipairs(kept) do
+    local goes = opens or is_character and not self.is_between(window.window)
+    for name, place in pairs(window.places) do
+      window.places[name] = text.moved(place, change, goes and name ~= 'top')
+    end
+  end
 end
 
 --- Puts a window's cursor at a place.

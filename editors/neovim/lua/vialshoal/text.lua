@@ -66,20 +66,71 @@ function M.change(old, new, base, hint)
   return { { base + head, base + #old - tail, new:sub(head + 1, #new - tail) } }
 end
 
+--- The changes by which a text takes the place of another one, at `place`, word by word, and how many words stay and
+--- differ. So words that stay are their authors', and what others write among them stays there.
+local function by_words(old, new, place)
+  local changes, stay, differ, from, at = {}, 0, 0, 1, 1
+  while from <= #old or at <= #new do
+    local space, word = old:match('^([ \t\n]*)([^ \t\n]*)', from)
+    local new_space, new_word = new:match('^([ \t\n]*)([^ \t\n]*)', at)
+    if space ~= new_space then
+      table.insert(changes, { place, place + #space, new_space })
+    end
+    from, at, place = from + #space + #word, at + #new_space + #new_word, place + #new_space
+    if word ~= new_word then
+      differ = differ + 1
+      vim.list_extend(changes, M.change(word, new_word, place))
+    elseif word ~= '' then
+      stay = stay + 1
+    end
+    place = place + #new_word
+  end
+  return changes, stay, differ
+end
+
+--- The changes of a line, which begins at `base`, as `:s///g` makes them: where most words stay, by words.
+local function in_line(old, found, base)
+  local change = found[1]
+  if not change then
+    return found
+  end
+  local changes, stay, differ = by_words(old:sub(change[1] - base + 1, change[2] - base), change[3], change[1])
+  -- The first word and the last one differ, so it can be one more.
+  return stay > 0 and stay + 1 >= differ and changes or found
+end
+
+--- The changes by which lines were joined, which begin at `base` and are `gone` by `change`: Vim puts their words behind
+--- the line before them first, by the change `before`. nil where that isn't so.
+function M.joined(before, change, gone, base)
+  if before[1] ~= before[2] or change[3] ~= '' then
+    return nil
+  end
+  local behind = change[1] - before[1] - #before[3]
+  if behind == 1 and change[1] == base and gone:sub(-1) == '\n' then
+    behind, gone = 0, '\n' .. gone:sub(1, -2)
+  end
+  if behind ~= 0 then
+    return nil
+  end
+  local changes, _, differ = by_words(gone, before[3], before[1])
+  return differ == 0 and changes or nil
+end
+
 --- What has changed from some lines to others: where they are as many, line by line, so that what is between two
---- changes stays what it was. A line end follows each of them, but not the last one where `is_last`. `hint` is the
---- line, of these, and the column where a change is said to begin.
-function M.changes(old, new, base, is_last, hint)
+--- changes stays what it was. A line end follows each of them, but not the last one where `is_last`. `hints` has the
+--- columns where changes are said to begin, by the lines, of these, from 0.
+function M.changes(old, new, base, is_last, hints)
   local found = {}
-  hint = hint or { -1 }
   if #old == #new then
     for number, line in ipairs(old) do
-      vim.list_extend(found, M.change(line, new[number], base, hint[1] == number - 1 and hint[2] or nil))
+      vim.list_extend(found, in_line(line, M.change(line, new[number], base, hints[number - 1]), base))
       base = base + #new[number] + 1
     end
     return found
   end
-  local most = hint[1] >= 0 and M.offset(old, hint[1]) + hint[2] or nil
+  local row, column = next(hints)
+  local is_one = row and row >= 0 and next(hints, row) == nil
+  local most = is_one and M.offset(old, row) + column or nil
   local ending = is_last and '' or '\n'
   local function text(lines)
     return #lines == 0 and '' or table.concat(lines, '\n') .. ending
@@ -160,10 +211,18 @@ function M.splice(lines, first, last, new)
   end
 end
 
---- Where a place is after a change: behind the same character, as others see it.
-function M.moved(place, change)
+--- Whether a change brings whole lines at the begin of one: a place there goes with that line. An empty text has none.
+function M.opens_line(lines, has_end, change)
+  local _, column = M.position(lines, change[1])
+  local is_empty = #lines == 1 and lines[1] == '' and not has_end
+  return column == 0 and change[1] == change[2] and change[3]:sub(-1) == '\n' and not is_empty
+end
+
+--- Where a place is after a change: behind the same character, as others see it; where it `goes`, before the one that it
+--- was before.
+function M.moved(place, change, goes)
   local from, to, text = change[1], change[2], change[3]
-  if place <= from then
+  if place < from or place == from and not (goes and from == to) then
     return place
   elseif place < to then
     return from

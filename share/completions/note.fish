@@ -1,0 +1,51 @@
+# Completes what note is given in fish: verbs, options, and the names of the notes that are here.
+
+set -l verbs append cat delete engine export history import install link list log open recover rename renew replace search sync uninstall web
+
+# The notes of the data folder.
+function __note_names
+    set -l data $VIALSHOAL_DATA
+    test -n "$data"; or set data (test -n "$XDG_DATA_HOME"; and echo $XDG_DATA_HOME; or echo $HOME/.local/share)/vialshoal
+    for file in $data/notes/*.note
+        string replace -r '.*/(.*)\.note$' '$1' -- $file
+    end
+end
+
+# The words after the command and before the last one.
+function __note_has
+    set -l words (commandline -opc)
+    test (count $words) $argv
+end
+
+# Whether the verb is one of these.
+function __note_verb
+    set -l words (commandline -opc)
+    test (count $words) -gt 1; and contains -- $words[2] $argv
+end
+
+complete -c note -f
+complete -c note -n '__note_has -eq 1' -a "$verbs"
+complete -c note -n '__note_has -eq 1; or not __note_verb install uninstall list search rename recover' -a '(__note_names)'
+complete -c note -n '__note_verb rename; and __note_has -eq 2' -a '(__note_names)'
+complete -c note -n '__note_verb import export recover' -F
+complete -c note -l help
+set -l logged append cat replace import log export history web renew recover open engine link
+set -l scripts append cat delete export history import list log rename replace search sync
+for option in log link-file
+    complete -c note -n "__note_has -eq 1; or __note_verb $logged" -l $option -r
+end
+complete -c note -n "__note_has -eq 1; or __note_verb $logged sync" -l password-file -r -F
+complete -c note -n "__note_verb $scripts" -l json
+complete -c note -n '__note_has -eq 1; or __note_verb append import web open' -l new
+complete -c note -n '__note_verb export' -l format -x -a 'text html'
+complete -c note -n '__note_verb export' -l replace
+complete -c note -n '__note_verb history' -l at -x
+complete -c note -n '__note_verb sync' -l every -x
+complete -c note -n '__note_verb install uninstall' -l prefix -r
+complete -c note -n '__note_has -eq 1; or __note_verb web' -l no-browser
+complete -c note -n '__note_has -eq 1; or __note_verb open' -l print
+complete -c note -n '__note_has -eq 1; or __note_verb renew' -l fresh
+complete -c note -n '__note_has -eq 1; or __note_verb renew' -l without -x
+complete -c note -n '__note_has -eq 1; or __note_verb renew delete' -l yes
+complete -c note -n '__note_has -eq 1; or __note_verb recover' -l lost
+complete -c note -n '__note_has -eq 1' -l version

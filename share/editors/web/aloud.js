@@ -1,0 +1,62 @@
+// What a screen reader is told, and how the keyboard leaves the text.
+
+/** @type {(id: string) => any} */
+const element = (id) => document.getElementById(id);
+// How long others type nothing before what they typed is told, and the most that is read out of it.
+const REST_MS = 1500;
+const MOST_READ = 200;
+
+/** Says something after all else that is being read. */
+export function tell(words) {
+  element("told").textContent = "";
+  element("told").textContent = words;
+}
+
+/** Makes a text one that is edited for whoever reads the page by ear or goes by keys: Tab leaves it after Esc. */
+export function isHeard(cm, label) {
+  const field = cm.getInputField();
+  Object.assign(field, { role: "textbox", ariaMultiLine: "true", ariaLabel: label, ariaDescription: element("leaving").textContent });
+  const leaving = { Tab: false, "Shift-Tab": false };
+  cm.on("keydown", (_, event) => {
+    if (!["Tab", "Shift"].includes(event.key)) cm.removeKeyMap(leaving);
+    if (event.key !== "Escape") return;
+    cm.addKeyMap(leaving);
+    tell("Tab leaves the text.");
+  });
+  cm.on("blur", () => cm.removeKeyMap(leaving));
+  // Who comes by keys finds the cursor where it was; the browser would have it at the front.
+  let isPointed = false;
+  for (const kind of ["pointerdown", "pointerup"]) addEventListener(kind, () => { isPointed = kind === "pointerdown"; }, true);
+  field.addEventListener("focus", () => setTimeout(() => {
+    const { input } = cm.display;
+    if (!isPointed && document.activeElement === field) input.showSelection(input.prepareSelection(), true);
+  }));
+}
+
+/** Tells, when others have stopped typing, which lines they changed. */
+export class Changes {
+  #cm;
+  #marks = [];
+  #timer;
+
+  constructor(cm) {
+    this.#cm = cm;
+  }
+
+  /** Others changed a place. */
+  at(place) {
+    if (this.#marks.length < MOST_READ) this.#marks.push(this.#cm.setBookmark(place));
+    clearTimeout(this.#timer);
+    this.#timer = setTimeout(() => this.#tell(), REST_MS);
+  }
+
+  #tell() {
+    const lines = this.#marks.map((mark) => mark.find()?.line).filter((line) => line !== undefined);
+    for (const mark of this.#marks) mark.clear();
+    this.#marks = [];
+    const [first, last] = [Math.min(...lines), Math.max(...lines)];
+    if (!lines.length) return;
+    if (first === last) tell(`Others changed line ${first + 1}: ${this.#cm.getLine(first).slice(0, MOST_READ)}`);
+    else tell(`Others changed lines ${first + 1} to ${last + 1}.`);
+  }
+}
