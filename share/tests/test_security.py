@@ -482,6 +482,19 @@ class Accounts(Case):
             self.assertIn(part, shown)
 
 
+class Said(unittest.TestCase):
+    """The page's table of who can do what."""
+
+    def test_it_says_what_these_tests_show(self) -> None:
+        page = (TOP / "docs" / "SHARING.md").read_text(encoding="utf-8")
+        rows = [line.strip("| ").split(" | ") for line in page.partition("| Who | Can | Can't |\n|---|---|---|\n")[2].splitlines()]
+        table = {who: (can, cannot) for who, can, cannot in rows[:rows.index([""])]}
+        self.assertIn("claim all numbers, so that no newcomer can type", table["somebody with the link"][0])
+        self.assertIn("write in another's name", table["who may write the folder of a log in a file"][0])
+        for _, cannot in table.values():
+            self.assertNotRegex(cannot, "newcomer|keep .* out")
+
+
 class Terminal:
     """A run of bin/note in a terminal of its own."""
 
