@@ -51,6 +51,8 @@ class Renewed(Engines):
         self.server.start()
         steps = json.loads(self.run_as(self.ann, "log", "note", "--json"))["steps"]
         self.assertEqual({(one["site"], one["own"]) for one in steps}, {(site, False) for site in self.numbers})
+        # The history is what it was: Bob typed within this later.
+        self.assertEqual(steps[0]["text"], "one two ")
         self.assertNotIn("(you)", self.run_as(self.ann, "log", "note"))
 
     def test_editors_tell_them_from_ones_own(self) -> None:
