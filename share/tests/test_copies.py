@@ -457,8 +457,8 @@ class Forked(Copied):
             notes[number].session.close()
             notes[number] = self.opened(self.person(name))
         wait_for(lambda: are_alike(notes) and words(notes[0].text) == expected, "all to be the same")
-        for word in b"inside", b"behind", b"more":
-            self.assertEqual(sum(word in message.data for message in notes[0].session.messages()), 1, word)
+        for typed_once in b"inside", b"behind", b"more":
+            self.assertEqual(sum(typed_once in message.data for message in notes[0].session.messages()), 1, typed_once)
 
 
 class BegunAnew(Copied):
