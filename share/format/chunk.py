@@ -93,6 +93,8 @@ def packed_in_parts(operations: Iterable[Operation], length: int = 0) -> list[Pa
 
 def _in_rows(operations: Sequence[Operation]) -> tuple[Operation, ...]:
     """Operations that one chunk has, as it is unpacked: letters typed one after the other in one."""
+    if len(operations) == 1:
+        return tuple(operations)
     rows: list[list[Operation]] = []
     for one in operations:
         if rows and _types_on(one, rows[-1][-1]):
@@ -140,7 +142,9 @@ def _number_in(spelled: bytes) -> int:
 @lru_cache(UNFOLDED)
 def unpacked_one_by_one(chunk: bytes) -> tuple[Operation, ...]:
     """The operations of a chunk one by one."""
-    return tuple(one for row in unpacked(chunk) for one in row.each())
+    rows = unpacked(chunk)
+    # A key is one row of one.
+    return rows if len(rows) == rows[0].size == 1 else tuple(one for row in rows for one in row.each())
 
 
 class _Expected:

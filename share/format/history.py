@@ -63,13 +63,14 @@ class Messages(Sequence[Operation]):
         holder, begin, end = part
         if begin == end:
             return
-        before = len(self)
-        if self._holders and self._holders[-1] is holder and self._begins[-1] + before - self._end_before(-1) == begin:
-            self._ends[-1] = before + end - begin
+        ends, holders = self._ends, self._holders
+        before = ends[-1] if ends else 0
+        if holders and holders[-1] is holder and self._begins[-1] + before - (ends[-2] if len(ends) > 1 else 0) == begin:
+            ends[-1] = before + end - begin
             return
-        self._holders.append(holder)
+        holders.append(holder)
         self._begins.append(begin)
-        self._ends.append(before + end - begin)
+        ends.append(before + end - begin)
 
     def parts(self) -> Iterator[Part]:
         """The operations by what has them."""
@@ -109,6 +110,12 @@ class Messages(Sequence[Operation]):
             del self._holders[-1], self._begins[-1], self._ends[-1]
         if self._ends:
             self._ends[-1] = min(self._ends[-1], length)
+
+    def last(self, many: int) -> list[Operation]:
+        """The last of them, this many."""
+        if self._ends and self._ends[-1] - self._end_before(-1) == many:
+            return [*self._holders[-1].between(self._begins[-1], self._begins[-1] + many)]
+        return [*self._between(len(self) - many, len(self), 1)]
 
     def _end_before(self, number: int) -> int:
         """The number of operations before a part."""
@@ -150,8 +157,11 @@ class Messages(Sequence[Operation]):
         return found
 
     def __iadd__(self, others: Iterable[Operation]) -> "Messages":
-        for part in others.parts() if isinstance(others, Messages) else Messages(others).parts():
-            self.add(part)
+        if isinstance(others, Messages):
+            for part in others.parts():
+                self.add(part)
+        elif loose := tuple(others):
+            self.add(Part(Loose(loose), 0, len(loose)))
         return self
 
     def __eq__(self, other: object) -> bool:
