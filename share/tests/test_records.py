@@ -15,7 +15,7 @@ from cryptography.hazmat.primitives.kdf.hkdf import HKDF
 from hypothesis import HealthCheck, given, settings
 from hypothesis import strategies as st
 
-from share.format import presence
+from share.format import link, presence
 from share.format.chunk import MOST_CHUNK, Packed, packed, packed_in_parts
 from share.format.entry import MOST_BYTES, Author, Bad, Copied
 from share.format.operation import Operation
@@ -24,6 +24,7 @@ from share.format.second import claim, signature
 from share.format.second.append import challenged, may_append
 from share.format.second.claim import Found, found_among, number_of_rank, rank_of
 from share.format.second.form import PlainRecords, RecordForm, SealedRecords
+from share.format.second.key_link import KeyLink, is_origin, read_key_link
 from share.format.second.keys import Founding, NoteKeys, derived, key_of_founding, new_founding
 from share.format.second.record import RECORD_HEAD, RECORD_KINDS, Record, RecordKind
 from share.tests import naive_second as second
@@ -435,6 +436,55 @@ class Claims(unittest.TestCase):
                              None if bits else 7)
             self.assertEqual(number_of_rank(b"\0\7" + ((1 << at) - 1).to_bytes(30, "big"), bits), 7)
         self.assertEqual(claim.ZERO_BITS, second.ZERO_BITS)
+
+
+class Links(unittest.TestCase):
+    """A link is read as it was spelled, and each mistake in it is noticed."""
+
+    LINKS = (KeyLink("sealed", bytes(range(32)), "redis://127.0.0.1:7000"), KeyLink("plain", bytes(range(32)), "/home/a b/it's.db"),
+             KeyLink("sealed", bytes(32), "unix:///run/redis.sock"), KeyLink("sealed", b"\xff" * 32, "https://notes.example"))
+
+    def test_what_is_spelled_is_read(self) -> None:
+        for one in self.LINKS:
+            text = one.spelled()
+            self.assertEqual((read_key_link(text), read_key_link(f" \n{text}\r\n")), (one, one))
+            self.assertEqual(second.read_link(text), (one.form[0], one.key, one.url))
+            self.assertEqual(second.link_of(one.key, one.url, one.form[0]), text)
+        page = self.LINKS[3].page()
+        self.assertEqual((read_key_link(page), page.split("#")[0]), (self.LINKS[3], "https://notes.example/"))
+        for said in json.loads(VECTORS.read_text())["links"]:
+            one = read_key_link(said["link"])
+            self.assertEqual((one.form[0], one.key.hex(), one.url, one.spelled()), (said["form"], said["key"], said["url"], said["link"]))
+
+    def test_a_mistyped_letter_is_noticed(self) -> None:
+        for text in [one.spelled() for one in self.LINKS] + [self.LINKS[3].page()]:
+            for at in range(len(text)):
+                for wrong in (text[:at] + ("B" if text[at] != "B" else "C") + text[at + 1:], text[:at], text[:at] + text[at + 1:],
+                              text + "A"):
+                    with self.assertRaises(Trouble, msg=wrong):
+                        read_key_link(wrong)
+
+    def test_versions_of_the_first_form_refuse_it_in_words(self) -> None:
+        for text in [one.spelled() for one in self.LINKS] + [self.LINKS[3].page()]:
+            with self.assertRaisesRegex(Trouble, "of a newer version of Vialshoal, which its note needs"):
+                link.read_link(text)
+        # And a link of the first form is none of the second.
+        with self.assertRaisesRegex(Trouble, "begins with vialshoal:2:"):
+            read_key_link(link.Link("sealed", bytes(32), "redis://h:1").spelled())
+
+    def test_urls_have_one_spelling(self) -> None:
+        for url in ("https://Notes.example", "https://h:443", "https://h:0", "https://h:65536", "https://h:07", "https://h/", "https://u@h",
+                    "redis://H:1", "redis://h:01", "x.db", "http://h", "redis://u:hush@h:1", "https://h?x"):
+            with self.assertRaises(Trouble, msg=url) as told:
+                read_key_link(KeyLink("sealed", bytes(32), url).spelled())
+            self.assertNotIn("hush", str(told.exception))
+        self.assertTrue(all(map(is_origin, ("https://h", "https://h:8443", "https://[::1]:1", "https://xn--bcher-kva.example"))))
+
+    def test_nothing_goes_to_a_server_unsealed_and_no_key_is_printed(self) -> None:
+        for url in "redis://h:1", "https://h", "unix:///a.sock":
+            with self.assertRaisesRegex(Trouble, "unsealed"):
+                read_key_link(KeyLink("plain", bytes(32), url).spelled())
+        self.assertNotIn(repr(self.LINKS[0].key)[2:-1], repr(self.LINKS[0]))
 
 
 class Presence(unittest.TestCase):
