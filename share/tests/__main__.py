@@ -24,7 +24,7 @@ MODULES = ["test_storm", "test_all_editors", "test_page", "test_web", "test_page
            "test_editor", "test_left_out", "test_numbers", "test_terminal", "test_security", "test_logs", "test_looks", "test_installing",
            "test_first_start", "test_opening", "test_of_files", "test_second_form", "test_records", "test_bad_input", "test_joining",
            "test_printing", "test_wire", "test_entry", "test_spelling", "test_carried", "test_engine_vectors", "test_chunks",
-           "test_keystrokes",
+           "test_keystrokes", "test_claim_search",
            "test_standing", "test_completions", "test_rooms", "test_alike", "test_framing", "test_trace", "test_reading_once",
            "test_losses", "test_damage", "test_renewal", "test_rewriting", "test_slow_line", "test_presence", "test_channel",
            "test_terminal_closed", "test_closing", "test_judge", "test_convergence", "test_effects", "test_undo", "test_layout_and_changes",

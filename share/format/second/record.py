@@ -1,8 +1,7 @@
 """Records: what a log of the second form carries. docs/NOTES.md calls them entries, and has them byte by byte."""
 import struct
-from collections.abc import Iterator, Mapping
+from collections.abc import Iterable, Mapping
 from enum import IntEnum
-from itertools import repeat
 from typing import NamedTuple
 
 from share.format.chunk import NoChunk, unpacked, unpacked_one_by_one
@@ -89,7 +88,8 @@ class Record(NamedTuple):
     @property
     def ons(self) -> tuple[bytes, ...]:
         """What each of its messages builds on, empty where one doesn't say it."""
-        return tuple(_ons(self.body, self.size)) if self.kind is RecordKind.MESSAGES else (b"",) * self.size
+        ons = _ons_by_index(self.body) if self.kind is RecordKind.MESSAGES else {}
+        return tuple(ons.get(index, b"") for index in range(self.size)) if ons else (b"",) * self.size
 
     @property
     def counter(self) -> int:
@@ -126,30 +126,38 @@ class Record(NamedTuple):
 def record_of(keys: NoteKeys, raw: bytes, body: bytes) -> Record:
     """The record of bytes that were opened before, with what is sealed in them."""
     _, number, _, author, site, text, first, size, before = RECORD_HEAD.unpack_from(raw)
-    kind = RECORD_KINDS.get(number, RecordKind.NEWER)
-    found = Record(kind, author, site, text, first, size if kind is not RecordKind.NEWER else 0, before, body, raw)
-    return found._replace(hashes=tuple(_chained(keys, found))) if kind is RecordKind.MESSAGES else found
+    kind, hashes = RECORD_KINDS.get(number, RecordKind.NEWER), tuple[bytes, ...]()
+    if kind is RecordKind.MESSAGES:
+        hashes = _chained(keys, author, before, unpacked(body[_chunk_begin(body):], text), _ons_by_index(body))
+    return Record(kind, author, site, text, first, size if kind is not RecordKind.NEWER else 0, before, body, raw, hashes)
 
 
 def checked(keys: NoteKeys, public: bytes, raw: bytes, body: bytes, zero_bits: int = ZERO_BITS) -> Record:
     """The record of bytes and what is sealed in them, of the note in which this key may append; Bad where they say what can't be."""
     _, number, _, author, site, text, first, size, before = RECORD_HEAD.unpack_from(raw)
-    one = Record(RECORD_KINDS.get(number, RecordKind.NEWER), author, site, text, first, size, before, body, raw)
-    if one.kind is RecordKind.NEWER:
-        return one._replace(size=0)
-    if one.kind is RecordKind.OPENING:
-        _check_opening(one, keys.key, public)
+    kind = RECORD_KINDS.get(number, RecordKind.NEWER)
+    if kind is RecordKind.NEWER or kind is RecordKind.OPENING:
+        one = Record(kind, author, site, text, first, size if kind is not RecordKind.NEWER else 0, before, body, raw)
+        if kind is RecordKind.OPENING:
+            _check_opening(one, keys.key, public)
         return one
     if not 1 <= site <= GREATEST_SITE:
         raise Bad("is of a site that can't be")
-    if (1 <= text <= GREATEST_TEXT) != (one.kind in OF_A_TEXT) or text and one.kind not in OF_A_TEXT:
+    if text > GREATEST_TEXT or (text > 0) != (kind in OF_A_TEXT):
         raise Bad("is of a text that can't be")
-    if one.kind in WITH_CHUNK:
-        _check_with_messages(one, public)
-        return one._replace(hashes=tuple(_chained(keys, one))) if one.kind is RecordKind.MESSAGES else one
-    if first or size:
-        raise Bad("counts messages where it has none")
-    _check_said(one, zero_bits)
+    if kind is RecordKind.MESSAGES:
+        if (first == 1) != (before == NO_HASH):
+            raise Bad("begins where something is before it, or goes on where nothing is")
+        ons = _checked_ons(body, size)
+        operations = _checked_chunk(body[_chunk_begin(body):], site, text, first, size)
+        return Record(kind, author, site, text, first, size, before, body, raw, _chained(keys, author, before, operations, ons))
+    one = Record(kind, author, site, text, first, size, before, body, raw)
+    if kind is RecordKind.BASE:
+        if author != public:
+            raise Bad("is no base by the note itself")
+        _checked_chunk(body, site, text, first, size)
+    else:
+        _check_said(one, zero_bits)
     return one
 
 
@@ -158,13 +166,14 @@ def body_of_messages(chunk: bytes, ons: Mapping[int, bytes]) -> bytes:
     return MANY_ONS.pack(len(ons)) + b"".join(ON_FIELD.pack(index, ons[index]) for index in sorted(ons)) + chunk
 
 
-def _chained(keys: NoteKeys, one: Record) -> Iterator[bytes]:
-    """The hash of each message."""
-    author, before, ons = one.author, one.before, iter(_ons(one.body, one.size))
-    for operation in one.operations:
+def _chained(keys: NoteKeys, author: bytes, before: bytes, operations: Iterable[Operation], ons: Mapping[int, bytes]) -> tuple[bytes, ...]:
+    """The hash of each of an author's messages after the one that has a hash."""
+    found = list[bytes]()
+    for operation in operations:
         for message in operation.spellings():
-            before = keys.message_hash(author, before, message, next(ons))
-            yield before
+            before = keys.message_hash(author, before, message, ons.get(len(found), b""))
+            found.append(before)
+    return tuple(found)
 
 
 def _chunk_begin(body: bytes) -> int:
@@ -172,14 +181,10 @@ def _chunk_begin(body: bytes) -> int:
     return MANY_ONS.size + ON_FIELD.size * int.from_bytes(body[:MANY_ONS.size], "big")
 
 
-def _ons(body: bytes, size: int) -> Iterator[bytes]:
-    """What each of some messages builds on."""
-    end, at = _chunk_begin(body), 0
-    for index, on in ON_FIELD.iter_unpack(body[MANY_ONS.size:end]):
-        yield from repeat(b"", index - at)
-        yield on
-        at = index + 1
-    yield from repeat(b"", size - at)
+def _ons_by_index(body: bytes) -> dict[int, bytes]:
+    """What messages build on, by their index; none of most."""
+    end = _chunk_begin(body)
+    return {index: on for index, on in ON_FIELD.iter_unpack(body[MANY_ONS.size:end])} if end > MANY_ONS.size else {}
 
 
 def _check_opening(one: Record, key: bytes, public: bytes) -> None:
@@ -192,6 +197,8 @@ def _check_opening(one: Record, key: bytes, public: bytes) -> None:
 
 def _check_said(one: Record, zero_bits: int) -> None:
     """Raises Bad where something without messages says what can't be."""
+    if one.first or one.size:
+        raise Bad("counts messages where it has none")
     if one.kind is RecordKind.CLAIM:
         if one.body or not one.before.startswith(CLAIM_ZEROS):
             raise Bad("is a claim with more in it than a claim has")
@@ -218,31 +225,26 @@ def _check_copied(one: Record) -> None:
         raise Bad("speaks of copies of others")
 
 
-def _check_with_messages(one: Record, public: bytes) -> None:
-    """Raises Bad where messages are spelled wrong, or aren't those of their place."""
-    if not one.first or not one.size:
+def _checked_ons(body: bytes, size: int) -> dict[int, bytes]:
+    """What some messages build on, by their index; Bad where a body doesn't say it rightly."""
+    if len(body) < MANY_ONS.size or len(body) < _chunk_begin(body):
+        raise Bad("has messages that are cut short")
+    ons = _ons_by_index(body)
+    if ons and ([*ons] != sorted(ons) or max(ons) >= size or MANY_ONS.size + ON_FIELD.size * len(ons) != _chunk_begin(body)):
+        raise Bad("doesn't say in order which messages build on something")
+    return ons
+
+
+def _checked_chunk(chunk: bytes, site: int, text: int, first: int, size: int) -> tuple[Operation, ...]:
+    """The operations of a chunk; Bad where they are spelled wrong, or aren't those of this place."""
+    if not first or not size:
         raise Bad("has no messages")
-    if one.kind is RecordKind.BASE:
-        if one.author != public:
-            raise Bad("is no base by the note itself")
-    elif (one.first == 1) != (one.before == NO_HASH):
-        raise Bad("begins where something is before it, or goes on where nothing is")
-    else:
-        _check_ons(one)
     try:
-        operations = one.operations
+        operations = unpacked(chunk, text)
     except NoChunk as why:
         raise Bad("has bytes that are no chunk") from why
-    if operations[0].site != one.site or operations[0].seq != one.first:
+    if operations[0].site != site or operations[0].seq != first:
         raise Bad("has messages of another place")
-    if sum(each.size for each in operations) != one.size:
+    if sum(one.size for one in operations) != size:
         raise Bad("doesn't have as many messages as it says")
-
-
-def _check_ons(one: Record) -> None:
-    """Raises Bad where a body doesn't say rightly which messages say what they build on."""
-    if len(one.body) < MANY_ONS.size or len(one.body) < _chunk_begin(one.body):
-        raise Bad("has messages that are cut short")
-    indexes = [index for index, _ in ON_FIELD.iter_unpack(one.body[MANY_ONS.size:_chunk_begin(one.body)])]
-    if indexes and (indexes != sorted({*indexes}) or indexes[-1] >= one.size):
-        raise Bad("doesn't say in order which messages build on something")
+    return operations
