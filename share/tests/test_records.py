@@ -1,4 +1,5 @@
 """Records of the second form: vectors that a second program made, what the plain program says of each, and what is none."""
+import hashlib
 import json
 import os
 import pathlib
@@ -95,7 +96,7 @@ class AsThePlainProgram(unittest.TestCase):
             assert found
             self.assertEqual((found.author, found.site, found.by, found.by_site, found.last, found.stretches), tuple(copied))
 
-    @tries(40)
+    @tries(100)
     @given(SEEDS)
     def test_what_is_in_sets_is_opened_alike(self, seed: int) -> None:
         one = some_set(seed)
@@ -364,6 +365,39 @@ class Made(unittest.TestCase):
         self.assertEqual(key_of_founding(self.founding.spelled()), self.founding.key())
 
 
+# The curve of Ed25519 as its definition has it: a point is its x and y.
+Point = tuple[int, int]
+CURVE = -121665 * pow(121666, -1, FIELD) % FIELD
+ROOT_OF_MINUS_ONE = pow(2, (FIELD - 1) // 4, FIELD)
+
+
+def added(one: Point, two: Point) -> Point:
+    """The sum of two points."""
+    (x, y), (z, w) = one, two
+    product = CURVE * x * z * y * w % FIELD
+    return ((x * w + z * y) * pow(1 + product, -1, FIELD) % FIELD, (y * w + x * z) * pow(1 - product, -1, FIELD) % FIELD)
+
+
+def times(many: int, point: Point) -> Point:
+    """A point that is added to itself."""
+    found = 0, 1
+    while many:
+        found, point, many = added(found, point) if many & 1 else found, added(point, point), many >> 1
+    return found
+
+
+def with_y(y: int) -> Point:
+    """The point of a y whose x is even."""
+    square = (y * y - 1) * pow(CURVE * y * y + 1, -1, FIELD) % FIELD
+    x = pow(square, (FIELD + 3) // 8, FIELD)
+    x = x if x * x % FIELD == square else x * ROOT_OF_MINUS_ONE % FIELD
+    return (x if x % 2 == 0 else FIELD - x), y
+
+
+def spelled_point(point: Point) -> bytes:
+    return (point[1] | (point[0] & 1) << 255).to_bytes(32, "little")
+
+
 class Signatures(unittest.TestCase):
     """What is signed, all who check find signed."""
 
@@ -394,6 +428,21 @@ class Signatures(unittest.TestCase):
         self.assertFalse(signature.is_signed(data, right, public[:-1]))
         for at in range(64):
             self.assertFalse(signature.is_signed(data, changed_bytes(right, at, 1 << at % 8), public))
+
+    def test_signatures_are_checked_without_cofactor(self) -> None:
+        # A key with a part of order 8: who multiplies by the cofactor finds all of these signatures right, and who doesn't, some.
+        base, eighth = with_y(4 * pow(5, -1, FIELD) % FIELD), with_y(signature.SMALL_ORDER[3])
+        self.assertEqual((times(8, eighth), times(4, eighth)), ((0, 1), (0, FIELD - 1)))
+        public, told = spelled_point(added(times(77, base), eighth)), Counter[bool]()
+        begin = spelled_point(times(5, base))
+        for number in range(64):
+            data = bytes([number])
+            factor = int.from_bytes(hashlib.sha512(begin + public + data).digest(), "little") % ORDER
+            shown = begin + ((5 + factor * 77) % ORDER).to_bytes(32, "little")
+            is_right = signature.is_signed(data, shown, public)
+            self.assertEqual((is_right, second.is_signed(data, shown, public)), (factor % 8 == 0,) * 2)
+            told[is_right] += 1
+        self.assertGreater(min(told.values()), 1)
 
     def test_to_append_one_shows_to_have_the_link_to_one_server_once(self) -> None:
         form, challenge, origin = SealedRecords(b"k" * 32), b"c" * 32, "https://notes.example"

@@ -3,7 +3,7 @@ import hashlib
 import hmac
 import secrets
 import struct
-from collections.abc import Iterator
+from collections.abc import Iterable, Iterator
 from typing import NamedTuple
 
 from share.format.entry import NO_HASH
@@ -40,7 +40,7 @@ class Founding(NamedTuple):
         """The note's key."""
         return key_of_founding(self.spelled())
 
-    def links(self, before: bytes, operations: Iterator[Operation]) -> Iterator[bytes]:
+    def links(self, before: bytes, operations: Iterable[Operation]) -> Iterator[bytes]:
         """What names each of some messages of the base, and all before it, after what names the one before them."""
         begin = hmac.new(derived(self.secret, b"base"), digestmod="sha256")
         for operation in operations:

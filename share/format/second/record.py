@@ -120,7 +120,7 @@ class Record(NamedTuple):
         """The record, and where it is of the base what names its messages."""
         if self.kind is not RecordKind.BASE:
             return self
-        return self._replace(links=tuple(founding.links(self.before, iter(self.operations))))
+        return self._replace(links=tuple(founding.links(self.before, self.operations)))
 
 
 def record_of(keys: NoteKeys, raw: bytes, body: bytes) -> Record:
