@@ -18,9 +18,10 @@ from hypothesis import strategies as st
 
 from share.format import link, presence
 from share.format.chunk import MOST_CHUNK, Packed, packed, packed_in_parts
-from share.format.entry import MOST_BYTES, Author, Bad, Copied
+from share.format.entry import MOST_BYTES, Author, Bad, Copied, Form, Plain
 from share.format.operation import Operation
 from share.format.presence import MOST_PRESENCE, Present
+from share.format.sealed import Sealed
 from share.format.second import claim, signature
 from share.format.second.append import challenged, may_append
 from share.format.second.claim import Found, found_among, number_of_rank, rank_of
@@ -341,6 +342,16 @@ class Made(unittest.TestCase):
         self.assertEqual(right.raw[:-SIGNATURE], forged.raw[:-SIGNATURE])
         # The opening and the base are whose who has the key.
         self.assertEqual(self.sealed.itself.name, self.sealed.public)
+
+    def test_what_is_of_another_form_is_none(self) -> None:
+        before = Plain(bytes(16)), Sealed(bytes(32))
+        raws = [*(form.claim(7, form.new_author()).raw for form in before), *(form.opening(self.founding).raw for form in (
+            self.plain, self.sealed))]
+        forms: tuple[Form | RecordForm, ...] = (*before, self.plain, self.sealed)
+        for at, form in enumerate(forms):
+            for raw in raws[:at] + raws[at + 1:]:
+                with self.assertRaises(Bad):
+                    form.open(raw[:2] + form.note + raw[18:])
 
     def test_another_key_opens_nothing(self) -> None:
         [one] = self.typed(self.sealed, self.author, 1)
