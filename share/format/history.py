@@ -6,7 +6,7 @@ from collections.abc import Iterable, Iterator, Sequence
 from itertools import chain, islice
 from typing import NamedTuple, Protocol, overload
 
-from share.format.chunk import Writer, unpacked
+from share.format.chunk import Writer, text_of_chunk, unpacked
 from share.format.operation import Operation
 
 # A chunk of fewer operations is handed in with others where there are many, since a run of the program reads no more than 2^20 lines.
@@ -83,7 +83,7 @@ class Messages(Sequence[Operation]):
         """The operations, letters typed one after the other in one."""
         for part in self.parts():
             for chunk, known, _ in part.holder.parts(part.begin, part.end):
-                yield from known or unpacked(chunk)
+                yield from known or unpacked(chunk, text_of_chunk(chunk))
 
     def chunks(self, few: int | None = None) -> Iterator[tuple[bytes, int]]:
         """Chunks of all of them, and the number that each has: those that came, but for such of few, and new ones of the others."""
@@ -95,7 +95,7 @@ class Messages(Sequence[Operation]):
                     writer, count = Writer(), 0
                 yield chunk, size
                 continue
-            for one in known or unpacked(chunk):
+            for one in known or unpacked(chunk, text_of_chunk(chunk)):
                 if not writer.add(one):
                     yield bytes(writer.data), count
                     writer, count = Writer(), 0
