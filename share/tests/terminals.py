@@ -154,9 +154,3 @@ class Answering:
             self._read()
         assert self._status is not None
         return self._status
-
-
-def children(process: int) -> list[int]:
-    """The processes that the threads of a process started."""
-    lists = pathlib.Path(f"/proc/{process}/task").glob("*/children")
-    return [int(child) for threads in lists for child in threads.read_text().split()]
