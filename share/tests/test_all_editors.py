@@ -212,7 +212,8 @@ class Done:
     def wait_for(self, many: int, moment: float) -> None:
         """Waits until so many are done, and a moment more, in which others are amid theirs."""
         with self._changed:
-            assert self._changed.wait_for(lambda: self._many >= many, PATIENCE)
+            while (before := self._many) < many:
+                assert self._changed.wait_for(lambda before=before: self._many > before, PATIENCE), f"{before} of {many} things are done"
         time.sleep(moment)
 
 
