@@ -97,6 +97,10 @@ class Ahead:
         """When it was changed last."""
         return os.fstat(self._file).st_ctime_ns
 
+    def written(self) -> int:
+        """When bytes of it were written last. Who opens it as root sets its owner, to what that is, which counts as a change too."""
+        return os.fstat(self._file).st_mtime_ns
+
     def rested(self) -> float:
         """For how many seconds it wasn't changed, as far as was seen."""
         now, changed = time.monotonic(), self.changed()
@@ -237,10 +241,10 @@ class FileWatch:
         """Takes note of what is written meanwhile. Only one thread writes at a time; what another program writes meanwhile isn't taken
         over."""
         with self._writing:
-            is_known, before = self._state == self._now(), self._ahead.changed()
+            is_known, before = self._state == self._now(), self._ahead.written()
             try:
                 yield
-                self._awaits |= not self._ahead.note() and self._ahead.changed() != before
+                self._awaits |= not self._ahead.note() and self._ahead.written() != before
             finally:
                 # SQLite itself may have moved pages of the log into the file.
                 if is_known and self._state != (now := self._now()):
