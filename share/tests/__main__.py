@@ -133,11 +133,11 @@ def results(modules: Sequence[str], folder: pathlib.Path, seconds: float) -> Ite
                 line, one = start(module, folder / f"{number}-{module}", seconds)
                 running[line] = one
             patience = max(0.0, min(one.end for one in running.values()) - time.monotonic())
-            for line in connection.wait([*running], patience):
-                assert isinstance(line, connection.Connection)
-                yield received(line, running.pop(line))
-            for line in [line for line, one in running.items() if time.monotonic() >= one.end and not line.poll()]:
-                yield given_up(line, running.pop(line), seconds)
+            for ready in connection.wait([*running], patience):
+                assert isinstance(ready, connection.Connection)
+                yield received(ready, running.pop(ready))
+            for late in [line for line, one in running.items() if time.monotonic() >= one.end and not line.poll()]:
+                yield given_up(late, running.pop(late), seconds)
     finally:
         for one in running.values():
             one.kill()

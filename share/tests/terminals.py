@@ -8,6 +8,7 @@ import re
 import signal
 import subprocess
 
+from share.tests.processes import children
 from share.tests.support import NOTE, Case, wait_for
 
 WIDTH, HEIGHT = 70, 12

@@ -213,7 +213,8 @@ class Done:
         """Waits until so many are done, and a moment more, in which others are amid theirs."""
         with self._changed:
             while (before := self._many) < many:
-                assert self._changed.wait_for(lambda before=before: self._many > before, PATIENCE), f"{before} of {many} things are done"
+                self._changed.wait(PATIENCE)
+                assert self._many > before, f"{before} of {many} things are done"
         time.sleep(moment)
 
 
