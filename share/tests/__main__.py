@@ -18,7 +18,7 @@ from typing import NamedTuple
 
 from share.tests.byte_code import use_byte_code_of
 from share.tests.left_open import left_open, open_now
-from share.tests.processes import descendants
+from share.tests.processes import descendants, handles
 
 # How many modules run at a time. They wait more than they work.
 AT_A_TIME = 2 * (os.cpu_count() or 2) + 2
@@ -165,11 +165,17 @@ def received(line: "connection.Connection", one: Running) -> Result:
 
 def given_up(line: "connection.Connection", one: Running, seconds: float) -> Result:
     """What is told of a module that has taken too long, which is ended."""
-    with line, contextlib.suppress(ProcessLookupError):
-        # It writes down what it is at, where it can.
-        os.kill(one.process.pid or 0, signal.SIGABRT)
+    process = one.process.pid or 0
+    # What it started is nobody's child once it has ended.
+    with line, handles(descendants(process)) as started:
+        with contextlib.suppress(ProcessLookupError):
+            # It writes down what it is at, where it can.
+            os.kill(process, signal.SIGABRT)
         one.ends()
-    one.kill()
+        one.kill()
+        for each in started:
+            with contextlib.suppress(ProcessLookupError):
+                signal.pidfd_send_signal(each, signal.SIGKILL)
     return one.fault(f"was ended, since it took more than {seconds:.0f} seconds")
 
 

@@ -2,7 +2,7 @@
 import contextlib
 import os
 import pathlib
-from collections.abc import Iterator
+from collections.abc import Iterable, Iterator
 
 
 def children(process: int) -> list[int]:
@@ -20,3 +20,15 @@ def descendants(process: int) -> Iterator[int]:
     for child in children(process):
         yield from descendants(child)
         yield child
+
+
+@contextlib.contextmanager
+def handles(processes: Iterable[int]) -> Iterator[list[int]]:
+    """Descriptors of those of these processes that are there, by which each is reached also where another one gets its number later."""
+    with contextlib.ExitStack() as stack:
+        found = list[int]()
+        for process in processes:
+            with contextlib.suppress(OSError):
+                found.append(os.pidfd_open(process))
+                stack.callback(os.close, found[-1])
+        yield found

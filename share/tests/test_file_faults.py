@@ -296,7 +296,6 @@ class Replaced(Case):
             self.assertEqual((disk.is_in_place(), disk.entries.size()), (False, many))
         self.assertNotEqual(inode_of(path), inode)
 
-
     def test_who_opens_it_meanwhile_has_written_nothing(self) -> None:
         note = self.opened(self.person())
         written(note, "words ")
