@@ -1,4 +1,4 @@
-"""How the modules of tests are run: what passed and failed is counted, and one that is killed, hangs, or doesn't end is told by its name."""
+"""How modules of tests are run: what passed and failed is counted, and one that is killed, hangs, or doesn't end is told by its name."""
 import contextlib
 import io
 import os
