@@ -36,7 +36,7 @@ def held(folder: pathlib.Path) -> Iterator[int]:
 
 
 @contextlib.contextmanager
-def settled(folder: pathlib.Path) -> Iterator[None]:
+def undisturbed(folder: pathlib.Path) -> Iterator[None]:
     """Keeps others meanwhile from making a file in a folder, or setting one aside, where that can be. Who opens a file of SQLite needs it:
     what is beside the file is found by its name, and so would be what is beside the one that took that."""
     with contextlib.ExitStack() as stack:

@@ -5,7 +5,7 @@ import pathlib
 from collections.abc import Callable, Collection, Iterator
 from typing import NoReturn
 
-from share.log.folder import inode_of, settled
+from share.log.folder import inode_of, undisturbed
 from share.log.sqlite_file import FAULTS, Busy, Malformed, SqliteFile, application_without_log
 from share.store import unchanged
 
@@ -41,7 +41,7 @@ class GuardedFile:
         if fault := unchanged.fault(path):
             raise Changed(fault)
         self._version = self._shortened = 0
-        with settled(path.parent):
+        with undisturbed(path.parent):
             self._begin(tables)
 
     def _begin(self, tables: Collection[str]) -> None:
