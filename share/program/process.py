@@ -82,7 +82,7 @@ class Program:
     answer of one that stands still is called."""
 
     def __init__(self, site: int, folder: pathlib.Path | None = None, still: Callable[[], None] = lambda: None):
-        self.site, self.lines, self._still = site, 0, still
+        self.site, self.lines, self._still, self._has_answered = site, 0, still, False
         runs = command()
         words, self.is_unproved = [*runs, "--first", str(site), "--count", "1"], is_unproved(runs)
         # It may have been taken away meanwhile, and what isn't there is no place for files.
@@ -119,7 +119,7 @@ class Program:
         while len(answers) < len(events):
             read, write = self._ready(bool(script))
             if not (read or write):
-                patience = patience or Patience(self.process.pid)
+                patience = patience or Patience(self.process.pid, self._has_answered)
                 self._wait(patience)
                 continue
             patience = None
@@ -165,7 +165,7 @@ class Program:
         """Waits on for a process of which nothing came, unless that hangs: then it is ended."""
         if patience.is_over():
             self.process.kill()
-            raise Ended
+            raise Ended("it was ended, since it stood still or worked on without an answer")
         if patience.is_still():
             self._still()
 
@@ -179,7 +179,8 @@ class Program:
 
     def _read(self) -> bytes:
         if not (data := os.read(self._out, PIPE)):
-            raise Ended
+            raise Ended("it ended by itself")
+        self._has_answered = True
         return data
 
     def close(self) -> None:

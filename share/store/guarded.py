@@ -4,7 +4,7 @@ import contextlib
 import pathlib
 from collections.abc import Callable, Collection, Iterator
 
-from share.log.folder import inode_of
+from share.log.folder import inode_of, undisturbed
 from share.log.sqlite_file import Busy, Malformed, SqliteFile, application_without_log, fault_in
 from share.store import unchanged
 
@@ -41,8 +41,12 @@ class GuardedFile:
             raise Changed(fault)
         self._version = self._shortened = 0
         self._reading, self._explaining = _Reading(self.see, self._explain), _Reading(lambda: None, self._explain)
+        with undisturbed(path.parent):
+            self._begin(tables)
+
+    def _begin(self, tables: Collection[str]) -> None:
         with self.reading():
-            self.sql = SqliteFile(path)
+            self.sql = SqliteFile(self.path)
         try:
             with self.reading():
                 self._open(tables)

@@ -100,7 +100,7 @@ class Shared(Case):
     def setUp(self) -> None:
         super().setUp()
         self.server = Server(self.folder / "redis")
-        self.addCleanup(self.server.kill)
+        self.addCleanup(self.server.close)
         self.ann = self.person("ann")
         self.note_of_ann = self.opened(self.ann, url=self.server.url)
         for words in "one ", "two ":
@@ -424,7 +424,7 @@ class Accounts(Case):
 
     def test_no_key_and_no_password_in_arguments(self) -> None:
         server = Server(self.folder / "redis", "--requirepass", "gooseberry")
-        self.addCleanup(server.kill)
+        self.addCleanup(server.close)
         person, password = self.person(), self.folder / "password"
         password.write_text("gooseberry\n")
         terminal = Terminal(self, person, "note", "--log", server.url, "--password-file", str(password))
