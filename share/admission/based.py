@@ -64,4 +64,5 @@ class Based:
 
     def lines(self) -> list[tuple[Client, Line]]:
         """The lines of its sites, where all of it is here."""
-        return [(client, Line(self._sayings, client.site, numbers)) for client, numbers in groupby(reversed(self._found), self._sayings.client)]
+        stretches = groupby(reversed(self._found), self._sayings.client)
+        return [(client, Line(self._sayings, client.site, numbers)) for client, numbers in stretches]

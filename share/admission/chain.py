@@ -14,6 +14,8 @@ class Chain(Passing):
 
     __slots__ = ("branch", "run", "_runs", "pending", "_ends")
 
+    branch: Branch
+
     def __init__(self, ledger: Ledger, site: int):
         self.branch = Branch(ledger, site)
         super().__init__()

@@ -60,6 +60,8 @@ class Line(Passing):
 
     __slots__ = ("branch", "_seen", "_ends")
 
+    branch: Path
+
     def __init__(self, sayings: Sayings, site: int, numbers: Iterable[int] = ()):
         self.branch = Path(sayings, site, numbers)
         super().__init__()

@@ -16,6 +16,7 @@ from share.format.operation import Operation
 
 # Chains of entries, or of messages.
 Chained = TypeVar("Chained", bound=Passing)
+Ruled = TypeVar("Ruled", bound=Passing, contravariant=True)
 
 # Letters that are typed on are let through together before those of others whose stamps are lower by no more than this.
 AHEAD = 100
@@ -56,13 +57,13 @@ class WaitingChains:
         return found
 
 
-class Rule(Protocol[Chained]):
+class Rule(Protocol[Ruled]):
     """What becomes of the messages that are next in a chain."""
 
-    def verdict(self, chain: Chained, run: Operation, greatest: int) -> Verdict:
+    def verdict(self, chain: Ruled, run: Operation, greatest: int) -> Verdict:
         """What becomes of a chain's next messages, where the greatest stamp is this."""
 
-    def needs(self, chain: Chained) -> dict[int, tuple[int, int]]:
+    def needs(self, chain: Ruled) -> dict[int, tuple[int, int]]:
         """The sites of which a chain's next message mentions characters that aren't there: the first one that it mentions, and
         how long the site's file has to be to have them all."""
 

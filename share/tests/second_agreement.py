@@ -15,12 +15,14 @@ from share.format.history import Messages
 from share.format.operation import Operation
 from share.tests import naive_second as second
 from share.tests.naive_chunks import Message
-from share.tests.naive_second import Answer, Bad, Entry, Founding, Kind, Note, Place, Saying, base_hashes, opened, rank
+from share.tests.naive_second import Answer, Bad, Entry, Founding, Kind, Note, Place, base_hashes, opened, rank
 from share.tests.second_sets import COPIED, RIGHT, STEPS, ZERO_BITS, Set, cut
 from share.text.names import Names
 
 # Of one set that was made so many are taken: parts of it, in orders of their own.
-TAKEN = 25
+TAKEN = 30
+# How often it is said how far it is.
+SAID = 5_000
 
 
 class Record(NamedTuple):
@@ -171,7 +173,7 @@ def agrees(one: Set, reader: Reader, raws: Sequence[bytes], chance: random.Rando
 
 def a_set(chance: random.Random) -> Set:
     """A set as test_second_form makes them, of few steps or of more."""
-    steps = ["claim"] * chance.choice([2, 4, 6]) + ["begin"] * chance.choice([2, 3]) + chance.choices(
+    steps = ["claim"] * chance.choice([3, 6, 9]) + ["begin"] * chance.choice([2, 3]) + chance.choices(
         chance.choice([RIGHT, STEPS]), k=chance.choice([4, 8, 14]))
     return Set([(step, chance.randrange(2**16)) for step in steps], chance.random() < 0.3)
 
@@ -202,6 +204,8 @@ def agreed(count: int, seed: int) -> tuple[Counter[str], int]:
             found.update(why.name for _, why in answer.left_out.values())
             through += sum(len(said) for (site, _), said in answer.through.items() if site not in COPIED)
             tried += 1
+            if tried % SAID == 0:
+                print(f"{tried} sets agreed", file=sys.stderr)
             if tried == count:
                 break
     return found, through
