@@ -76,7 +76,7 @@ class MessageJudge:
 
     def __init__(self, digest: Digest, entries: Iterable[Spoken] = ()):
         self._digest = digest
-        self._sayings, self._base = Sayings(), Based()
+        self.sayings, self._base = Sayings(), Based()
         self._texts: dict[int, OneText] = {}
         # Who claims numbers; and who holds each, by which rank.
         self._claims: set[tuple[int, bytes]] = set()
@@ -106,11 +106,10 @@ class MessageJudge:
 
     def _say(self, entry: WithMessages, hashes: Sequence[bytes], ons: Sequence[bytes]) -> None:
         """Adds messages."""
-        heads = self._sayings.add(entry, hashes, ons)
+        first = self.sayings.add(entry, hashes, ons)
         client = Client(entry.author, entry.site, entry.text)
-        if self._has_begun and self.holder(client.site) == client.author:
-            for number in heads:
-                self._text(client.text).look(number, client)
+        if first is not None and self._has_begun and self.holder(client.site) == client.author:
+            self._text(client.text).look(first, client)
 
     def _claim(self, site: int, author: bytes, rank: bytes) -> None:
         """Gives a number to who claims it, where nobody does by a lesser rank."""
@@ -121,7 +120,7 @@ class MessageJudge:
         self._holders[site] = rank, author
         if self._has_begun and site not in self._base.sites and (before is None or before[1] != author):
             known = {number for number, text in self._texts.items() if site in text.lines}
-            for text in sorted(known.union(self._sayings.texts(author, site))):
+            for text in sorted(known.union(self.sayings.texts(author, site))):
                 self._text(text).begin(Client(author, site, text))
 
     def _begin(self) -> None:
@@ -131,13 +130,13 @@ class MessageJudge:
         self._has_begun = True
         for client, line in self._base.lines():
             self._text(client.text).put(client.site, line)
-        for client in self._sayings.clients():
+        for client in self.sayings.clients():
             if self.holder(client.site) == client.author:
                 self._text(client.text).begin(client)
 
     def _text(self, text: int) -> OneText:
         if text not in self._texts:
-            self._texts[text] = OneText(self._sayings, self._base.sites, self._digest)
+            self._texts[text] = OneText(self.sayings, self._base.sites, self._digest)
         return self._texts[text]
 
     # What counts of it.
@@ -165,12 +164,12 @@ class MessageJudge:
         return self._texts[text].hashes(site) if text in self._texts else iter(())
 
     def __contains__(self, of: bytes) -> bool:
-        number = self._sayings.number(of)
-        return number is not None and self._sayings.is_here(number)
+        number = self.sayings.number(of)
+        return number is not None and self.sayings.is_here(number)
 
     def reason(self, of: bytes) -> Reason | None:
         """Why a message that is here doesn't count; None where it does."""
-        sayings, number = self._sayings, self._sayings.number(of)
+        sayings, number = self.sayings, self.sayings.number(of)
         if number is None or not sayings.is_here(number):
             raise KeyError(of)
         if not self._has_begun:
@@ -186,4 +185,4 @@ class MessageJudge:
 
     def missing(self, most: int) -> list[bytes]:
         """The hashes of some messages that are missing, after which others came."""
-        return self._sayings.missing(most)
+        return self.sayings.missing(most)

@@ -82,19 +82,18 @@ class Sayings(Hashes):
 
     # What comes.
 
-    def add(self, entry: WithMessages, hashes: Sequence[bytes], ons: Sequence[bytes]) -> list[int]:
-        """Adds those of an entry's messages that aren't here; the numbers of those of them that follow none of them."""
+    def add(self, entry: WithMessages, hashes: Sequence[bytes], ons: Sequence[bytes]) -> int | None:
+        """Adds those of an entry's messages that aren't here; the first of them, without which none of the others has its place; None
+        where all are here."""
         client = self._client(Client(entry.author, entry.site, entry.text))
         before = self._entered(entry.before) if entry.before != NO_HASH else None
-        numbers, heads, at, last = [*map(self._entered, hashes)], list[int](), 0, -1
+        numbers, found, at = [*map(self._entered, hashes)], None, 0
         for run in entry.operations:
             for begin, end in self._lacking(numbers, ons, at, at + run.size):
                 self._put(numbers[begin:end], client, run.part(begin - at, end - at), numbers[begin - 1] if begin else before, ons[begin])
-                if begin != last:
-                    heads.append(numbers[begin])
-                last = end
+                found = numbers[begin] if found is None else found
             at += run.size
-        return heads
+        return found
 
     def _client(self, client: Client) -> int:
         """The number of an author, a number and a text."""

@@ -14,13 +14,14 @@ from share.admission.reasons import Reason
 from share.format.history import Messages
 from share.format.operation import Operation
 from share.tests import naive_second as second
-from share.tests.naive_chunks import Message
-from share.tests.naive_second import Answer, Bad, Entry, Founding, Kind, Note, Place, base_hashes, opened, rank
-from share.tests.second_sets import COPIED, RIGHT, STEPS, ZERO_BITS, Set, cut
+from share.tests.naive_chunks import Message, inserting, spelled
+from share.tests.naive_second import ZEROS, Answer, Bad, Entry, Founding, Kind, Note, Place, Saying, base_hashes, opened, rank
+from share.tests.second_sets import COPIED, RIGHT, STEPS, ZERO_BITS, Branch, Set, cut
 from share.text.names import Names
 
 # Of one set that was made so many are taken: parts of it, in orders of their own.
 TAKEN = 30
+TYPING = ["type_on"] * 3
 # How often it is said how far it is.
 SAID = 5_000
 
@@ -77,6 +78,38 @@ def record(note: Note, entry: Entry, secret: bytes) -> Record:
     if head.kind == Kind.BASE:
         return one._replace(operations=operations, links=tuple(base_hashes(secret, entry.messages, head.before)))
     return one._replace(operations=operations, hashes=tuple(said.hash for said in entry.says), ons=tuple(said.on for said in entry.says))
+
+
+class Typed(Set):
+    """A set in which letters are typed one after the other, also with one of them wrong, and others speak of them."""
+
+    def type_on(self) -> None:
+        """Some letters, of which one may have another place, stamp, cause or word of what it builds on than one that is typed on."""
+        if (branch := self._leaf()) is None:
+            return
+        count, begin = self._chance.randint(2, 7), len(branch.said)
+        wrong = self._chance.randrange(6 * count)
+        for number in range(count):
+            branch = self._letter(branch, self._chance.randrange(4) if number == wrong else None)
+        self.raws += cut(self.note, branch, self._chance, begin)
+        self.branches.append(branch)
+
+    def _letter(self, branch: Branch, wrong: int | None) -> Branch:
+        """A branch with one more letter."""
+        before, at, stamp, on = branch.said[-1].hash if branch.said else ZEROS, branch.length, branch.stamp + 1, b""
+        cause = (branch.site, at - 1) if at else None
+        if wrong == 0:
+            at += 1
+        elif wrong == 1:
+            stamp = max(1, stamp + self._chance.choice([-2, -1, 1]))
+        elif wrong == 2:
+            cause = (branch.site, self._chance.randrange(at)) if at else None
+        elif wrong == 3:
+            on = bytes(32)
+        seq = branch.said[-1].message.seq + 1 if branch.said else 1
+        message = inserting(branch.text, branch.site, seq, stamp, cause, at, self._chance.choice([b"a", b"b"]))
+        of = self.note.message_hash(branch.author.name, before, spelled(message), on)
+        return branch._replace(said=(*branch.said, Saying(message, on, of, before, branch.author.name)))
 
 
 class Reader:
@@ -174,8 +207,8 @@ def agrees(one: Set, reader: Reader, raws: Sequence[bytes], chance: random.Rando
 def a_set(chance: random.Random) -> Set:
     """A set as test_second_form makes them, of few steps or of more."""
     steps = ["claim"] * chance.choice([3, 6, 9]) + ["begin"] * chance.choice([2, 3]) + chance.choices(
-        chance.choice([RIGHT, STEPS]), k=chance.choice([4, 8, 14]))
-    return Set([(step, chance.randrange(2**16)) for step in steps], chance.random() < 0.3)
+        chance.choice([RIGHT + TYPING, STEPS + TYPING * 3]), k=chance.choice([4, 8, 14]))
+    return Typed([(step, chance.randrange(2**16)) for step in steps], chance.random() < 0.3)
 
 
 def parts(one: Set, chance: random.Random) -> Iterable[list[bytes]]:
