@@ -4,8 +4,8 @@ from collections.abc import Sequence
 from itertools import groupby
 from typing import Protocol
 
-from share.admission.lines import Line
-from share.admission.sayings import Client, Sayings, WithMessages
+from share.admission.lines import MessageChain
+from share.admission.sayings import Whose, Sayings, WithMessages
 from share.format.entry import NO_HASH
 
 
@@ -29,7 +29,7 @@ class Based:
         self._found, self._wanted = array("I"), b""
 
     def begin(self, root: bytes) -> None:
-        """Says which message is the last one."""
+        """Speaks which message is the last one."""
         self._wanted = root
         self._look()
 
@@ -62,7 +62,7 @@ class Based:
             before += 1
         return all(one < other for one, other in zip(places, places[1:]))
 
-    def lines(self) -> list[tuple[Client, Line]]:
+    def lines(self) -> list[tuple[Whose, MessageChain]]:
         """The lines of its sites, where all of it is here."""
         stretches = groupby(reversed(self._found), self._sayings.client)
-        return [(client, Line(self._sayings, client.site, numbers)) for client, numbers in stretches]
+        return [(client, MessageChain(self._sayings, client.site, numbers)) for client, numbers in stretches]

@@ -7,21 +7,21 @@
 from collections.abc import Callable, Collection, Mapping
 
 from share.admission.causes import LEAP, Verdict
-from share.admission.lines import Line
+from share.admission.lines import MessageChain
 from share.format.operation import Operation
 
 # What hashes are made by, with the note's key.
 Digest = Callable[[bytes], bytes]
-BUILDS = b"\2"
+BUILT_ON = b"\2"
 
 
 class Building:
     """The rule, over what is let through of all lines of a text."""
 
-    def __init__(self, lines: Mapping[int, Line], base_sites: Collection[int], digest: Digest):
+    def __init__(self, lines: Mapping[int, MessageChain], base_sites: Collection[int], digest: Digest):
         self._lines, self._base_sites, self._digest = lines, base_sites, digest
 
-    def verdict(self, chain: Line, run: Operation, greatest: int) -> Verdict:
+    def verdict(self, chain: MessageChain, run: Operation, greatest: int) -> Verdict:
         """What becomes of a line's next messages, where the greatest stamp of the text is this."""
         if run.stamp <= chain.stamp or run.data and run.at != chain.length:
             return Verdict.WRONG
@@ -46,7 +46,7 @@ class Building:
             return Verdict.OTHERS
         return Verdict.WRONG if newest >= run.stamp else Verdict.RIGHT
 
-    def needs(self, chain: Line) -> dict[int, tuple[int, int]]:
+    def needs(self, chain: MessageChain) -> dict[int, tuple[int, int]]:
         """The sites of which a line's next message mentions characters that aren't there: the first one that it mentions, and
         how long the site's file has to be to have them all."""
         run, needs = chain.next(), dict[int, tuple[int, int]]()
@@ -57,4 +57,4 @@ class Building:
 
     def built_on(self, lasts: list[tuple[int, int]]) -> bytes:
         """What is built on where these are the last characters that are mentioned of other sites, by number."""
-        return self._digest(BUILDS + b"".join(self._lines[site].inserter_of(last) for site, last in lasts))
+        return self._digest(BUILT_ON + b"".join(self._lines[site].inserter_of(last) for site, last in lasts))

@@ -42,8 +42,7 @@ class Judge:
     found again. Where `room` is given, what doesn't count has this many bytes in memory; what is too much is given back.
     """
 
-    def __init__(self, entries: Iterable[Entry] = (), prefers: Rank = rank, form: Form | None = None,
-                 room: int | None = None):
+    def __init__(self, entries: Iterable[Entry] = (), prefers: Rank = rank, form: Form | None = None, room: int | None = None):
         self._statements = Statements()
         self.copies = self._statements.copies
         self._chains = Chains(self._statements, prefers, form, room)

@@ -5,7 +5,7 @@ from collections.abc import Collection, Iterable, Iterator, Sequence
 
 from share.admission.chain import last_of_others
 from share.admission.passing import Passing
-from share.admission.sayings import Client, Sayings
+from share.admission.sayings import Whose, Sayings
 from share.format.operation import Operation
 
 
@@ -55,7 +55,7 @@ class Path:
         return low
 
 
-class Line(Passing):
+class MessageChain(Passing):
     """The messages of a number and a text that hold, and what was let through of them."""
 
     __slots__ = ("branch", "_seen", "_ends")
@@ -79,7 +79,7 @@ class Line(Passing):
         """What the message that is next builds on."""
         return self.branch.sayings.on(self.branch.numbers[self.front])
 
-    def go_on(self, client: Client) -> bool:
+    def go_on(self, client: Whose) -> bool:
         """Lengthens the line by the least messages that there are; whether there are any."""
         sayings, numbers, before = self.branch.sayings, self.branch.numbers, len(self.branch)
         number = sayings.least_after(numbers[-1]) if numbers else sayings.least(client)

@@ -16,13 +16,13 @@ from share.admission.based import Based, WithLinks
 from share.admission.building import Digest
 from share.admission.one_text import OneText, Turn
 from share.admission.reasons import ROOTS, Reason
-from share.admission.sayings import Client, Root, Sayings, WithMessages
+from share.admission.sayings import Whose, Root, Sayings, WithMessages
 from share.format.history import Messages
 
 GREATEST_NUMBER = 65_528
 
 
-class Says(IntEnum):
+class Speaks(IntEnum):
     """Which entries say what counts."""
 
     OPENING = 1
@@ -89,14 +89,14 @@ class MessageJudge:
 
     def add(self, entry: Spoken) -> None:
         """Adds an entry that was opened. What is known already changes nothing, nor what says nothing of what counts."""
-        if entry.kind == Says.MESSAGES:
+        if entry.kind == Speaks.MESSAGES:
             self._say(entry, entry.hashes, entry.ons)
-        elif entry.kind == Says.CLAIM:
+        elif entry.kind == Speaks.CLAIM:
             self._claim(entry.site, entry.author, entry.rank)
-        elif entry.kind == Says.BASE:
+        elif entry.kind == Speaks.BASE:
             self._base.add(entry)
             self._begin()
-        elif entry.kind == Says.OPENING and entry.founding and not self._has_opening:
+        elif entry.kind == Speaks.OPENING and entry.founding and not self._has_opening:
             self._has_opening = True
             self._base.begin(entry.founding.root)
             if 1 <= entry.founding.number <= GREATEST_NUMBER:
@@ -107,7 +107,7 @@ class MessageJudge:
     def _say(self, entry: WithMessages, hashes: Sequence[bytes], ons: Sequence[bytes]) -> None:
         """Adds messages."""
         first = self.sayings.add(entry, hashes, ons)
-        client = Client(entry.author, entry.site, entry.text)
+        client = Whose(entry.author, entry.site, entry.text)
         if first is not None and self._has_begun and self.holder(client.site) == client.author:
             self._text(client.text).look(first, client)
 
@@ -121,7 +121,7 @@ class MessageJudge:
         if self._has_begun and site not in self._base.sites and (before is None or before[1] != author):
             known = {number for number, text in self._texts.items() if site in text.lines}
             for text in sorted(known.union(self.sayings.texts(author, site))):
-                self._text(text).begin(Client(author, site, text))
+                self._text(text).begin(Whose(author, site, text))
 
     def _begin(self) -> None:
         """Begins to let messages through, once all of the base is there."""

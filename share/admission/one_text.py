@@ -4,12 +4,12 @@ from typing import NamedTuple
 
 from share.admission.building import Building, Digest
 from share.admission.chains import Outcome
-from share.admission.lines import Line, Path
+from share.admission.lines import MessageChain, Path
 from share.admission.outside import Unchained
 from share.admission.passage import Passage
 from share.admission.reasons import REASONS, Reason
 from share.admission.room import Room
-from share.admission.sayings import Client, Sayings
+from share.admission.sayings import Whose, Sayings
 from share.format.history import Messages, Part
 
 
@@ -25,7 +25,7 @@ class OneText:
     """The lines of a text, and what is let through of them."""
 
     def __init__(self, sayings: Sayings, base_sites: Collection[int], digest: Digest):
-        self.lines: dict[int, Line] = {}
+        self.lines: dict[int, MessageChain] = {}
         self._sayings = sayings
         self._causes = Building(self.lines, base_sites, digest)
         self._passage = Passage(self.lines, Room(None, Unchained()), self._causes)
@@ -34,19 +34,19 @@ class OneText:
 
     # What comes.
 
-    def put(self, site: int, line: Line) -> None:
+    def put(self, site: int, line: MessageChain) -> None:
         """Puts a line into its place, which nothing changes any more."""
         self.lines[site] = line
         self._passage.stir(site)
 
-    def begin(self, client: Client) -> None:
+    def begin(self, client: Whose) -> None:
         """Gives a number to who holds it now: his messages count in place of those before."""
         line = self._line(client.site)
         is_anew = bool(len(line.branch)) and line.cut(0)
         line.go_on(client)
         self._take(client.site, Outcome.ANEW if is_anew else Outcome.CUT)
 
-    def look(self, number: int, client: Client) -> None:
+    def look(self, number: int, client: Whose) -> None:
         """Looks where a message goes that came, of who holds its number."""
         line, at = self._line(client.site), self._sayings.seq(number) - 1
         numbers = line.branch.numbers
@@ -62,9 +62,9 @@ class OneText:
         line.go_on(client)
         self._take(client.site, outcome)
 
-    def _line(self, site: int) -> Line:
+    def _line(self, site: int) -> MessageChain:
         if site not in self.lines:
-            self.lines[site] = Line(self._sayings, site)
+            self.lines[site] = MessageChain(self._sayings, site)
         return self.lines[site]
 
     def _take(self, site: int, outcome: Outcome) -> None:

@@ -17,7 +17,7 @@ from share.format.operation import Operation
 from share.text.names import Names
 
 
-class Client(NamedTuple):
+class Whose(NamedTuple):
     """Whose a message is, and of which text."""
 
     author: bytes
@@ -66,8 +66,8 @@ class Sayings(Hashes):
 
     def __init__(self) -> None:
         super().__init__()
-        self._clients: list[Client] = []
-        self._client_of: dict[Client, int] = {}
+        self._clients: list[Whose] = []
+        self._client_of: dict[Whose, int] = {}
         self._texts_of: dict[tuple[bytes, int], list[int]] = {}
         # Whose each message is; its seq, 0 where it isn't here yet and others follow it; the message before it, by one more than its
         # number, 0 where there is none; the one with the least hash that goes on from it, likewise; the run that has it; and one that
@@ -85,7 +85,7 @@ class Sayings(Hashes):
     def add(self, entry: WithMessages, hashes: Sequence[bytes], ons: Sequence[bytes]) -> int | None:
         """Adds those of an entry's messages that aren't here; the first of them, without which none of the others has its place; None
         where all are here."""
-        client = self._client(Client(entry.author, entry.site, entry.text))
+        client = self._client(Whose(entry.author, entry.site, entry.text))
         before = self._entered(entry.before) if entry.before != NO_HASH else None
         numbers, found, at = [*map(self._entered, hashes)], None, 0
         for run in entry.operations:
@@ -95,7 +95,7 @@ class Sayings(Hashes):
             at += run.size
         return found
 
-    def _client(self, client: Client) -> int:
+    def _client(self, client: Whose) -> int:
         """The number of an author, a number and a text."""
         if (found := self._client_of.get(client)) is None:
             found = self._client_of[client] = len(self._clients)
@@ -149,7 +149,7 @@ class Sayings(Hashes):
         if before is not None and self._seqs[before] == run.seq - 1 > 0 and self._whose[before] == client and not on:
             number = self._in_runs[before]
             last = self._runs[number]
-            if last.seq + last.size == run.seq and _types_on(last, run):
+            if last.seq + last.size == run.seq and _is_typed_on(last, run):
                 self._runs[number] = last._replace(size=last.size + run.size, data=last.data + run.data)
                 return number
         self._runs.append(run)
@@ -184,11 +184,11 @@ class Sayings(Hashes):
         """Whether a message is here, and not only what follows it."""
         return self._seqs[number] > 0
 
-    def client(self, number: int) -> Client:
+    def client(self, number: int) -> Whose:
         """Whose a message is."""
         return self._clients[self._whose[number]]
 
-    def clients(self) -> Sequence[Client]:
+    def clients(self) -> Sequence[Whose]:
         """All of whom there are messages."""
         return self._clients
 
@@ -208,7 +208,7 @@ class Sayings(Hashes):
         """What a message builds on."""
         return self._ons.get(number, b"")
 
-    def least(self, client: Client) -> int | None:
+    def least(self, client: Whose) -> int | None:
         """The least message of seq 1."""
         found = self._client_of.get(client)
         return None if found is None else self._firsts.get(found)
@@ -243,7 +243,7 @@ class Sayings(Hashes):
         return run.part(begin + 1 - run.seq, end + 1 - run.seq)
 
 
-def _types_on(last: Operation, run: Operation) -> bool:
+def _is_typed_on(last: Operation, run: Operation) -> bool:
     """Whether letters are typed on after others, and there is room for them in one run."""
     return (len(last.data) == last.size and len(run.data) == run.size and last.size + run.size <= MOST_IN_RUN
             and run.stamp == last.stamp + last.size and run.at == last.at + last.size and run.looks == last.looks

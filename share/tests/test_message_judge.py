@@ -11,6 +11,7 @@ from hashlib import sha256
 from hypothesis import HealthCheck, given, settings
 from hypothesis import strategies as st
 
+from share.admission.causes import LEAP
 from share.admission.message_judge import MessageJudge
 from share.admission.reasons import Reason
 from share.format.operation import DELETE, INSERT, PLAIN_LOOKS, Operation
@@ -234,6 +235,29 @@ class Told(unittest.TestCase):
         self.judge = MessageJudge(digest, [*begin, *found])
         self.turn()
         self.assertEqual(self.reasons(*found), [None] * 5)
+
+    def test_what_says_nothing_of_what_it_builds_on_is_wrong_and_so_is_what_needlessly_does(self) -> None:
+        letters, bobs = typed(ADA, 1, b"abc"), [claim(BOB, 2), *typed(BOB, 2, b"b")]
+        built = digest(b"\2" + letters[1].hashes[0])
+        for name, on, why in ((Names(1, 1, 1), b"", Reason.WRONG), (Names(1, 1, 1), built, None), (Names(2, 0, 1), built, Reason.WRONG),
+                              (Names(1, 1, 1), digest(b"?"), Reason.OTHERS)):
+            one = said(BOB, bobs[-1].hashes[0], Operation(DELETE, 2, 2, 9, 1, (name,)), on)
+            self.judge = MessageJudge(digest, [opening(), *letters, *bobs, one])
+            self.turn()
+            self.assertEqual(self.reasons(one), [why])
+
+    def test_a_stamp_is_above_those_of_all_that_is_mentioned_and_no_leap_above_all(self) -> None:
+        letters, eves = typed(ADA, 1, b"abc", stamp=20), typed(EVE, 3, b"xyz")
+        on = digest(b"\2" + letters[2].hashes[0] + eves[2].hashes[0])
+        for stamp, why in (22, Reason.WRONG), (23, Reason.WRONG), (24, None), (23 + LEAP, None), (24 + LEAP, Reason.STAMP):
+            one = said(BOB, ZEROS, Operation(DELETE, 2, 1, stamp, 1, (Names(1, 0, 3), Names(3, 0, 3))), on)
+            self.judge = MessageJudge(digest, [opening(), claim(BOB, 2), claim(EVE, 3), *eves, *letters, one])
+            self.turn()
+            self.assertEqual(self.reasons(one), [why])
+        # Once the greatest has risen it counts.
+        more = said(ADA, letters[2].hashes[0], Operation(DELETE, 1, 4, 24, 1, (Names(1, 0, 1),)))
+        self.turn(more)
+        self.assertEqual(self.reasons(one), [None])
 
     def test_what_builds_on_what_ceased_ceases_too_and_others_stay(self) -> None:
         mine = [typed(ADA, 1, bytes([one])) for one in b"abcdefghij"]
