@@ -246,6 +246,17 @@ class Told(unittest.TestCase):
             self.turn()
             self.assertEqual(self.reasons(one), [why])
 
+    def test_what_waits_waits_for_what_it_lacks_alone(self) -> None:
+        letters, eves = typed(ADA, 1, b"abc"), typed(EVE, 3, b"xyz")
+        one = said(BOB, ZEROS, Operation(DELETE, 2, 1, 9, 1, (Names(1, 0, 3), Names(3, 0, 3))),
+                   digest(b"\2" + letters[2].hashes[0] + eves[2].hashes[0]))
+        self.turn(claim(BOB, 2), claim(EVE, 3), *letters, one)
+        self.assertEqual(self.reasons(one), [Reason.LACKS])
+        self.turn(*eves[:2])
+        self.assertEqual(self.reasons(one), [Reason.LACKS])
+        self.turn(eves[2])
+        self.assertEqual(self.reasons(one), [None])
+
     def test_a_stamp_is_above_those_of_all_that_is_mentioned_and_no_leap_above_all(self) -> None:
         letters, eves = typed(ADA, 1, b"abc", stamp=20), typed(EVE, 3, b"xyz")
         on = digest(b"\2" + letters[2].hashes[0] + eves[2].hashes[0])
