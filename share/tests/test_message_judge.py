@@ -248,8 +248,8 @@ class Told(unittest.TestCase):
 
     def test_what_waits_waits_for_what_it_lacks_alone(self) -> None:
         letters, eves = typed(ADA, 1, b"abc"), typed(EVE, 3, b"xyz")
-        one = said(BOB, ZEROS, Operation(DELETE, 2, 1, 9, 1, (Names(1, 0, 3), Names(3, 0, 3))),
-                   digest(b"\2" + letters[2].hashes[0] + eves[2].hashes[0]))
+        on = digest(b"\2" + letters[2].hashes[0] + eves[2].hashes[0])
+        one = said(BOB, ZEROS, Operation(DELETE, 2, 1, 9, 1, (Names(1, 0, 3), Names(3, 0, 3))), on)
         self.turn(claim(BOB, 2), claim(EVE, 3), *letters, one)
         self.assertEqual(self.reasons(one), [Reason.LACKS])
         self.turn(*eves[:2])
@@ -294,6 +294,59 @@ class Told(unittest.TestCase):
         self.assertEqual((data_of(turns[1].ceased), data_of(turns[2].counting)), ([b"b", b"o", b"b"], [b"e", b"v"]))
         self.assertEqual((self.judge.holder(2), self.reasons(bobs[0], eves[0])), (EVE, [Reason.HOLDER, None]))
         self.assertEqual(self.turn(claim(BOB, 2, b"m")), ([], []))
+
+    def test_who_takes_a_number_whose_messages_wait_or_are_wrong_goes_on_at_once(self) -> None:
+        for one in (typed(BOB, 2, b"b", cause=Names(3, 0, 1), on=digest(b"?")), typed(BOB, 2, b"b", on=digest(b"?"))):
+            self.judge = MessageJudge(digest, [opening(), claim(BOB, 2), *one, *typed(EVE, 2, b"e")])
+            self.assertEqual(self.turn(), ([], []))
+            self.assertEqual(self.turn(claim(EVE, 2, b"a")), ([b"e"], []))
+
+    def test_a_base_counts_where_all_of_it_is_there_in_its_order(self) -> None:
+        def message(text: int, site: int, seq: int) -> tuple[int, Operation]:
+            mentions = (Names(site, seq - 2, 1),) if seq > 1 else ()
+            return text, Operation(INSERT, site, seq, seq, 1, mentions, seq - 1, b"a", PLAIN_LOOKS)
+
+        right = [(1, 7, 1), (1, 7, 2), (1, 9, 1), (2, 7, 1)]
+        for places, counts in ((right, True), (right[:2], True), ([right[0], right[2], right[1]], False), ([right[1]], False),
+                               ([right[3], right[0]], False), ([right[2], right[0]], False), ([*right[:2], (1, 7, 4)], False)):
+            links, entries = [ZEROS], list[Record]()
+            for place in places:
+                text, one = message(*place)
+                links.append(digest(links[-1] + repr(place).encode()))
+                entries.append(Record(Kind.BASE, bytes(32), one.site, text, one.seq, 1, links[-2], (one,), links=(links[-1],)))
+            for order in (entries, entries[::-1]):
+                self.judge = MessageJudge(digest, [*order[1:], opening(links[-1])])
+                self.assertEqual((self.judge.count(), self.judge.holder(1)), ({}, ADA))
+                self.judge.add(order[0])
+                self.assertEqual(sum(len(turn.counting) for turn in self.judge.count().values()), len(places) if counts else 0)
+
+    def test_numbers_of_the_base_are_nobodys(self) -> None:
+        copied = Operation(INSERT, 7, 1, 1, 1, (), 0, b"a", PLAIN_LOOKS)
+        link = digest(b"link")
+        base = Record(Kind.BASE, bytes(32), 7, 1, 1, 1, ZEROS, (copied,), links=(link,))
+        eves, loose = typed(EVE, 7, b"e"), typed(EVE, 7, b"xyz")[2]
+        self.judge = MessageJudge(digest, [opening(link), base, *eves, loose])
+        self.assertEqual(self.turn(), ([b"a"], []))
+        self.assertEqual(self.turn(claim(EVE, 7, b"a")), ([], []))
+        self.assertEqual((self.judge.holder(7), self.reasons(*eves, loose)), (None, [Reason.BASE, Reason.LOOSE]))
+
+    def test_what_takes_the_place_of_what_waits_or_is_wrong_may_count(self) -> None:
+        for fault in (Names(3, 9, 1), None):
+            forks = [typed(BOB, 2, bytes([one]), cause=fault, on=digest(b"?")) for one in b"abcdef"]
+            rights = (typed(BOB, 2, bytes([one]), stamp=stamp) for one in b"uvwxyz" for stamp in range(5))
+            right = min(rights, key=lambda one: one[0].hashes)
+            greater = max(forks, key=lambda one: one[0].hashes)
+            self.assertLess(right[0].hashes, greater[0].hashes)
+            self.judge = MessageJudge(digest, [opening(), claim(BOB, 2), *greater])
+            self.assertEqual(self.turn(), ([], []))
+            self.assertEqual(self.turn(*right), (data_of(right[0].operations), []))
+
+    def test_what_ceased_is_told_once(self) -> None:
+        bobs, adas = typed(BOB, 2, b"b"), [typed(ADA, 1, bytes([one])) for one in b"abcdefghij"]
+        greater, lesser = sorted(adas, key=lambda one: one[0].hashes)[::9][::-1]
+        self.turn(claim(BOB, 2, b"m"), *bobs, *greater)
+        self.assertEqual(self.turn(claim(EVE, 2, b"a")), ([], [b"b"]))
+        self.assertEqual(self.turn(*lesser), tuple(data_of(one[0].operations) for one in (lesser, greater)))
 
     def test_no_claim_takes_the_founders_number(self) -> None:
         self.turn(claim(EVE, 1, bytes(32)), *typed(ADA, 1, b"a"))
@@ -394,6 +447,23 @@ class Costs(unittest.TestCase):
                 judge.count()
 
             return max(instructions(partial(come, one[0])) for one in waiting[1:])
+
+        self.assertLess(of(300), MOST_TIMES * of(100))
+
+    def test_a_fork_that_does_not_hold_costs_no_more_beside_a_long_text(self) -> None:
+        def of(length: int) -> int:
+            letters = typed(ADA, 1, b"w" * length)
+            judge = MessageJudge(digest, [opening(), *letters])
+            judge.count()
+            others = [typed(ADA, 1, b"x", after=letters[:1], stamp=stamp)[0] for stamp in range(30)]
+            greater = [one for one in others if one.hashes > letters[1].hashes]
+            self.assertGreater(len(greater), 3)
+
+            def come(one: Record) -> None:
+                judge.add(one)
+                judge.count()
+
+            return max(instructions(partial(come, one)) for one in greater[1:])
 
         self.assertLess(of(300), MOST_TIMES * of(100))
 
