@@ -48,7 +48,7 @@ def operation(one: Message) -> Operation:
     """A message as the quick program has it."""
     ranges = tuple(Names(*each) for each in one.ranges)
     return Operation(kind=one.kind, site=one.site, seq=one.seq, stamp=one.stamp, size=1, mentions=ranges, at=one.at, data=one.data,
-                     looks=one.looks)
+                     looks=one.looks, text=one.text)
 
 
 def joined(some: Iterable[Operation], ons: Sequence[bytes] = ()) -> tuple[Operation, ...]:
