@@ -4,40 +4,32 @@ from bisect import bisect_right
 from collections.abc import Iterable, Sequence
 
 from share.admission.ledger import Ledger, Branch
+from share.admission.passing import Passing
 from share.format.operation import Operation
 from share.text.names import Names
 
 
-class Chain:
+class Chain(Passing):
     """The entries of a site that hold, its claim first, and what was let through of them."""
 
-    __slots__ = ("branch", "front", "length", "stamp", "at", "run", "_runs", "ended", "needs", "time", "pending", "_ends",
-                 "_begins", "_stamps", "_rises")
+    __slots__ = ("branch", "run", "_runs", "pending", "_ends")
+
+    branch: Branch
 
     def __init__(self, ledger: Ledger, site: int):
         self.branch = Branch(ledger, site)
-        # How often it began to wait for something.
-        self.time = 0
-        self.begin_anew()
+        super().__init__()
 
     def begin_anew(self) -> None:
         """Lets nothing through yet."""
-        # How many of the messages were let through, how long the site's file is then, and the stamp of the last one.
-        self.front = self.length = self.stamp = 0
-        # Which entry has the message that is next, its runs, and which of these it begins.
-        self.at = self.run = 0
+        super().begin_anew()
+        # Which of the runs of the entry that has the next message it begins, and these runs.
+        self.run = 0
         self._runs: Sequence[Operation] | None = None
         # How many bytes are kept of entries that aren't let through.
         self.pending = sum(map(self.branch.ledger.weight, self.branch.numbers))
-        # Whether the next message is wrong.
-        self.ended = False
-        # The sites of which it mentions characters that aren't there, from where on, and how long their files have to be.
-        self.needs: dict[int, tuple[int, int]] = {}
         # How long the site's file is after each entry that was let through.
         self._ends = array("I")
-        # Where the characters begin whose stamps don't go on from those before them, the stamp of the first, and whether
-        # that of each further one is one greater.
-        self._begins, self._stamps, self._rises = array("I"), array("Q"), bytearray()
 
     @property
     def number(self) -> int:
@@ -89,21 +81,6 @@ class Chain:
         self._passed(self.stamp + 1, size, True)
         self.front, self.stamp = self.front + size, self.stamp + size
         self.at, self._runs, self.run = end, None, 0
-
-    def _passed(self, stamp: int, size: int, rises: bool) -> None:
-        """Notes the stamps of characters, the next ones of the site: of the first, and whether that of each further one is one
-        greater."""
-        at = self.length
-        self.length += size
-        if not (rises and self._rises and self._rises[-1] and stamp == self._stamps[-1] + at - self._begins[-1]):
-            self._begins.append(at)
-            self._stamps.append(stamp)
-            self._rises.append(rises)
-
-    def stamp_of(self, at: int) -> int:
-        """The stamp of the insertion of the character at an offset, which was let through."""
-        row = bisect_right(self._begins, at) - 1
-        return self._stamps[row] + (at - self._begins[row] if self._rises[row] else 0)
 
     def inserter_of(self, at: int) -> bytes:
         """The hash of the entry in which it was inserted."""

@@ -16,6 +16,7 @@ from collections.abc import Callable, Iterable, Iterator, Sequence
 from itertools import chain
 from typing import NamedTuple
 
+from share.admission.causes import Causes
 from share.admission.chains import Chains, Outcome, Rank, rank
 from share.admission.ledger import Row, Who
 from share.admission.left_out import LeftOut, Uncounted
@@ -41,12 +42,12 @@ class Judge:
     found again. Where `room` is given, what doesn't count has this many bytes in memory; what is too much is given back.
     """
 
-    def __init__(self, entries: Iterable[Entry] = (), prefers: Rank = rank, form: Form | None = None,
-                 room: int | None = None):
+    def __init__(self, entries: Iterable[Entry] = (), prefers: Rank = rank, form: Form | None = None, room: int | None = None):
         self._statements = Statements()
         self.copies = self._statements.copies
         self._chains = Chains(self._statements, prefers, form, room)
-        self._passage = Passage(self._chains)
+        self._causes = Causes(self._chains)
+        self._passage = Passage(self._chains.by_site, self._chains.room, self._causes)
         self._uncounted = Uncounted(self._statements, self._chains, self._passage)
         for entry in entries:
             self.add(entry)
@@ -221,7 +222,7 @@ class Judge:
     def built_on(self, messages: Sequence[Operation]) -> bytes:
         """What messages build on, all of which is let through; nothing where they mention no other site's characters."""
         self._passage.let_through()
-        return self._passage.causes.built_on(messages)
+        return self._causes.built_on(messages)
 
     def copies_of(self, author: bytes, site: int, seq: int, suits: Callable[[Operation], bool]) -> list[Copy]:
         """The messages that stand for one of these that suits, as its author says, whether they count or not; that of the least

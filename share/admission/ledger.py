@@ -10,16 +10,12 @@ from collections.abc import Iterable, Iterator, Sequence
 from operator import attrgetter
 from typing import NamedTuple
 
+from share.admission.hashes import HASH_BYTES, MARK_MASK, NUMBER_BITS, Hashes
 from share.format.entry import CHUNKS, NO_HASH, SAY_WHAT_THEY_BUILD_ON, Entry, Form, Kind, operations_of, operations_one_by_one
 from share.format.operation import Operation
 
-HASH_BYTES = 32
 # A site and an author.
 Who = tuple[int, bytes]
-# How many seats the index begins with; at least every third one stays free. A seat has the upper half of a hash of Python's, and
-# an entry's number.
-LEAST_SEATS, NUMBER_BITS = 1 << 8, 32
-MARK_MASK, NUMBER_MASK = 0xFFFF_FFFF << NUMBER_BITS, (1 << NUMBER_BITS) - 1
 # No more letters than these, which are typed one after the other, are one run, so that each chunk has room for it.
 MOST_IN_RUN = 1_000
 
@@ -40,14 +36,12 @@ MADE_OF, TYPES_ON_OF, PLACE_OF = map(attrgetter, ("made", "types_on", "place"))
 KIND_BY_NUMBER = {int(kind): kind for kind in Kind}
 
 
-class Ledger:
+class Ledger(Hashes):
     """Entries, each by a number of its own; they are added and never change."""
 
     def __init__(self, form: Form | None = None):
+        super().__init__()
         self._form = form
-        self._hashes = bytearray()
-        # The numbers by their hashes, one more than each, so that 0 is a free place.
-        self._index, self._mask = array("Q", bytes(8 * LEAST_SEATS)), LEAST_SEATS - 1
         # The sites and authors, and which of them each entry is of.
         self._clients: list[Who] = []
         self._client_of: dict[Who, int] = {}
@@ -60,9 +54,6 @@ class Ledger:
         # How long the bytes of each entry are, where all of them are kept, since the form isn't known.
         self._whole = array("I")
 
-    def __len__(self) -> int:
-        return len(self._kinds)
-
     def add(self, rows: Sequence[Row], before: int) -> range:
         """Adds entries of one author: the first follows that of a number, which says nothing of a claim, and each other one the one before
         it. Their own numbers."""
@@ -71,7 +62,7 @@ class Ledger:
             return range(number, number + 1)
         entries, first = [row.entry for row in rows], len(self)
         numbers = range(first, first + len(rows))
-        self._hashes += b"".join(map(HASH_OF, entries))
+        self._hashes += b"".join(hashes := [*map(HASH_OF, entries)])
         self._whose.extend([self._client(entries[0])] * len(rows))
         self._kinds += bytes(map(KIND_OF, entries))
         self._made += bytes(map(MADE_OF, rows))
@@ -81,7 +72,7 @@ class Ledger:
         self._sizes.extend(map(SIZE_OF, entries))
         self._places.extend(map(PLACE_OF, rows))
         self._keep(entries)
-        self._enter(entries, first)
+        self._enter(hashes, first)
         return numbers
 
     def _add_one(self, row: Row, before: int) -> int:
@@ -97,7 +88,7 @@ class Ledger:
         self._sizes.append(entry.size)
         self._places.append(row.place)
         self._keep((entry,))
-        self._enter((entry,), number)
+        self._enter((entry.hash,), number)
         return number
 
     def _client(self, entry: Entry) -> int:
@@ -126,15 +117,6 @@ class Ledger:
         index, mask, seat = self._index, self._mask, self._seat
         return [row for row in rows if not (index[(mark := hash(row.entry.hash) & MARK_MASK) >> NUMBER_BITS & mask]
                                             and index[seat(row.entry.hash, mark)])]
-
-    def number(self, of: bytes) -> int | None:
-        """The number of the entry that has a hash; None where there is none."""
-        found = self._index[self._seat(of, hash(of) & MARK_MASK)]
-        return (found & NUMBER_MASK) - 1 if found else None
-
-    def hash(self, number: int) -> bytes:
-        """An entry's hash."""
-        return bytes(self._hashes[HASH_BYTES * number:HASH_BYTES * (number + 1)])
 
     def client(self, number: int) -> Who:
         """An entry's site and author."""
@@ -231,33 +213,6 @@ class Ledger:
     def _tail(self, number: int) -> int:
         """How many bytes are kept of an entry that can't be computed again."""
         return self._form.tail_bytes if self._form else self._whole[number]
-
-    def _seat(self, of: bytes, mark: int) -> int:
-        """The place of a hash in the index, or the free one that it would have. Nobody else can tell where hashes meet:
-        Python's own hash of bytes has a secret of the process."""
-        seat = mark >> NUMBER_BITS & self._mask
-        while (found := self._index[seat]) and (found & MARK_MASK != mark or self.hash((found & NUMBER_MASK) - 1) != of):
-            seat = seat + 1 & self._mask
-        return seat
-
-    def _enter(self, entries: Iterable[Entry], first: int) -> None:
-        """Enters entries into the index, the first of which has a number. One that was added before has its new one from now on."""
-        while 3 * len(self) > 2 * len(self._index):
-            self._grow()
-        index, seat = self._index, self._seat
-        for number, entry in enumerate(entries, first + 1):
-            mark = hash(entry.hash) & MARK_MASK
-            index[seat(entry.hash, mark)] = mark | number
-
-    def _grow(self) -> None:
-        """Makes the index twice as long."""
-        before, self._mask = self._index, 2 * len(self._index) - 1
-        self._index = index = array("Q", bytes(16 * len(before)))
-        for found in filter(None, before):
-            seat = found >> NUMBER_BITS & self._mask
-            while index[seat]:
-                seat = seat + 1 & self._mask
-            index[seat] = found
 
 
 class Branch:

@@ -35,7 +35,7 @@ class LeftOut(NamedTuple):
 class Uncounted:
     """What isn't let through, and which of it was left out. What was told of that holds until something changes that it hangs on."""
 
-    def __init__(self, statements: Statements, chains: Chains, passage: Passage):
+    def __init__(self, statements: Statements, chains: Chains, passage: Passage[Chain]):
         self._statements, self._chains, self._passage = statements, chains, passage
         self._ledger, self._outside, self._copies = chains.ledger, chains.outside, statements.copies
         self._incomplete: int | None = None

@@ -5,13 +5,18 @@ it is about, and not what else waits.
 """
 import heapq
 import math
-from collections.abc import Sequence
+from collections.abc import Mapping, Sequence
+from typing import Generic, Protocol, TypeVar
 
-from share.admission.causes import LEAP, Causes, Verdict
-from share.admission.chain import Chain
-from share.admission.chains import Chains
+from share.admission.causes import LEAP, Verdict
+from share.admission.passing import Passing
+from share.admission.room import Room
 from share.format.history import Messages, Part
 from share.format.operation import Operation
+
+# Chains of entries, or of messages.
+Chained = TypeVar("Chained", bound=Passing)
+Ruled = TypeVar("Ruled", bound=Passing, contravariant=True)
 
 # Letters that are typed on are let through together before those of others whose stamps are lower by no more than this.
 AHEAD = 100
@@ -30,10 +35,10 @@ class WaitingChains:
         """A site waits for the greatest stamp to come near its own."""
         heapq.heappush(self._stamps, (stamp, site))
 
-    def for_needs(self, chain: Chain) -> None:
-        """A chain waits for all that it needs."""
+    def for_needs(self, site: int, chain: Passing) -> None:
+        """A site's chain waits for all that it needs."""
         for of, (_, length) in chain.needs.items():
-            heapq.heappush(self._lengths.setdefault(of, []), (length, chain.branch.site, chain.time))
+            heapq.heappush(self._lengths.setdefault(of, []), (length, site, chain.time))
 
     def near(self, greatest: int) -> Sequence[int]:
         """The sites whose stamps the greatest one has come near."""
@@ -52,16 +57,27 @@ class WaitingChains:
         return found
 
 
-class Passage:
-    """What is let through of the chains. `changes` rises where a chain begins to wait, has less to wait for, or grows as it waits."""
+class Rule(Protocol[Ruled]):
+    """What becomes of the messages that are next in a chain."""
 
-    def __init__(self, chains: Chains):
+    def verdict(self, chain: Ruled, run: Operation, greatest: int) -> Verdict:
+        """What becomes of a chain's next messages, where the greatest stamp is this."""
+
+    def needs(self, chain: Ruled) -> dict[int, tuple[int, int]]:
+        """The sites of which a chain's next message mentions characters that aren't there: the first one that it mentions, and
+        how long the site's file has to be to have them all."""
+
+
+class Passage(Generic[Chained]):
+    """What is let through of the chains, each of a site. `changes` rises where a chain begins to wait, has less to wait for, or grows as
+    it waits."""
+
+    def __init__(self, chains: Mapping[int, Chained], room: Room, causes: Rule[Chained]):
         self.changes = 0
         # The sites whose next message isn't let through, but those where it is wrong, and these.
         self.blocked: set[int] = set()
         self.ended: set[int] = set()
-        self.causes = Causes(chains)
-        self._chains, self._room = chains.by_site, chains.room
+        self._causes, self._chains, self._room = causes, chains, room
         # The sites of whose chains something can perhaps be let through that couldn't when they were last looked at.
         self._stirred: set[int] = set()
         self._first_passed: dict[int, int] = {}
@@ -141,7 +157,7 @@ class Passage:
         chain = self._chains[site]
         run, at = chain.next(), chain.at
         while run and chain.at == at:
-            verdict = self.causes.verdict(chain, run, self.greatest)
+            verdict = self._causes.verdict(chain, run, self.greatest)
             if verdict is not Verdict.RIGHT:
                 self._block(site, chain, run, verdict)
                 return None
@@ -149,7 +165,7 @@ class Passage:
             run = chain.next()
         return run
 
-    def _pass_on(self, site: int, chain: Chain, run: Operation, woken: list[int], up_to: float) -> None:
+    def _pass_on(self, site: int, chain: Chained, run: Operation, woken: list[int], up_to: float) -> None:
         """Lets a chain's next messages through, and wakes those that waited for them."""
         chain.pass_on(run, up_to)
         part = Part(chain.branch, run.seq - 1, chain.front)
@@ -161,18 +177,19 @@ class Passage:
             for other in self._waiting.near(chain.stamp):
                 self._wake(other, woken)
         for other, time in self._waiting.long_enough(site, chain.length):
-            self._has_one_more(self._chains[other], time, site, woken)
+            self._has_one_more(other, time, site, woken)
         if site in self._room.lacking:
             self._room.moved(site)
 
-    def _has_one_more(self, chain: Chain, time: int, site: int, woken: list[int]) -> None:
-        """Notes that all is there of a site for which a chain has waited since some time; it is looked at again as soon as
-        that is so of all of them."""
+    def _has_one_more(self, other: int, time: int, site: int, woken: list[int]) -> None:
+        """Notes that all is there of a site for which another one's chain has waited since some time; it is looked at again as soon
+        as that is so of all of them."""
+        chain = self._chains[other]
         if chain.time == time and site in chain.needs:
             del chain.needs[site]
             self.changes += 1
             if not chain.needs:
-                self._wake(chain.branch.site, woken)
+                self._wake(other, woken)
 
     def _wake(self, site: int, woken: list[int]) -> None:
         """Looks again at a chain that waited."""
@@ -181,7 +198,7 @@ class Passage:
             self.changes += 1
             woken.append(site)
 
-    def _block(self, site: int, chain: Chain, run: Operation, verdict: Verdict) -> None:
+    def _block(self, site: int, chain: Chained, run: Operation, verdict: Verdict) -> None:
         """Notes for what a chain waits whose next messages can't be let through."""
         self.changes += 1
         if verdict is Verdict.WRONG:
@@ -193,5 +210,5 @@ class Passage:
             self._waiting.for_stamp(run.stamp, site)
         elif verdict is Verdict.LACKS:
             chain.time += 1
-            chain.needs = self.causes.needs(chain)
-            self._waiting.for_needs(chain)
+            chain.needs = self._causes.needs(chain)
+            self._waiting.for_needs(site, chain)

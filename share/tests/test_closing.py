@@ -22,7 +22,7 @@ from share.program.site import Site
 from share.store.locks import Locks
 from share.tests.editors import Engines
 from share.tests.left_open import left_open, open_now
-from share.tests.servers import SocketServer, TlsServer
+from share.tests.servers import RedisServer, SocketServer, TlsServer
 from share.tests.support import NOTE, Case, Person, type_at_the_end, wait_for, written
 from share.text.errors import Trouble
 from share.text.line import Line
@@ -53,6 +53,15 @@ class Closing(Case):
         finally:
             note.session.close()
 
+    def redis(self) -> RedisServer:
+        return self.held(super().redis())
+
+    def held(self, server: RedisServer) -> RedisServer:
+        """A server, whose port is this process's until the test ends, which opened nothing else meanwhile."""
+        self.addCleanup(server.close)
+        self.before = open_now()
+        return server
+
     def assert_nothing_open(self) -> None:
         """That nothing is open that wasn't before."""
         self.assertEqual(left_open(self.before), "")
@@ -66,9 +75,7 @@ class Logs(Closing):
         yield ""
         yield self.file_log()
         yield self.redis().url
-        server = SocketServer(self.folder / "by-socket")
-        self.addCleanup(server.close)
-        yield server.url
+        yield self.held(SocketServer(self.folder / "by-socket")).url
 
     def test_a_note_that_is_closed(self) -> None:
         for number, url in enumerate(self.logs()):
@@ -91,8 +98,7 @@ class Logs(Closing):
                 self.assertEqual(open_now().beyond(self.before).words(), "")
 
     def test_a_tls_server(self) -> None:
-        server = TlsServer(self.folder / "tls", "IP:127.0.0.1")
-        self.addCleanup(server.close)
+        server = self.held(TlsServer(self.folder / "tls", "IP:127.0.0.1"))
         for trusted in True, False:
             with mock.patch.dict(os.environ, {"SSL_CERT_FILE": str(server.certificate)} if trusted else {}):
                 for number in range(TIMES):

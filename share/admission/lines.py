@@ -1,0 +1,125 @@
+"""The chain of a number in a text, where hashes are of messages: of several that go on from the same one, the least."""
+from array import array
+from bisect import bisect_right
+from collections.abc import Collection, Iterable, Iterator, Sequence
+
+from share.admission.chain import last_of_others
+from share.admission.passing import Passing
+from share.admission.sayings import Whose, Sayings
+from share.format.operation import Operation
+
+
+class Path:
+    """Messages of a site that go on one from the other, by their numbers; that of seq 1 has place 0."""
+
+    __slots__ = ("sayings", "site", "numbers")
+
+    def __init__(self, sayings: Sayings, site: int, numbers: Iterable[int] = ()):
+        self.sayings, self.site, self.numbers = sayings, site, array("I", numbers)
+
+    def __len__(self) -> int:
+        return len(self.numbers)
+
+    def hash(self, place: int) -> bytes:
+        """A message's hash."""
+        return self.sayings.hash(self.numbers[place])
+
+    def runs(self, begin: int, end: int) -> Iterator[Operation]:
+        """The messages from one place to another, letters typed one after the other in one."""
+        while begin < end:
+            run = self.sayings.run(self.numbers, begin, end)
+            yield run
+            begin += run.size
+
+    def between(self, begin: int, end: int) -> Iterator[Operation]:
+        """The messages from one place to another, one by one."""
+        return (one for run in self.runs(begin, end) for one in run.each())
+
+    def parts(self, begin: int, end: int) -> Iterator[tuple[bytes, Sequence[Operation], int]]:
+        """The same in one part."""
+        yield b"", [*self.runs(begin, end)], end - begin
+
+    def until(self, at: int) -> "Path":
+        """The first messages as a path of their own."""
+        return Path(self.sayings, self.site, self.numbers[:at])
+
+    def shared(self, other: "Path", most: int) -> int:
+        """How many of the first messages are the same, of so many at most. Where one is, those before it are."""
+        low, high = 0, min(most, len(self), len(other))
+        while low < high:
+            middle = (low + high) // 2
+            if self.numbers[middle] == other.numbers[middle]:
+                low = middle + 1
+            else:
+                high = middle
+        return low
+
+
+class MessageChain(Passing):
+    """The messages of a number and a text that hold, and what was let through of them."""
+
+    __slots__ = ("branch", "_seen", "_ends")
+
+    branch: Path
+
+    def __init__(self, sayings: Sayings, site: int, numbers: Iterable[int] = ()):
+        self.branch = Path(sayings, site, numbers)
+        super().__init__()
+
+    def begin_anew(self) -> None:
+        """Lets nothing through yet. What had it keeps the path that it knows."""
+        super().begin_anew()
+        self.branch = self.branch.until(len(self.branch))
+        # The last character of each other site that was mentioned, and how long the site's file is after each message.
+        self._seen: dict[int, int] = {}
+        self._ends = array("I")
+
+    @property
+    def on(self) -> bytes:
+        """What the message that is next builds on."""
+        return self.branch.sayings.on(self.branch.numbers[self.front])
+
+    def go_on(self, client: Whose) -> bool:
+        """Lengthens the line by the least messages that there are; whether there are any."""
+        sayings, numbers, before = self.branch.sayings, self.branch.numbers, len(self.branch)
+        number = sayings.least_after(numbers[-1]) if numbers else sayings.least(client)
+        while number is not None:
+            numbers.append(number)
+            number = sayings.least_after(number)
+        return len(numbers) > before
+
+    def cut(self, at: int) -> bool:
+        """Takes the messages from a place on away; whether some of them were let through, and all has to be let through anew."""
+        if self.front > at:
+            self.branch = self.branch.until(at)
+            return True
+        # Nobody has looked at what they have.
+        del self.branch.numbers[at:]
+        self.ended, self.needs = False, {}
+        return False
+
+    def next(self) -> Operation | None:
+        """The messages that are next to be let through."""
+        if self.ended or self.front >= len(self.branch):
+            return None
+        return self.branch.sayings.run(self.branch.numbers, self.front, len(self.branch))
+
+    def pass_on(self, run: Operation, up_to: float) -> None:
+        """Lets the next messages through: all of the run, which are right where the first one is."""
+        if run.data:
+            self._passed(run.stamp, len(run.data), len(run.data) == run.size)
+        self._ends.extend(range(self.length - run.size + 1, self.length + 1) if run.size > 1 else (self.length,))
+        for site, last in last_of_others((run,)).items():
+            self._seen[site] = max(self._seen.get(site, 0), last)
+        self.front, self.stamp = self.front + run.size, run.stamp + run.size - 1
+        self.at = self.front
+
+    def beyond(self, run: Operation, but: Collection[int]) -> list[tuple[int, int]]:
+        """The last character of each other site of which the next message mentions one beyond those that were mentioned; of some sites
+        nobody asks."""
+        seen = self._seen
+        return sorted(one for one in last_of_others((run,)).items() if one[0] not in but and one[1] > seen.get(one[0], -1))
+
+    def inserter_of(self, at: int) -> bytes:
+        """The hash of the message that inserted a character, which was let through."""
+        return self.branch.hash(bisect_right(self._ends, at))

@@ -1,0 +1,188 @@
+"""Which messages count in a note of the second form: one function of the set of entries that came, as docs/NOTES.md has it under "What
+counts". It has no input or output, no clock and no chance in it. Each rule has a module of its own:
+
+- `sayings`: messages by their hashes, however they are cut into entries; `lines`: which of several that go on from one holds.
+- `based`: what was copied into the note.
+- `building`: what becomes of the message that is next in a line; `one_text`, `passage`: letting messages through, and waiting.
+
+Texts have nothing of one another but their claims. More entries can end the count of a message only where a lesser rank or hash came;
+then what counts of that text is let through anew.
+"""
+from collections.abc import Iterable, Iterator, Sequence
+from enum import IntEnum
+from typing import Protocol
+
+from share.admission.based import Based, WithLinks
+from share.admission.building import Digest
+from share.admission.one_text import OneText, Turn
+from share.admission.reasons import ROOTS, Reason
+from share.admission.sayings import Whose, Root, Sayings, WithMessages
+from share.format.history import Messages
+
+GREATEST_NUMBER = 65_528
+
+
+class Speaks(IntEnum):
+    """Which entries say what counts."""
+
+    OPENING = 1
+    CLAIM = 2
+    BASE = 3
+    MESSAGES = 4
+
+
+class Begins(Protocol):
+    """What a note begins with."""
+
+    @property
+    def root(self) -> bytes:
+        """What names the base's last message."""
+
+    @property
+    def founder(self) -> bytes:
+        """Who founded it."""
+
+    @property
+    def number(self) -> int:
+        """His number."""
+
+
+class Spoken(WithLinks, Protocol):
+    """An entry, as far as it says what counts."""
+
+    @property
+    def kind(self) -> int:
+        """What it is."""
+
+    @property
+    def founding(self) -> Begins | None:
+        """An opening's."""
+
+    @property
+    def rank(self) -> bytes:
+        """A claim's."""
+
+    @property
+    def hashes(self) -> Sequence[bytes]:
+        """The hashes of its messages."""
+
+    @property
+    def ons(self) -> Sequence[bytes]:
+        """What each of them builds on."""
+
+
+class MessageJudge:
+    """The set of entries that came, and what counts of it."""
+
+    def __init__(self, digest: Digest, entries: Iterable[Spoken] = ()):
+        self._digest = digest
+        self.sayings, self._base = Sayings(), Based()
+        self._texts: dict[int, OneText] = {}
+        # Who claims numbers; and who holds each, by which rank.
+        self._claims: set[tuple[int, bytes]] = set()
+        self._holders: dict[int, tuple[bytes, bytes]] = {}
+        self._has_opening = self._has_begun = False
+        for entry in entries:
+            self.add(entry)
+
+    # What comes.
+
+    def add(self, entry: Spoken) -> None:
+        """Adds an entry that was opened. What is known already changes nothing, nor what says nothing of what counts."""
+        if entry.kind == Speaks.MESSAGES:
+            self._say(entry, entry.hashes, entry.ons)
+        elif entry.kind == Speaks.CLAIM:
+            self._claim(entry.site, entry.author, entry.rank)
+        elif entry.kind == Speaks.BASE:
+            self._base.add(entry)
+            self._begin()
+        elif entry.kind == Speaks.OPENING and entry.founding and not self._has_opening:
+            self._has_opening = True
+            self._base.begin(entry.founding.root)
+            if 1 <= entry.founding.number <= GREATEST_NUMBER:
+                # No rank is less.
+                self._claim(entry.founding.number, entry.founding.founder, b"")
+            self._begin()
+
+    def _say(self, entry: WithMessages, hashes: Sequence[bytes], ons: Sequence[bytes]) -> None:
+        """Adds messages."""
+        first = self.sayings.add(entry, hashes, ons)
+        client = Whose(entry.author, entry.site, entry.text)
+        if first is not None and self._has_begun and self.holder(client.site) == client.author:
+            self._text(client.text).look(first, client)
+
+    def _claim(self, site: int, author: bytes, rank: bytes) -> None:
+        """Gives a number to who claims it, where nobody does by a lesser rank."""
+        self._claims.add((site, author))
+        before = self._holders.get(site)
+        if before and before[0] <= rank:
+            return
+        self._holders[site] = rank, author
+        if self._has_begun and site not in self._base.sites and (before is None or before[1] != author):
+            known = {number for number, text in self._texts.items() if site in text.lines}
+            for text in sorted(known.union(self.sayings.texts(author, site))):
+                self._text(text).begin(Whose(author, site, text))
+
+    def _begin(self) -> None:
+        """Begins to let messages through, once all of the base is there."""
+        if self._has_begun or not self._base.is_whole:
+            return
+        self._has_begun = True
+        for client, line in self._base.lines():
+            self._text(client.text).put(client.site, line)
+        for client in self.sayings.clients():
+            if self.holder(client.site) == client.author:
+                self._text(client.text).begin(client)
+
+    def _text(self, text: int) -> OneText:
+        if text not in self._texts:
+            self._texts[text] = OneText(self.sayings, self._base.sites, self._digest)
+        return self._texts[text]
+
+    # What counts of it.
+
+    def count(self) -> dict[int, Turn]:
+        """What is otherwise since this was last asked, of each text where something is."""
+        turns = {number: text.count() for number, text in sorted(self._texts.items())}
+        return {number: turn for number, turn in turns.items() if turn.counting or turn.ceased}
+
+    def in_order(self, text: int) -> Messages:
+        """All messages of a text that count, each after its causes."""
+        return self._texts[text].in_order() if text in self._texts else Messages()
+
+    def holder(self, site: int) -> bytes | None:
+        """Whose number this is; nobody's where the base has it."""
+        found = self._holders.get(site)
+        return found[1] if found and site not in self._base.sites else None
+
+    def front(self, site: int, text: int) -> int:
+        """How many messages of a number and a text count."""
+        return self._texts[text].front(site) if text in self._texts else 0
+
+    def hashes(self, site: int, text: int) -> Iterator[bytes]:
+        """The hashes of those messages; of the base, what names them."""
+        return self._texts[text].hashes(site) if text in self._texts else iter(())
+
+    def __contains__(self, of: bytes) -> bool:
+        number = self.sayings.number(of)
+        return number is not None and self.sayings.is_here(number)
+
+    def reason(self, of: bytes) -> Reason | None:
+        """Why a message that is here doesn't count; None where it does."""
+        sayings, number = self.sayings, self.sayings.number(of)
+        if number is None or not sayings.is_here(number):
+            raise KeyError(of)
+        if not self._has_begun:
+            return Reason.NO_OPENING
+        root, (author, site, text) = sayings.root(number), sayings.client(number)
+        if root is not Root.ROOTED:
+            return ROOTS[root]
+        if site in self._base.sites:
+            return Reason.BASE
+        if self.holder(site) != author:
+            return Reason.HOLDER if (site, author) in self._claims else Reason.UNCLAIMED
+        return self._texts[text].reason(number, site)
+
+    def missing(self, most: int) -> list[bytes]:
+        """The hashes of some messages that are missing, after which others came."""
+        return self.sayings.missing(most)
