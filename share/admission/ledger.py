@@ -7,7 +7,8 @@ memory, and a note in which each keystroke is an entry fits there.
 from array import array
 from bisect import bisect_left
 from collections.abc import Iterable, Iterator, Sequence
-from typing import NamedTuple
+from itertools import accumulate
+from typing import NamedTuple, overload
 
 from share.format.entry import CHUNKS, NO_HASH, SAY_WHAT_THEY_BUILD_ON, Entry, Form, Kind, operations_of, operations_one_by_one
 from share.format.operation import Operation
@@ -31,6 +32,46 @@ class Row(NamedTuple):
     entry: Entry
     made: bool
     types_on: bool = False
+
+
+class Stretch(Sequence[Row]):
+    """Entries of messages of which each follows the one before it, in columns. A row is made where somebody asks for it, since nobody
+    asks for nearly all of them. Either all of them were made here, or none."""
+
+    def __init__(self, form: Form, places: Sequence[int], hashes: Sequence[bytes], raws: Sequence[bytes], bodies: Sequence[bytes],
+                 kinds: bytes, firsts: Sequence[int], sizes: Sequence[int], made: bool):
+        self.form, self.places, self.hashes, self.raws, self.bodies = form, places, hashes, raws, bodies
+        self.kinds, self.firsts, self.sizes, self.made = kinds, firsts, sizes, made
+        # Whether each is known to type on after the one before it.
+        self.types_on: bytes | bytearray = bytes(len(places))
+
+    def __len__(self) -> int:
+        return len(self.places)
+
+    @overload
+    def __getitem__(self, at: int) -> Row: ...
+
+    @overload
+    def __getitem__(self, at: slice) -> list[Row]: ...
+
+    def __getitem__(self, at: int | slice) -> Row | list[Row]:
+        if isinstance(at, slice):
+            return [self[number] for number in range(*at.indices(len(self)))]
+        return Row(self.places[at], self.entry(at), self.made, bool(self.types_on[at]))
+
+    def entry(self, at: int) -> Entry:
+        """The entry at a place."""
+        return self.form.reopened(self.raws[at], self.bodies[at], self.hashes[at])
+
+
+def hashes_of(rows: Sequence[Row]) -> Sequence[bytes]:
+    """The hashes of entries."""
+    return rows.hashes if isinstance(rows, Stretch) else [row.entry.hash for row in rows]
+
+
+def bytes_of(rows: Sequence[Row]) -> int:
+    """How many bytes entries have."""
+    return sum(map(len, rows.raws)) if isinstance(rows, Stretch) else sum(len(row.entry.raw) for row in rows)
 
 
 class Ledger:
@@ -59,9 +100,12 @@ class Ledger:
     def add(self, rows: Sequence[Row], before: int) -> range:
         """Adds entries of one author: the first follows that of a number, which says nothing of a claim, and each other one the one before
         it. Their own numbers."""
+        if isinstance(rows, Stretch) and self._form:
+            return self._add_columns(rows, before, self._form)
         entries, first = [row.entry for row in rows], len(self)
         numbers = range(first, first + len(rows))
-        self._hashes += b"".join([entry.hash for entry in entries])
+        hashes = [entry.hash for entry in entries]
+        self._hashes += b"".join(hashes)
         self._whose.extend([self._client(entries[0])] * len(rows))
         self._kinds += bytes([entry.kind for entry in entries])
         self._made += bytes([row.made for row in rows])
@@ -71,7 +115,29 @@ class Ledger:
         self._sizes.extend([entry.size for entry in entries])
         self._places.extend([row.place for row in rows])
         self._keep(entries)
-        self._enter(entries, first)
+        self._enter(hashes, first)
+        return numbers
+
+    def _add_columns(self, these: Stretch, before: int, form: Form) -> range:
+        """The same of a stretch."""
+        first, many = len(self), len(these)
+        numbers = range(first, first + many)
+        self._hashes += b"".join(these.hashes)
+        self._whose.extend([self._client(these.entry(0))] * many)
+        self._kinds += these.kinds
+        self._made += bytes([these.made]) * many
+        self._types_on += these.types_on
+        self._befores.extend([before, *numbers[:-1]])
+        self._firsts.extend(these.firsts)
+        self._sizes.extend(these.sizes)
+        self._places.extend(these.places)
+        kept, tail = these.bodies, form.tail_bytes
+        if tail:
+            kept = [raw[-tail:] + body for raw, body in zip(these.raws, kept)]
+        begin = len(self._kept)
+        self._kept += b"".join(kept)
+        self._ends.extend([begin + end for end in accumulate(map(len, kept))])
+        self._enter(these.hashes, first)
         return numbers
 
     def _client(self, entry: Entry) -> int:
@@ -215,14 +281,18 @@ class Ledger:
             seat = seat + 1 & self._mask
         return seat
 
-    def _enter(self, entries: Iterable[Entry], first: int) -> None:
+    def _enter(self, hashes: Iterable[bytes], first: int) -> None:
         """Enters entries into the index, the first of which has a number. One that was added before has its new one from now on."""
         while 3 * len(self) > 2 * len(self._index):
             self._grow()
-        index, seat = self._index, self._seat
-        for number, entry in enumerate(entries, first + 1):
-            mark = hash(entry.hash) & MARK_MASK
-            index[seat(entry.hash, mark)] = mark | number
+        index, mask = self._index, self._mask
+        for number, of in enumerate(hashes, first + 1):
+            mark = hash(of) & MARK_MASK
+            seat = mark >> NUMBER_BITS & mask
+            # As in `_seat`: to call that takes longer than all the rest.
+            while (found := index[seat]) and (found & MARK_MASK != mark or self.hash((found & NUMBER_MASK) - 1) != of):
+                seat = seat + 1 & mask
+            index[seat] = mark | number
 
     def _grow(self) -> None:
         """Makes the index twice as long."""

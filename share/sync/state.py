@@ -5,7 +5,7 @@ from itertools import chain, takewhile
 from typing import NamedTuple
 
 from share.admission.judge import Counted, Judge
-from share.admission.ledger import Row, Who
+from share.admission.ledger import Row, Stretch, Who, bytes_of
 from share.admission.left_out import LeftOut
 from share.admission.runs import runs
 from share.format.entry import NOT_UNDER_A_NUMBER, Copy, Entry, Form, Kind
@@ -96,17 +96,14 @@ class Holdings:
         """Reads what the file has more, all or until it has this many bytes; the rows that weren't known, as `runs` has them."""
         if not self.rows:
             self.reread_anew(disk)
-        rows, has_more = self._rows_of(disk, most)
+        read, has_more = self._rows_of(disk, most)
         gone = disk.entries.withdrawn(self._number)
         again, self._again = self._again[:READ_AGAIN_AT_ONCE], self._again[READ_AGAIN_AT_ONCE:]
-        rows += disk.entries.rows_at(dict.fromkeys(again))
-        # What was withdrawn comes once more where a log had it after all.
-        new = [*runs(self.judge.unknown(rows))]
-        if any(run[0].made for run in new):
+        read.append(disk.entries.rows_at(dict.fromkeys(again)))
+        if any(row.made for rows in read for row in ([rows[0]] if isinstance(rows, Stretch) else rows)):
             # Another editor of this person may have claimed a number.
             self.clients |= {who(one): one for one in disk.own.clients()}
-        for run in new:
-            self._add_run(run)
+        new = [run for rows in read for run in self._added(rows)]
         if gone:
             # What was withdrawn may be further on in the file.
             self._number = self._number if has_more else gone[-1][0]
@@ -114,15 +111,28 @@ class Holdings:
         self.has_more = has_more or bool(self._again)
         return new
 
-    def _rows_of(self, disk: Disk, most: float) -> tuple[list[Row], bool]:
+    def _added(self, rows: Sequence[Row]) -> list[Sequence[Row]]:
+        """Adds those of some rows that aren't known, and gives them, as `runs` has them."""
+        # What is known can't follow the last entry of a chain.
+        if isinstance(rows, Stretch) and self._extends(rows):
+            return [rows]
+        # What was withdrawn comes once more where a log had it after all.
+        new = [*runs(self.judge.unknown(rows))]
+        for run in new:
+            if not self._extends(run):
+                for row in run:
+                    self._add(row)
+        return new
+
+    def _rows_of(self, disk: Disk, most: float) -> tuple[list[Sequence[Row]], bool]:
         """The next rows of a file, and whether it may have more. Those that were handed over needn't be read there."""
         rows, size = self._handover.take(disk.inode, self._place, most)
         self._place = rows[-1].place if rows else self._place
         if (left := most - size) <= 0:
-            return rows, True
-        read = disk.entries.rows(self._place, left)
-        self._place = read[-1].place if read else self._place
-        return rows + read, sum(len(row.entry.raw) for row in read) >= left
+            return [rows], True
+        read = disk.entries.read(self._place, left)
+        self._place = read[-1][-1].place if read else self._place
+        return [rows, *read], sum(map(bytes_of, read)) >= left
 
     @property
     def place(self) -> int:
@@ -288,12 +298,15 @@ class Holdings:
         return [*self.standing.fronts(self.counts_up_to), *self.standing_for_all.fronts(self.counts_up_to),
                 *self.recovered.fronts(self.counts_up_to)]
 
-    def _add_run(self, run: Sequence[Row]) -> None:
-        """Adds one entry; or several of messages, each of which follows the one before it, together where nothing was said of them here."""
-        is_plain = len(run) > 1 and not (self._withdrawn or self.standing_for_all.waits or who(run[0].entry) in self.clients)
+    def _extends(self, run: Sequence[Row]) -> bool:
+        """Adds several entries of messages, each of which follows the one before it, together where nothing was said of them here;
+        whether that was so."""
+        is_plain = len(run) > 1 and not (self._withdrawn or self.standing.waits or self.standing_for_all.waits)
         if not (is_plain and self.judge.extend(run)):
-            for row in run:
-                self._add(row)
+            return False
+        if not run[0].made and (of := who(run[0].entry)) in self.clients:
+            self._shared.add(of)
+        return True
 
     def _add(self, row: Row) -> None:
         entry, of = row.entry, who(row.entry)
