@@ -51,6 +51,8 @@ from share.format.operation import NoMessage, Operation
 from share.format.presence import MOST_PRESENCE
 
 HEAD = struct.Struct(">BB16sHIH32s")
+# The same without the form and the note.
+HEAD_WITHOUT_NOTE = ">xB16xHIH32s"
 LENGTH = struct.Struct(">H")
 SITE_FIELD = struct.Struct(">H")
 # The most bytes of an entry.

@@ -79,13 +79,13 @@ class Keystrokes:
             self._ends[entry.hash] = End(last)
         return False
 
-    def type_on_each(self, hashes: Sequence[bytes], chunks: Sequence[bytes], letters: bytes, before: bytes,
-                     entry: Callable[[int], Entry]) -> bytearray:
-        """The same of each of some entries of messages of which each follows the one before it, and the first one that of a hash.
-        `letters` says of which of them these are the chunks of one message; what else is asked of one is asked of the entry itself."""
-        found, at = bytearray(len(hashes)), 0
+    def type_on_each(self, hashes: Sequence[bytes], chunks: Sequence[bytes], letters: bytes, entry: Callable[[int], Entry]) -> bytearray:
+        """The same of each of some entries of messages of which each follows the one before it. `letters` says of which of them these are
+        the chunks of one message; what else is asked of one is asked of the entry itself."""
+        # Nobody has seen what the first one follows.
+        found, at = bytearray([self.type_on(entry(0))]) + bytes(len(hashes) - 1), 1
         while at < len(hashes):
-            before = hashes[at - 1] if at else before
+            before = hashes[at - 1]
             to = letters.find(0, at, at + COMPARED_AT_ONCE)
             to = min(at + COMPARED_AT_ONCE, len(hashes)) if to < 0 else to
             many = end.letters(chunks[at:to]) if to > at and (end := self._ends.get(before)) else 0
