@@ -69,11 +69,6 @@ def hashes_of(rows: Sequence[Row]) -> Sequence[bytes]:
     return rows.hashes if isinstance(rows, Stretch) else [row.entry.hash for row in rows]
 
 
-def bytes_of(rows: Sequence[Row]) -> int:
-    """How many bytes entries have."""
-    return sum(map(len, rows.raws)) if isinstance(rows, Stretch) else sum(len(row.entry.raw) for row in rows)
-
-
 class Ledger:
     """Entries, each by a number of its own; they are added and never change."""
 

@@ -94,19 +94,20 @@ class Entries:
     def rows(self, after: int = 0, most: float = math.inf) -> list[Row]:
         """The entries after a place, also those that were withdrawn; all, or the first ones, until they have this many bytes.
         What the disk damaged is taken out: whoever has it brings it back."""
-        return [row for rows in self.read(after, most) for row in rows]
+        return [row for rows in self.read(after, most)[0] for row in rows]
 
-    def read(self, after: int = 0, most: float = math.inf) -> list[Sequence[Row]]:
-        """The same, those together that follow one another."""
+    def read(self, after: int = 0, most: float = math.inf) -> tuple[list[Sequence[Row]], bool]:
+        """The same, those together that follow one another; and whether there may be more after them."""
         found: list[Sequence[Row]] = []
         with self._file.reading():
             while most > 0:
                 portion, size = self._portion(after, most)
                 found += self._rows_of(portion)
+                most -= size
                 if len(portion) < ROWS_AT_ONCE:
                     break
-                after, most = portion[-1][0], most - size
-        return found
+                after = portion[-1][0]
+        return found, most <= 0
 
     def rows_at(self, places: Collection[int]) -> list[Row]:
         """The entries at these places."""

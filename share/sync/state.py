@@ -5,7 +5,7 @@ from itertools import chain, takewhile
 from typing import NamedTuple
 
 from share.admission.judge import Counted, Judge
-from share.admission.ledger import Row, Stretch, Who, bytes_of
+from share.admission.ledger import Row, Stretch, Who
 from share.admission.left_out import LeftOut
 from share.admission.runs import runs
 from share.format.entry import NOT_UNDER_A_NUMBER, Copy, Entry, Form, Kind
@@ -130,9 +130,9 @@ class Holdings:
         self._place = rows[-1].place if rows else self._place
         if (left := most - size) <= 0:
             return [rows], True
-        read = disk.entries.read(self._place, left)
+        read, has_more = disk.entries.read(self._place, left)
         self._place = read[-1][-1].place if read else self._place
-        return [rows, *read], sum(map(bytes_of, read)) >= left
+        return [rows, *read], has_more
 
     @property
     def place(self) -> int:
