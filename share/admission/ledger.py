@@ -34,7 +34,7 @@ class Row(NamedTuple):
     types_on: bool = False
 
 
-class Stretch(Sequence[Row]):
+class Chained(Sequence[Row]):
     """Entries of messages of which each follows the one before it, in columns. A row is made where somebody asks for it, since nobody
     asks for nearly all of them. Either all of them were made here, or none."""
 
@@ -66,7 +66,7 @@ class Stretch(Sequence[Row]):
 
 def hashes_of(rows: Sequence[Row]) -> Sequence[bytes]:
     """The hashes of entries."""
-    return rows.hashes if isinstance(rows, Stretch) else [row.entry.hash for row in rows]
+    return rows.hashes if isinstance(rows, Chained) else [row.entry.hash for row in rows]
 
 
 class Ledger:
@@ -95,7 +95,7 @@ class Ledger:
     def add(self, rows: Sequence[Row], before: int) -> range:
         """Adds entries of one author: the first follows that of a number, which says nothing of a claim, and each other one the one before
         it. Their own numbers."""
-        if isinstance(rows, Stretch) and self._form:
+        if isinstance(rows, Chained) and self._form:
             return self._add_columns(rows, before, self._form)
         entries, first = [row.entry for row in rows], len(self)
         numbers = range(first, first + len(rows))
@@ -113,8 +113,8 @@ class Ledger:
         self._enter(hashes, first)
         return numbers
 
-    def _add_columns(self, these: Stretch, before: int, form: Form) -> range:
-        """The same of a stretch."""
+    def _add_columns(self, these: Chained, before: int, form: Form) -> range:
+        """The same of entries in columns."""
         first, many = len(self), len(these)
         numbers = range(first, first + many)
         self._hashes += b"".join(these.hashes)

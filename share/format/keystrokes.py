@@ -14,7 +14,7 @@ from share.format.entry import CHUNKS, Entry, Kind, check_entry
 from share.format.operation import GREATEST_STAMP, MOST_OF_A_SITE, Operation
 
 # The most entries of which it is known where they end; and that are compared in one go.
-MOST_ENDS, COMPARED_AT_ONCE = 4_096, 256
+MOST_ENDS, KEYS_AT_ONCE = 4_096, 256
 # The first bytes of varints that have more than one, and those of one.
 LOWEST, SEVEN_BITS = [bytes((low | 0x80,)) for low in range(0x80)], [bytes((low,)) for low in range(0x80)]
 
@@ -86,8 +86,8 @@ class Keystrokes:
         found, at = bytearray([self.type_on(entry(0))]) + bytes(len(hashes) - 1), 1
         while at < len(hashes):
             before = hashes[at - 1]
-            to = letters.find(0, at, at + COMPARED_AT_ONCE)
-            to = min(at + COMPARED_AT_ONCE, len(hashes)) if to < 0 else to
+            to = letters.find(0, at, at + KEYS_AT_ONCE)
+            to = min(at + KEYS_AT_ONCE, len(hashes)) if to < 0 else to
             many = end.letters(chunks[at:to]) if to > at and (end := self._ends.get(before)) else 0
             if many:
                 self._ends[hashes[at + many - 1]] = self._ends.pop(before)

@@ -6,11 +6,11 @@ import zlib
 from collections.abc import Collection, Container, Iterable, Iterator, Mapping, Sequence
 from typing import NamedTuple
 
-from share.admission.ledger import Row, Stretch
+from share.admission.ledger import Row, Chained
 from share.format.entry import CHUNKS, HEAD, MOST_AUTHOR_BYTES, MOST_BYTES, NO_HASH, ONE_BY_ONE, Bad, Entry, Form, Kind, digest
 from share.format.keystrokes import Keystrokes
 from share.store.guarded import GuardedFile
-from share.store.stretches import LEAST_ROWS, KeptEntry, in_stretches
+from share.store.chained import LEAST_ROWS, KeptEntry, put_together
 
 ENTRIES_SCHEMA = """
     CREATE TABLE entry (place INTEGER PRIMARY KEY AUTOINCREMENT, hash BLOB NOT NULL UNIQUE, raw BLOB NOT NULL,
@@ -213,8 +213,8 @@ class Entries:
     def _rows_of(self, portion: Sequence[KeptEntry]) -> list[Sequence[Row]]:
         """What some rows are, those together that follow one another; where one isn't as it was written each by itself."""
         found: list[Sequence[Row]] = []
-        for one in in_stretches(self._form, self._keystrokes, portion) if len(portion) >= LEAST_ROWS else [portion]:
-            if isinstance(one, Stretch):
+        for one in put_together(self._form, self._keystrokes, portion) if len(portion) >= LEAST_ROWS else [portion]:
+            if isinstance(one, Chained):
                 found.append(one)
             elif rows := [row for kept in one if (row := self._row(*kept))]:
                 found.append(rows)

@@ -28,7 +28,7 @@ MODULES = ["test_storm", "test_all_editors", "test_page", "test_web", "test_page
            "test_losses", "test_damage", "test_renewal", "test_rewriting", "test_slow_line", "test_presence", "test_channel",
            "test_terminal_closed", "test_closing", "test_judge", "test_convergence", "test_effects", "test_undo", "test_layout_and_changes",
            "test_old_notes", "test_sealed", "test_file_faults", "test_transform", "test_notes_of_messages", "test_snapshot",
-           "test_intake", "test_attacks", "test_difference", "test_state", "test_stretches", "test_links"]
+           "test_intake", "test_attacks", "test_difference", "test_state", "test_chained", "test_links"]
 
 
 class Result(NamedTuple):

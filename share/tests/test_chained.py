@@ -11,12 +11,12 @@ from typing import Any
 from unittest import mock
 
 from share.admission.judge import Judge
-from share.admission.ledger import Row, Stretch
+from share.admission.ledger import Row, Chained
 from share.format.chunk import GREATEST_SEQ
 from share.format.entry import NO_HASH, Author, Bad, Copied, Entry
 from share.format.keystrokes import Keystrokes
 from share.format.operation import GREATEST_STAMP, MOST_OF_A_SITE
-from share.store import stretches
+from share.store import chained
 from share.store.entries import Entries
 from share.store.note_file import About, Disk, make_note
 from share.store.own import Client
@@ -27,12 +27,12 @@ from share.tests.support import Case
 from share.tests.test_keystrokes import FORM, Typist, damaged
 
 ROUNDS, PORTION, KEYS = 40, 50, 400
-DAMAGES = ("raw = CAST(raw || x'00' AS BLOB)", "raw = x'01'", "raw = 'a word'", "hash = zeroblob(32)", "hash = 7", "sum = sum + 1", "sum = NULL",
-           "body = x'00'", "body = 'a word'", "made = 2")
+DAMAGES = ("raw = CAST(raw || x'00' AS BLOB)", "raw = x'01'", "raw = 'a word'", "hash = zeroblob(32)", "hash = 7", "sum = sum + 1",
+           "sum = NULL", "body = x'00'", "body = 'a word'", "made = 2")
 
 
 def one_by_one(form: object, keystrokes: object, portion: Sequence[Any]) -> list[Sequence[Any]]:
-    """Rows as they were read before there were stretches."""
+    """Rows as they were read before some were put together."""
     return [portion]
 
 
@@ -40,12 +40,12 @@ class Found:
     """What a file has, read in parts, many entries at once or one by one."""
 
     def __init__(self, path: pathlib.Path, is_quick: bool, parts: random.Random):
-        self.stretches = 0
+        self.chained = 0
         with contextlib.ExitStack() as ways, contextlib.closing(Disk(path)) as disk:
             if is_quick:
-                ways.enter_context(mock.patch.object(stretches, "Stretch", side_effect=self.counted))
+                ways.enter_context(mock.patch.object(chained, "Chained", side_effect=self.counted))
             else:
-                ways.enter_context(mock.patch("share.store.entries.in_stretches", one_by_one))
+                ways.enter_context(mock.patch("share.store.entries.put_together", one_by_one))
                 ways.enter_context(mock.patch.object(Holdings, "_extends", return_value=False))
             ways.enter_context(mock.patch("share.store.entries.ROWS_AT_ONCE", PORTION))
             self.holdings = Holdings(disk.form, Handover())
@@ -57,16 +57,16 @@ class Found:
             self.rows = {row.entry.hash: row for row in self.holdings.rows.each()}
             self.left = disk.entries.places()
 
-    def counted(self, *words: Any) -> Stretch:
-        """A stretch, which is counted."""
-        self.stretches += 1
-        return Stretch(*words)
+    def counted(self, *words: Any) -> Chained:
+        """Some that were put together, which are counted."""
+        self.chained += 1
+        return Chained(*words)
 
 
 class Alike(Case):
     """Random notes with forks, gaps, others' entries under own numbers, copies and damage."""
 
-    def note(self, chance: random.Random, about: About) -> pathlib.Path:
+    def random_note(self, chance: random.Random, about: About) -> pathlib.Path:
         """The file of one; some of those who wrote it are its person."""
         form, path = about.form(), self.folder / f"{chance.random()}.note"
         with mock.patch.object(test_keystrokes, "FORM", form):
@@ -92,7 +92,7 @@ class Alike(Case):
         return FORM.copies(said, Author(old.author, b""), old.site, chance.choice([NO_HASH, old.hash]))
 
     def assert_alike(self, path: pathlib.Path, chance: random.Random, is_right: bool) -> int:
-        """That it is the same by both ways; how many stretches there were."""
+        """That it is the same by both ways; how often some were put together."""
         other = path.with_suffix(".other")
         shutil.copy(path, other)
         quick, slow = (Found(one, is_quick, random.Random(chance.random())) for one, is_quick in ((path, True), (other, False)))
@@ -105,21 +105,21 @@ class Alike(Case):
         test_keystrokes.Counts().assert_alike(one.judge, two.judge)
         self.assertEqual((one.lost(), one.left_out(), one.broken(), one.withdrawn(), one.followed()),
                          (two.lost(), two.left_out(), two.broken(), two.withdrawn(), two.followed()))
-        self.assertEqual([one.is_anothers(client) for client in one.clients.values()], [two.is_anothers(client) for client in two.clients.values()])
-        return quick.stretches
+        self.assertEqual(*({of for of, client in found.clients.items() if found.is_anothers(client)} for found in (one, two)))
+        return quick.chained
 
     def test_the_same_counts(self) -> None:
         chance, many = random.Random(8), 0
         for number in range(ROUNDS):
             about = About(number % 4 == 0, bytes(range(32 if number % 4 == 0 else 16)))
-            many += self.assert_alike(self.note(chance, about), chance, True)
+            many += self.assert_alike(self.random_note(chance, about), chance, True)
         self.assertGreater(many, 2 * ROUNDS)
 
     def test_the_same_is_damaged(self) -> None:
         chance, many = random.Random(9), 0
         for number in range(ROUNDS):
             about = About(number % 4 == 0, bytes(range(32 if number % 4 == 0 else 16)))
-            path = self.note(chance, about)
+            path = self.random_note(chance, about)
             with contextlib.closing(sqlite3.connect(path, isolation_level=None)) as file:
                 places = [place for place, in file.execute("SELECT place FROM entry")]
                 for place in chance.sample(places, min(len(places), chance.choice([1, 1, 3]))):

@@ -5,28 +5,28 @@ import zlib
 from collections.abc import Iterator, Sequence
 from typing import NamedTuple
 
-from share.admission.ledger import Stretch
+from share.admission.ledger import Chained
 from share.format.entry import HEAD, HEAD_WITHOUT_NOTE, WITH_MESSAGES, Bad, Form, Kind, digests
 from share.format.keystrokes import Keystrokes
 
 # What a row has: a place, a hash, the bytes, the body where it was unsealed, a sum of that, and whether it was made here.
 KeptEntry = tuple[int, bytes, bytes, bytes | None, int, int]
-# Of fewer rows it is no gain to put them into columns; and fewer entries are no stretch.
-LEAST_ROWS, LEAST_IN_STRETCH = 16, 4
+# Of fewer rows it is no gain to put them into columns; and fewer entries aren't put together.
+LEAST_ROWS, LEAST_CHAINED = 16, 4
 OF_MESSAGES = frozenset(map(int, WITH_MESSAGES))
 
 
-def in_stretches(form: Form, keystrokes: Keystrokes, portion: Sequence[KeptEntry]) -> Iterator[Stretch | Sequence[KeptEntry]]:
-    """Rows of a file in their order: stretches, and rows by themselves between them; by themselves where not all of them are as they were
-    written, or something of a stretch isn't right."""
+def put_together(form: Form, keystrokes: Keystrokes, portion: Sequence[KeptEntry]) -> Iterator[Chained | Sequence[KeptEntry]]:
+    """Rows of a file in their order, those put together that follow one another; by themselves where not all of them are as they were
+    written, or something of those that follow isn't right."""
     try:
-        stretches = _stretches(form, portion)
+        together = _chained(form, portion)
     except (TypeError, ValueError, struct.error, Bad):
         # What the disk damaged may have another type.
         yield portion
         return
     between = 0
-    for begin, is_letter, one in stretches:
+    for begin, is_letter, one in together:
         if between < begin:
             yield portion[between:begin]
         between = begin + len(one)
@@ -39,9 +39,9 @@ def in_stretches(form: Form, keystrokes: Keystrokes, portion: Sequence[KeptEntry
         yield portion[between:]
 
 
-def _stretches(form: Form, portion: Sequence[KeptEntry]) -> list[tuple[int, bytes, Stretch]]:
-    """The stretches of some rows: where each begins, and which of it are a letter. Raises an error where not all of the rows are as they
-    were written."""
+def _chained(form: Form, portion: Sequence[KeptEntry]) -> list[tuple[int, bytes, Chained]]:
+    """Those of some rows that follow one another: where they begin, and which of them are a letter. Raises an error where not all of the
+    rows are as they were written."""
     hashes, raws, made = [one[1] for one in portion], [one[2] for one in portion], [bool(one[5]) for one in portion]
     if digests(raws) != hashes:
         raise ValueError("damaged")
@@ -55,7 +55,7 @@ def _stretches(form: Form, portion: Sequence[KeptEntry]) -> list[tuple[int, byte
     found = []
     for begin, end in _in_a_row([False, *follows], heads.kinds):
         of = slice(begin, end)
-        one = Stretch(form, [kept[0] for kept in portion[of]], hashes[of], raws[of], bodies[of], bytes(heads.kinds[of]), firsts[of],
+        one = Chained(form, [kept[0] for kept in portion[of]], hashes[of], raws[of], bodies[of], bytes(heads.kinds[of]), firsts[of],
                       sizes[of], made[begin])
         found.append((begin, is_letter[of], one))
     return found
@@ -99,5 +99,5 @@ def _in_a_row(follows: Sequence[bool], kinds: Sequence[int]) -> Iterator[tuple[i
     for begin, end in zip(begins, [*begins[1:], len(follows)]):
         # A claim is followed, too.
         begin += kinds[begin] not in OF_MESSAGES
-        if end - begin >= LEAST_IN_STRETCH:
+        if end - begin >= LEAST_CHAINED:
             yield begin, end
