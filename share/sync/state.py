@@ -290,7 +290,7 @@ class Holdings:
                 *self.recovered.fronts(self.counts_up_to)]
 
     def _extends(self, run: Sequence[Row]) -> bool:
-        """Adds entries of messages, each of which follows the one before it, together where nothing was said of them here; whether it did."""
+        """Adds entries of messages, each of which follows the one before it, together, where nothing was said of them; whether it did."""
         is_plain = len(run) > 1 and not (self._withdrawn or self.standing.waits or self.standing_for_all.waits)
         is_added = is_plain and self.judge.extend(run)
         if is_added and not run[0].made and (of := who(run[0].entry)) in self.clients:
