@@ -174,6 +174,16 @@ class TypedByHand(Case):
                 self.assertEqual([row.entry for run in new for row in run], [entry for entry in self.entries if entry not in known])
                 self.assertEqual((len(holdings.rows), holdings.judge.front(9)), (KEYS + 1, KEYS))
 
+    def test_what_was_withdrawn_counts_once_a_log_has_it(self) -> None:
+        holdings, last = Holdings(FORM, Handover()), self.entries[-KEYS // 2:]
+        with contextlib.closing(Disk(self.path)) as disk:
+            disk.entries.withdraw(entry.hash for entry in last)
+            holdings.read(disk)
+            self.assertEqual((holdings.judge.front(9), holdings.withdrawn()), (KEYS // 2, {entry.hash for entry in last}))
+            disk.keep(last, made=False)
+            holdings.read(disk)
+        self.assertEqual((holdings.judge.front(9), holdings.withdrawn()), (KEYS, set()))
+
     def test_somebody_else_under_an_own_number_is_seen(self) -> None:
         with contextlib.closing(sqlite3.connect(self.path, isolation_level=None)) as file:
             file.execute("UPDATE entry SET made = 0 WHERE place > ?", (KEYS // 2,))
