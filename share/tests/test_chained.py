@@ -13,7 +13,7 @@ from unittest import mock
 from share.admission.judge import Judge
 from share.admission.ledger import Row, Chained
 from share.format.chunk import GREATEST_SEQ
-from share.format.entry import NO_HASH, Author, Bad, Copied, Entry
+from share.format.entry import NO_HASH, Author, Bad, Copied, Entry, Kind
 from share.format.keystrokes import Keystrokes
 from share.format.operation import GREATEST_STAMP, MOST_OF_A_SITE
 from share.store import chained
@@ -183,6 +183,20 @@ class TypedByHand(Case):
             disk.keep(last, made=False)
             holdings.read(disk)
         self.assertEqual((holdings.judge.front(9), holdings.withdrawn()), (KEYS, set()))
+
+    def test_what_is_spelled_wrong_is_taken_out(self) -> None:
+        # Numbers so great that what an entry builds on may look as a chunk begins.
+        typist = Typist(FORM, 65_000, 2**45, 2**29, 2**21 + 9)
+        for _ in range(PORTION):
+            right = typist.keep(typist.insert(b"x"))
+        head, on = (typist.site, right.first), right.spelled[:len(NO_HASH)]
+        for wrong in (FORM._made(Kind.CHUNK, *head, 2, right.before, typist.author, b"", right.spelled),
+                      FORM._made(Kind.CHUNK_BUILDING, *head, 1, right.before, typist.author, on, right.spelled[len(on):])):
+            path = self.folder / f"{wrong.kind}.note"
+            make_note(path, About(False, FORM.note), (Row(0, entry, True) for entry in [*typist.entries[:-1], wrong]))
+            with contextlib.closing(Disk(path)) as disk:
+                self.assertEqual([row.entry for row in disk.entries.rows()], typist.entries[:-1])
+                self.assertEqual(disk.entries.damaged, 1)
 
     def test_somebody_else_under_an_own_number_is_seen(self) -> None:
         with contextlib.closing(sqlite3.connect(self.path, isolation_level=None)) as file:
