@@ -97,7 +97,7 @@ def _in_a_row(follows: Sequence[bool], kinds: Sequence[int]) -> Iterator[tuple[i
     """Where entries of messages begin of which each follows the one before it, and where they end."""
     begins = [at for at, is_next in enumerate(follows) if not (is_next and kinds[at] in OF_MESSAGES)]
     for begin, end in zip(begins, [*begins[1:], len(follows)]):
-        # A claim is followed, too.
+        # What a newer version wrote may be followed, too.
         begin += kinds[begin] not in OF_MESSAGES
         if end - begin >= LEAST_CHAINED:
             yield begin, end

@@ -129,6 +129,21 @@ class Alike(Case):
             many += self.assert_alike(path, chance, False)
         self.assertGreater(many, ROUNDS)
 
+    def test_each_kind_of_damage_and_a_gap_among_many(self) -> None:
+        for sealed in False, True:
+            about = About(sealed, bytes(range(32 if sealed else 16)))
+            typist = Typist(about.form(), 9)
+            for number in range(2 * PORTION):
+                # A gap in the seqs is nobody's own.
+                typist.seq += 3 * (number == PORTION // 2)
+                typist.keep(typist.insert(b"x"))
+            for number, damage in enumerate(DAMAGES):
+                path = self.folder / f"{sealed}-{number}.note"
+                make_note(path, about, (Row(0, entry, True) for entry in typist.entries))
+                with contextlib.closing(sqlite3.connect(path, isolation_level=None)) as file, contextlib.suppress(sqlite3.IntegrityError):
+                    file.execute(f"UPDATE entry SET {damage} WHERE place = ?", (PORTION // 4,))
+                self.assert_alike(path, random.Random(number), False)
+
 
 class TypedByHand(Case):
     """A note of which each letter is an entry."""
