@@ -54,8 +54,8 @@ class Chain:
         """The messages that are next to be let through."""
         if self.ended:
             return None
-        while self.at < len(self.branch):
-            runs = self.runs()
+        while self.at < len(self.branch.numbers):
+            runs = self._runs if self._runs is not None else self.runs()
             if self.run < len(runs):
                 return runs[self.run]
             self.pending -= self.branch.ledger.weight(self.number)

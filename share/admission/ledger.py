@@ -8,6 +8,7 @@ from array import array
 from bisect import bisect_left
 from collections.abc import Iterable, Iterator, Sequence
 from itertools import accumulate
+from operator import attrgetter
 from typing import NamedTuple, overload
 
 from share.format.entry import CHUNKS, NO_HASH, SAY_WHAT_THEY_BUILD_ON, Entry, Form, Kind, operations_of, operations_one_by_one
@@ -32,6 +33,12 @@ class Row(NamedTuple):
     entry: Entry
     made: bool
     types_on: bool = False
+
+
+# What is taken of each row and entry.
+HASH_OF, KIND_OF, FIRST_OF, SIZE_OF = map(attrgetter, ("hash", "kind", "first", "size"))
+MADE_OF, TYPES_ON_OF, PLACE_OF = map(attrgetter, ("made", "types_on", "place"))
+KIND_BY_NUMBER = {int(kind): kind for kind in Kind}
 
 
 class Chained(Sequence[Row]):
@@ -95,20 +102,23 @@ class Ledger:
     def add(self, rows: Sequence[Row], before: int) -> range:
         """Adds entries of one author: the first follows that of a number, which says nothing of a claim, and each other one the one before
         it. Their own numbers."""
+        if len(rows) == 1:
+            number = self._add_one(rows[0], before)
+            return range(number, number + 1)
         if isinstance(rows, Chained) and self._form:
             return self._add_columns(rows, before, self._form)
         entries, first = [row.entry for row in rows], len(self)
         numbers = range(first, first + len(rows))
-        hashes = [entry.hash for entry in entries]
+        hashes = [*map(HASH_OF, entries)]
         self._hashes += b"".join(hashes)
         self._whose.extend([self._client(entries[0])] * len(rows))
-        self._kinds += bytes([entry.kind for entry in entries])
-        self._made += bytes([row.made for row in rows])
-        self._types_on += bytes([row.types_on for row in rows])
+        self._kinds += bytes(map(KIND_OF, entries))
+        self._made += bytes(map(MADE_OF, rows))
+        self._types_on += bytes(map(TYPES_ON_OF, rows))
         self._befores.extend([before, *numbers[:-1]])
-        self._firsts.extend([entry.first for entry in entries])
-        self._sizes.extend([entry.size for entry in entries])
-        self._places.extend([row.place for row in rows])
+        self._firsts.extend(map(FIRST_OF, entries))
+        self._sizes.extend(map(SIZE_OF, entries))
+        self._places.extend(map(PLACE_OF, rows))
         self._keep(entries)
         self._enter(hashes, first)
         return numbers
@@ -134,6 +144,22 @@ class Ledger:
         self._ends.extend([begin + end for end in accumulate(map(len, kept))])
         self._enter(these.hashes, first)
         return numbers
+
+    def _add_one(self, row: Row, before: int) -> int:
+        """Adds an entry that follows that of a number, as each key does; its own number."""
+        entry, number = row.entry, len(self._kinds)
+        self._hashes += entry.hash
+        self._whose.append(self._client(entry))
+        self._kinds.append(entry.kind)
+        self._made.append(row.made)
+        self._types_on.append(row.types_on)
+        self._befores.append(before)
+        self._firsts.append(entry.first)
+        self._sizes.append(entry.size)
+        self._places.append(row.place)
+        self._keep((entry,))
+        self._enter((entry.hash,), number)
+        return number
 
     def _client(self, entry: Entry) -> int:
         """The number of an entry's site and author."""
@@ -223,8 +249,10 @@ class Ledger:
 
     def spelled(self, number: int) -> bytes:
         """An entry's messages, as it has them."""
-        begin = self._begin(number) + self._tail(number)
-        return bytes(self._kept[begin + self._on_bytes(number):self._ends[number]])
+        # Each key comes here twice.
+        begin = (self._ends[number - 1] if number else 0) + (self._form.tail_bytes if self._form else self._whole[number])
+        begin += HASH_BYTES if self._kinds[number] in SAY_WHAT_THEY_BUILD_ON else 0
+        return bytes(self._kept[begin:self._ends[number]])
 
     def chunk(self, number: int) -> bytes:
         """The chunk of an entry's messages, where it has them in one."""
@@ -232,7 +260,7 @@ class Ledger:
 
     def runs(self, number: int) -> Sequence[Operation]:
         """An entry's messages, those in one that are letters typed one after the other."""
-        return operations_of(Kind(self._kinds[number]), self.spelled(number))
+        return operations_of(KIND_BY_NUMBER[self._kinds[number]], self.spelled(number))
 
     def typed(self, numbers: Iterable[int]) -> bytes:
         """The letters of entries that type on."""
@@ -241,12 +269,12 @@ class Ledger:
 
     def messages(self, number: int) -> Sequence[Operation]:
         """An entry's messages."""
-        return operations_one_by_one(Kind(self._kinds[number]), self.spelled(number))
+        return operations_one_by_one(KIND_BY_NUMBER[self._kinds[number]], self.spelled(number))
 
     def entry(self, number: int) -> Entry:
         """An entry as it was."""
         site, author = self.client(number)
-        kind, of = Kind(self._kinds[number]), self.hash(number)
+        kind, of = KIND_BY_NUMBER[self._kinds[number]], self.hash(number)
         before = NO_HASH if kind is Kind.CLAIM else self.hash(self._befores[number])
         on, spelled = self.on(number), self.spelled(number)
         begin = self._begin(number)
@@ -260,9 +288,6 @@ class Ledger:
 
     def _begin(self, number: int) -> int:
         return self._ends[number - 1] if number else 0
-
-    def _on_bytes(self, number: int) -> int:
-        return HASH_BYTES if self._kinds[number] in SAY_WHAT_THEY_BUILD_ON else 0
 
     def _tail(self, number: int) -> int:
         """How many bytes are kept of an entry that can't be computed again."""

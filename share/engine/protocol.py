@@ -15,6 +15,9 @@ MOST_NUMBER = 2**53 - 1
 MOST_ID = 64
 COLOUR = re.compile(r"#[0-9a-fA-F]{6}")
 
+# Made once, since each line needs one.
+ENCODER, DECODER = json.JSONEncoder(ensure_ascii=False, separators=(",", ":")), json.JSONDecoder()
+
 
 class Wrong(Exception):
     """A request can't be done: the code of why, and words."""
@@ -35,7 +38,7 @@ def parse(data: bytes | None) -> Line:
     if data is None:
         raise Wrong("long", f"The line has more than {MOST_LINE:,} bytes.")
     try:
-        line = json.loads(data.decode())
+        line = DECODER.decode(data.decode())
     except (ValueError, RecursionError):
         line = None
     if not isinstance(line, dict):
@@ -45,7 +48,7 @@ def parse(data: bytes | None) -> Line:
 
 def serialize(line: Line) -> bytes:
     """The line of an object, with its end."""
-    return json.dumps(line, ensure_ascii=False, separators=(",", ":")).encode("utf-8", "replace") + b"\n"
+    return ENCODER.encode(line).encode("utf-8", "replace") + b"\n"
 
 
 def edits_of(request: Line, default: int) -> int:

@@ -235,7 +235,7 @@ class Server:
         self._selector = selectors.DefaultSelector()
         self._selector.register(self._bell, selectors.EVENT_READ)
         self._listener = socket.socket(socket.AF_UNIX, socket.SOCK_STREAM)
-        self._stops = False
+        self._is_watched = self._stops = False
         # How many editors it serves, and when it takes on more again, where the system has no descriptor for one now.
         self._most, self._takes_on = _most_editors(), -math.inf
 
@@ -296,7 +296,8 @@ class Server:
 
     def _watch_listener(self, watches: bool) -> None:
         """Watches whether somebody comes, or doesn't as long as nobody can be taken on."""
-        if watches != (self._listener in self._selector.get_map()):
+        if watches != self._is_watched:
+            self._is_watched = watches
             if watches:
                 self._selector.register(self._listener, selectors.EVENT_READ)
             else:

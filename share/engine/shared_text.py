@@ -6,7 +6,7 @@ from share.engine.editor import Peer
 from share.engine.protocol import Wrong
 from share.program.site import Told
 from share.sync.session import Session
-from share.text.change import Change
+from share.text.change import LINE_END, Change
 from share.text.delta import Op, in_text, of_changes
 from share.text.names import Names
 from share.text.rope import Measured, OutsideText, Split, readable, swapped
@@ -125,7 +125,10 @@ class SharedText:
 
     def _move(self, one: Change, names: list[Names] | None) -> None:
         """Moves all places along with a change that was made."""
-        one.look(self.measured.slice(max(0, one.begin - 1), one.begin), self.measured.size - len(one.new) + one.end - one.begin)
+        if one.new.endswith(LINE_END):
+            one.look(self.measured.slice(max(0, one.begin - 1), one.begin), self.measured.size - len(one.new) + one.end - one.begin)
+        else:
+            one.opens_line = False
         for follow in self._followers:
             follow(one, names)
         for peer in self._peers:

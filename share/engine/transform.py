@@ -8,7 +8,7 @@ it otherwise; its next edit names the version in which it was made, and so says 
 from collections.abc import Sequence
 
 from share.engine.protocol import Wrong
-from share.text.delta import NOTHING, Op, all_composed, brought_to, growth, in_turn, moved, of_changes, transformed
+from share.text.delta import NOTHING, Op, all_composed, brought_to, growth, in_turn, moved, of_change, of_changes, transformed
 from share.text.units import Units
 
 # The most notices that are kept one by one because an editor may not have taken them over.
@@ -135,6 +135,8 @@ class Transformer:
 
     def met(self) -> int:
         """How many units the last edit met at its place, where it is one insertion and was counted just now."""
+        if not self._unsent:
+            return 0
         # What is to be sent counts in the editor's text, after its edit.
         ends = [begin + self.units.count(data) for begin, _, data in in_turn(self._last[0], self.units) if data]
         return sum(brought_to(ends[-1], op, self.units) for op in self._unsent)
@@ -148,6 +150,8 @@ class Transformer:
 
     def _pending(self) -> Op:
         """What the engine's text has that the editor's hasn't."""
+        if not (self._sent or self._unsent):
+            return NOTHING
         return all_composed([op for _, op in self._sent] + self._unsent, self.units)
 
     def _own(self, changes: Sequence[tuple[int, int, str]], length: int) -> Op:
@@ -162,7 +166,7 @@ class Transformer:
                 raise Wrong("split", "A text has half a surrogate pair.") from why
             found.append((begin, end, data))
             length += self.units.count(data) - (end - begin)
-        return of_changes(found, self.units)
+        return of_change(*found[0]) if len(found) == 1 else of_changes(found, self.units)
 
 
 def _size(op: Op) -> int:

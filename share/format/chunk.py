@@ -14,8 +14,8 @@ from share.format.operation import (CHANGE_LOOKS, DELETE, GREATEST_STAMP, INSERT
 from share.text.looks import MOST_COLOUR
 from share.text.names import Names
 
-# What a chunk begins with: its tag and its text.
-CHUNK_BEGIN = b"OTC1" + TEXT.to_bytes(2, "big")
+# What a chunk begins with, before its text.
+CHUNK_TAG = b"OTC1"
 MOST_CHUNK = 16_000
 GREATEST_SEQ, GREATEST_SITE_FIELD = 2**32 - 1, 2**16 - 1
 # What isn't as expected.
@@ -33,7 +33,7 @@ UNFOLDED, MOST_KEPT = 16, 2**17
 # A varint (LEB128) in its one spelling; and a chunk of nothing but letters that were typed one after the other, in plain looks.
 VARINT = rb"([\x00-\x7f]|[\x80-\xff]{1,6}[\x01-\x7f])"
 VARINTS = re.compile(VARINT + b"*")
-TYPED = re.compile(CHUNK_BEGIN + bytes([NEW_SITE]) + 4 * VARINT + b"(?:" + bytes([FAR_FROM_CARET]) + 2 * VARINT + b")?("
+TYPED = re.compile(CHUNK_TAG + b"(?s:..)" + bytes([NEW_SITE]) + 4 * VARINT + b"(?:" + bytes([FAR_FROM_CARET]) + 2 * VARINT + b")?("
                    + PLAIN_LETTERS.pattern + rb")\Z")
 
 # A character, or the root where it is None.
@@ -60,11 +60,23 @@ class Packed(NamedTuple):
 _latest = Latest[tuple[Operation, ...]](MOST_KEPT)
 
 
-def unpacked(chunk: bytes) -> tuple[Operation, ...]:
-    """The operations of a chunk of one site, letters typed one after the other in one; raises NoChunk where it is none."""
+def chunk_begin(text: int) -> bytes:
+    """What a chunk of a text begins with."""
+    return CHUNK_TAG + text.to_bytes(2, "big")
+
+
+def text_of_chunk(chunk: bytes) -> int:
+    """The text of what was found to be a chunk."""
+    return int.from_bytes(chunk[len(CHUNK_TAG):len(CHUNK_TAG) + 2], "big")
+
+
+def unpacked(chunk: bytes, text: int = TEXT) -> tuple[Operation, ...]:
+    """The operations of a chunk of one site, letters typed one after the other in one; raises NoChunk where it is none of this text."""
+    if not chunk.startswith(chunk_begin(text)):
+        raise NoChunk
     found = _latest.get(chunk)
     if found is None:
-        found = _keystrokes_in(chunk) or tuple(_ChunkReader(chunk).operations())
+        found = _keystrokes_in(chunk, text) or tuple(_ChunkReader(chunk, text).operations())
         _latest.put(chunk, found)
     return found
 
@@ -93,6 +105,8 @@ def packed_in_parts(operations: Iterable[Operation], length: int = 0) -> list[Pa
 
 def _in_rows(operations: Sequence[Operation]) -> tuple[Operation, ...]:
     """Operations that one chunk has, as it is unpacked: letters typed one after the other in one."""
+    if len(operations) == 1:
+        return tuple(operations)
     rows: list[list[Operation]] = []
     for one in operations:
         if rows and _types_on(one, rows[-1][-1]):
@@ -109,7 +123,7 @@ def _types_on(one: Operation, last: Operation) -> bool:
             and one.looks == last.looks and one.stamp == last.stamp + last.size and [*one.mentions] == [Names(one.site, one.at - 1, 1)])
 
 
-def _keystrokes_in(chunk: bytes) -> tuple[Operation] | None:
+def _keystrokes_in(chunk: bytes, text: int) -> tuple[Operation] | None:
     """The operations of a chunk that has letters alone, typed one after the other in the looks of the default: what a keystroke
     is. None where it has something else, or isn't right."""
     found = TYPED.match(chunk)
@@ -122,11 +136,11 @@ def _keystrokes_in(chunk: bytes) -> tuple[Operation] | None:
             and stamp + size - 1 <= GREATEST_STAMP and at + size <= MOST_OF_A_SITE):
         return None
     if not of:
-        return None if found[5] else (Operation(INSERT, site, seq, stamp, size, (), at, data, PLAIN_LOOKS),)
+        return None if found[5] else (Operation(INSERT, site, seq, stamp, size, (), at, data, PLAIN_LOOKS, text),)
     place = Names(of, cause, 1)
     if not (1 <= place.site <= GREATEST_SITE_FIELD and place.at < (at if place.site == site else MOST_OF_A_SITE)):
         return None
-    return (Operation(INSERT, site, seq, stamp, size, (place,), at, data, PLAIN_LOOKS),)
+    return (Operation(INSERT, site, seq, stamp, size, (place,), at, data, PLAIN_LOOKS, text),)
 
 
 def _number_in(spelled: bytes) -> int:
@@ -138,9 +152,11 @@ def _number_in(spelled: bytes) -> int:
 
 
 @lru_cache(UNFOLDED)
-def unpacked_one_by_one(chunk: bytes) -> tuple[Operation, ...]:
+def unpacked_one_by_one(chunk: bytes, text: int = TEXT) -> tuple[Operation, ...]:
     """The operations of a chunk one by one."""
-    return tuple(one for row in unpacked(chunk) for one in row.each())
+    rows = unpacked(chunk, text)
+    # A key is one row of one.
+    return rows if len(rows) == rows[0].size == 1 else tuple(one for row in rows for one in row.each())
 
 
 class _Expected:
@@ -164,15 +180,20 @@ class _Expected:
 
 
 class Writer:
-    """A chunk that is being written, also of several sites."""
+    """A chunk that is being written, also of several sites: of the text of its first operation."""
 
     def __init__(self) -> None:
-        self.data = bytearray(CHUNK_BEGIN)
+        self.data = bytearray()
+        self._text = 0
         self._sites: dict[int, _Expected] = {}
         self._last = 0
 
     def add(self, operation: Operation, length: int = 0) -> bool:
         """Adds operations of a site, which had inserted this many characters before the chunk; False where they have no place here."""
+        if not self.data:
+            self.data, self._text = bytearray(chunk_begin(operation.text)), operation.text
+        if operation.text != self._text:
+            return False
         one, lead = self._sites.get(operation.site), b""
         if one is not None and operation.site == self._last and self._types_on(operation, one):
             return True
@@ -286,11 +307,11 @@ def _set(ranges: Sequence[Names]) -> bytes:
 
 
 class _ChunkReader:
-    """Reads a chunk of one site from the front."""
+    """Reads a chunk of one site, whose text was read, from the front."""
 
-    def __init__(self, chunk: bytes):
-        self._data, self._at = chunk, len(CHUNK_BEGIN) + 1
-        if not chunk.startswith(CHUNK_BEGIN) or len(chunk) > MOST_CHUNK or chunk[len(CHUNK_BEGIN):self._at] != bytes([NEW_SITE]):
+    def __init__(self, chunk: bytes, text: int):
+        self._data, self._at, self._text = chunk, len(chunk_begin(text)), text
+        if len(chunk) > MOST_CHUNK or not self._passes(NEW_SITE):
             raise NoChunk
         self._one = _Expected(self._number(), self._number(), self._number(), self._number())
         if not self._one.site:
@@ -346,7 +367,8 @@ class _ChunkReader:
                 raise NoChunk
         else:
             count = len(data)
-        operation = Operation(INSERT, one.site, one.seq, one.stamp, count, (Names(*place, 1),) if place else (), one.at, data, looks)
+        cause = (Names(*place, 1),) if place else ()
+        operation = Operation(INSERT, one.site, one.seq, one.stamp, count, cause, one.at, data, looks, self._text)
         one.looks = looks
         one.inserted(count, len(data))
         return operation
@@ -385,7 +407,7 @@ class _ChunkReader:
         for one in ranges:
             if not (1 <= one.site <= GREATEST_SITE_FIELD and one.at >= 0 and one.at + one.length <= MOST_OF_A_SITE):
                 raise NoChunk
-        operation = Operation(kind, self._one.site, self._one.seq, self._one.stamp, 1, ranges, looks=looks)
+        operation = Operation(kind, self._one.site, self._one.seq, self._one.stamp, 1, ranges, looks=looks, text=self._text)
         self._one.did(kind, ranges[0])
         return operation
 

@@ -113,6 +113,35 @@ class Copied(NamedTuple):
     stretches: tuple[tuple[int, int, int], ...]
     last: bytes = NO_HASH
 
+    @classmethod
+    def read(cls, spelled: bytes, size: int) -> "Copied":
+        """What an entry says, where an author has this many bytes; ValueError where it isn't spelled rightly."""
+        begin = 2 * (size + SITE_FIELD.size)
+        end = begin + len(NO_HASH)
+        if len(spelled) < end:
+            raise ValueError("cut short")
+        numbers = chunk.varints_in(spelled[end:])
+        stretches = tuple(zip(numbers[::3], numbers[1::3], numbers[2::3]))
+        if not numbers or len(numbers) % 3 or not all(map(_is_stretch, stretches)):
+            raise ValueError("no stretches")
+        site, by = SITE_FIELD.unpack_from(spelled, size)[0], spelled[size + SITE_FIELD.size:begin - SITE_FIELD.size]
+        by_site = SITE_FIELD.unpack_from(spelled, begin - SITE_FIELD.size)[0]
+        return cls(spelled[:size], site, by, by_site, stretches, spelled[begin:end])
+
+    def as_spelled(self) -> bytes:
+        """As an entry has it."""
+        numbers = b"".join(varint(number) for stretch in self.stretches for number in stretch)
+        return self.author + SITE_FIELD.pack(self.site) + self.by + SITE_FIELD.pack(self.by_site) + self.last + numbers
+
+    def is_of(self, author: bytes, site: int) -> bool:
+        """Whether it may be said by an author under a number: whose the messages are, or the copies."""
+        return (author, site) in ((self.author, self.site), (self.by, self.by_site))
+
+    @property
+    def has_sites(self) -> bool:
+        """Whether its numbers are ones that sites have."""
+        return 1 <= self.site <= GREATEST_SITE and 1 <= self.by_site <= GREATEST_SITE
+
 
 class Bad(Exception):
     """Bytes that are no entry of this note, and why, in words that follow `An entry`."""
@@ -164,18 +193,7 @@ class Entry(NamedTuple):
     @property
     def copied(self) -> Copied:
         """What an entry of copies says; ValueError where it isn't spelled rightly."""
-        size = len(self.author)
-        begin = 2 * (size + SITE_FIELD.size)
-        end = begin + len(NO_HASH)
-        if len(self.spelled) < end:
-            raise ValueError("cut short")
-        numbers = chunk.varints_in(self.spelled[end:])
-        stretches = tuple(zip(numbers[::3], numbers[1::3], numbers[2::3]))
-        if not numbers or len(numbers) % 3 or not all(map(_is_stretch, stretches)):
-            raise ValueError("no stretches")
-        site, by = SITE_FIELD.unpack_from(self.spelled, size)[0], self.spelled[size + SITE_FIELD.size:begin - SITE_FIELD.size]
-        by_site = SITE_FIELD.unpack_from(self.spelled, begin - SITE_FIELD.size)[0]
-        return Copied(self.spelled[:size], site, by, by_site, stretches, self.spelled[begin:end])
+        return Copied.read(self.spelled, len(self.author))
 
 
 class Author(NamedTuple):
@@ -258,14 +276,11 @@ class Form(ABC):
     def copies(self, copied: Copied, author: Author, site: int, before: bytes = NO_HASH) -> Entry:
         """The entry with which the author of messages, or that of their copies, says which stand for which. `before` is the
         hash of the last entry that has such messages."""
-        numbers = b"".join(varint(number) for stretch in copied.stretches for number in stretch)
-        body = copied.author + SITE_FIELD.pack(copied.site) + copied.by + SITE_FIELD.pack(copied.by_site) + copied.last + numbers
-        return self._made(Kind.COPIES, site, 0, 0, before, author, b"", body)
+        return self._made(Kind.COPIES, site, 0, 0, before, author, b"", copied.as_spelled())
 
     def renewed(self, name: str, site: int, author: Author) -> Entry:
         """The entry by which an author of this name says that the note goes on under a new key."""
-        said = name.encode("utf-8", "ignore")[:LONGEST_SAID].decode("utf-8", "ignore").encode()
-        return self._made(Kind.RENEWED, site, 0, 0, NO_HASH, author, b"", said)
+        return self._made(Kind.RENEWED, site, 0, 0, NO_HASH, author, b"", said_by_name(name))
 
     def open(self, raw: bytes) -> Entry:
         """The entry that has these bytes; Bad where they are none of this note's."""
@@ -368,6 +383,11 @@ class Plain(Form):
         return body
 
 
+def said_by_name(name: str) -> bytes:
+    """What somebody of this name says of a renewed note."""
+    return name.encode("utf-8", "ignore")[:LONGEST_SAID].decode("utf-8", "ignore").encode()
+
+
 def before_of(raw: bytes) -> bytes:
     """The hash of the entry before one, as bytes say it that may be damaged."""
     return raw[HEAD.size - len(NO_HASH):HEAD.size]
@@ -443,9 +463,9 @@ def _check_copies(entry: Entry) -> None:
         copied = entry.copied
     except ValueError as why:
         raise Bad("has bytes that say nothing of copies") from why
-    if entry.first or entry.size or not 1 <= copied.site <= GREATEST_SITE or not 1 <= copied.by_site <= GREATEST_SITE:
+    if entry.first or entry.size or not copied.has_sites:
         raise Bad("says of copies what can't be")
-    if (entry.author, entry.site) not in ((copied.author, copied.site), (copied.by, copied.by_site)):
+    if not copied.is_of(entry.author, entry.site):
         raise Bad("speaks of copies of others")
 
 

@@ -6,7 +6,7 @@ from collections.abc import Iterable, Iterator, Sequence
 from itertools import chain, islice
 from typing import NamedTuple, Protocol, overload
 
-from share.format.chunk import Writer, unpacked
+from share.format.chunk import Writer, text_of_chunk, unpacked
 from share.format.operation import Operation
 
 # A chunk of fewer operations is handed in with others where there are many, since a run of the program reads no more than 2^20 lines.
@@ -63,13 +63,14 @@ class Messages(Sequence[Operation]):
         holder, begin, end = part
         if begin == end:
             return
-        before = len(self)
-        if self._holders and self._holders[-1] is holder and self._begins[-1] + before - self._end_before(-1) == begin:
-            self._ends[-1] = before + end - begin
+        ends, holders = self._ends, self._holders
+        before = ends[-1] if ends else 0
+        if holders and holders[-1] is holder and self._begins[-1] + before - (ends[-2] if len(ends) > 1 else 0) == begin:
+            ends[-1] = before + end - begin
             return
-        self._holders.append(holder)
+        holders.append(holder)
         self._begins.append(begin)
-        self._ends.append(before + end - begin)
+        ends.append(before + end - begin)
 
     def parts(self) -> Iterator[Part]:
         """The operations by what has them."""
@@ -82,7 +83,7 @@ class Messages(Sequence[Operation]):
         """The operations, letters typed one after the other in one."""
         for part in self.parts():
             for chunk, known, _ in part.holder.parts(part.begin, part.end):
-                yield from known or unpacked(chunk)
+                yield from known or unpacked(chunk, text_of_chunk(chunk))
 
     def chunks(self, few: int | None = None) -> Iterator[tuple[bytes, int]]:
         """Chunks of all of them, and the number that each has: those that came, but for such of few, and new ones of the others."""
@@ -94,7 +95,7 @@ class Messages(Sequence[Operation]):
                     writer, count = Writer(), 0
                 yield chunk, size
                 continue
-            for one in known or unpacked(chunk):
+            for one in known or unpacked(chunk, text_of_chunk(chunk)):
                 if not writer.add(one):
                     yield bytes(writer.data), count
                     writer, count = Writer(), 0
@@ -109,6 +110,12 @@ class Messages(Sequence[Operation]):
             del self._holders[-1], self._begins[-1], self._ends[-1]
         if self._ends:
             self._ends[-1] = min(self._ends[-1], length)
+
+    def last(self, many: int) -> list[Operation]:
+        """The last of them, this many."""
+        if self._ends and self._ends[-1] - self._end_before(-1) == many:
+            return [*self._holders[-1].between(self._begins[-1], self._begins[-1] + many)]
+        return [*self._between(len(self) - many, len(self), 1)]
 
     def _end_before(self, number: int) -> int:
         """The number of operations before a part."""
@@ -150,8 +157,11 @@ class Messages(Sequence[Operation]):
         return found
 
     def __iadd__(self, others: Iterable[Operation]) -> "Messages":
-        for part in others.parts() if isinstance(others, Messages) else Messages(others).parts():
-            self.add(part)
+        if isinstance(others, Messages):
+            for part in others.parts():
+                self.add(part)
+        elif loose := tuple(others):
+            self.add(Part(Loose(loose), 0, len(loose)))
         return self
 
     def __eq__(self, other: object) -> bool:

@@ -9,7 +9,7 @@ from collections.abc import Callable, Iterable, Iterator, Sequence
 from itertools import chain, count, islice, repeat
 from operator import add
 
-from share.format.chunk import CHUNK_BEGIN, CODES, FAR_FROM_CARET, GREATEST_SEQ, PLAIN_LETTERS, MOST_CHUNK, NEW_SITE, varint
+from share.format.chunk import CODES, FAR_FROM_CARET, GREATEST_SEQ, PLAIN_LETTERS, MOST_CHUNK, NEW_SITE, chunk_begin, varint
 from share.format.entry import CHUNKS, Entry, Kind, check_entry
 from share.format.operation import GREATEST_STAMP, MOST_OF_A_SITE, Operation
 
@@ -27,7 +27,7 @@ class End:
     def __init__(self, last: Operation):
         self.site = last.site
         site = varint(last.site)
-        self._lead, self._far = CHUNK_BEGIN + bytes([NEW_SITE]) + site, bytes([FAR_FROM_CARET]) + site
+        self._lead, self._far = chunk_begin(last.text) + bytes([NEW_SITE]) + site, bytes([FAR_FROM_CARET]) + site
         self._seq, self._stamp, self._at = last.seq + last.size, last.stamp + last.size, last.at + len(last.data)
         self._cause = varint(self._at - 1)
 

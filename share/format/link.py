@@ -24,11 +24,14 @@ CHECK_BYTES = 4
 # The spellings of a link: the one whose checksum has the URL, too, and that of before.
 CHECKED, UNCHECKED = "1.1", "1"
 LINK = re.compile(r"vialshoal:(1\.1|1):([ps]):([A-Za-z0-9_-]+)@(.+)")
-NEWER_LINK = re.compile(r"vialshoal:(?!1:|1\.1:)[0-9.]+:.+")
+# One of a later form, also as a page's address has it.
+NEWER_LINK = re.compile(r"(https://[^/]+/#)?vialshoal:(?!1:|1\.1:)[0-9.]+:.+")
 SERVER = re.compile(r"([A-Za-z0-9.-]+|\[[0-9A-Fa-f:.]+\]):([0-9]{1,5})/?")
 # What a server's URL looks like where something of it was left out, so that no file is made by a slip.
 NEARLY = re.compile(r"(rediss?|unix|file|https?):.*|[A-Za-z0-9.-]+:[0-9]{1,5}", re.IGNORECASE)
 GREATEST_PORT = 65_535
+MISTAKEN = "That link has a mistake in it, or was cut short. Copy it whole, in one line."
+UNSEALED = "That link has a plain note on a server, and nothing goes to a server unsealed. Ask who sent it for another one."
 SCHEMES = "It is redis://HOST:PORT, rediss://HOST:PORT with TLS, unix:///PATH, or the path of a file."
 
 
@@ -61,8 +64,7 @@ def read_link(text: str) -> Link:
     secret = _secret(found[1], form, found[3], found[4])
     link = Link(form, secret, url_of(found[4]))
     if form == "plain" and is_network(link.url):
-        raise Trouble("That link has a plain note on a server, and nothing goes to a server unsealed. Ask who "
-                      "sent it for another one.")
+        raise Trouble(UNSEALED)
     if link.spelled(found[1]) != text.strip():
         raise Trouble("That link isn't spelled as bin/note link prints it. Copy it whole, in one line.")
     return link
@@ -123,7 +125,7 @@ def _secret(spelling: str, form: FormName, spelled: str, url: str) -> bytes:
     except binascii.Error:
         data = b""
     if len(data) != size + CHECK_BYTES or data[size:] != _check(spelling, form, data[:size], url):
-        raise Trouble("That link has a mistake in it, or was cut short. Copy it whole, in one line.")
+        raise Trouble(MISTAKEN)
     return data[:size]
 
 

@@ -1,7 +1,7 @@
 """Operations: what sites did to a note's text, as one type that all of sharing uses.
 
 One comes as a message, from the program or in an entry of an older kind, or in a chunk (share/format/chunk.py). It is read once,
-where it comes in. Nothing here makes a message: the program alone does. docs/FORMATS.md has messages byte by byte.
+where it comes in. Nothing here makes a new one: the program alone does. docs/FORMATS.md has messages byte by byte.
 """
 import struct
 from collections.abc import Iterable, Iterator
@@ -10,6 +10,7 @@ from typing import NamedTuple
 from share.text.looks import FONT_LETTERS, LONGEST_FONT, MOST_COLOUR
 from share.text.names import Names
 
+# The text of a note; a later form of notes has others beside it.
 TEXT = 1
 INSERT, DELETE, CHANGE_LOOKS, RESTORE = 1, 2, 3, 4
 GREATEST_STAMP = 2**48 - 1
@@ -22,6 +23,7 @@ MOST_INSERTED, MOST_RANGES = 4_096, 1_024
 HEADER = struct.Struct(">2sBBHHIQ")
 # The cause, where it begins, and the length of its font's name.
 INSERTION = struct.Struct(">HIIB")
+CAUSE_AND_AT = struct.Struct(">HII")
 TWO_BYTES = struct.Struct(">H")
 RANGE = struct.Struct(">HII")
 TAG = b"OT"
@@ -51,24 +53,25 @@ class Operation(NamedTuple):
     data: bytes = b""
     # An insertion's looks, or what a change of looks sets, as a message has them.
     looks: bytes = b""
+    text: int = TEXT
 
     @classmethod
-    def read(cls, message: bytes) -> "Operation":
-        """The operation of a message; NoMessage where bytes are none of a note's text, as docs/FORMATS.md has it."""
+    def read(cls, message: bytes, text: int = TEXT) -> "Operation":
+        """The operation of a message; NoMessage where bytes are none of this text, as docs/FORMATS.md has it."""
         if not HEADER.size < len(message) <= LONGEST_MESSAGE:
             raise NoMessage
-        tag, version, kind, text, site, seq, stamp = HEADER.unpack_from(message)
-        if tag != TAG or version != (2 if kind == RESTORE else 1) or text != TEXT or not (site and seq):
+        tag, version, kind, of, site, seq, stamp = HEADER.unpack_from(message)
+        if tag != TAG or version != _version(kind) or of != text or not (site and seq):
             raise NoMessage
         if not 1 <= stamp <= GREATEST_STAMP:
             raise NoMessage
         try:
             if kind == INSERT:
                 mentions, at, looks, data = _insertion(message, site)
-                return cls(kind, site, seq, stamp, 1, mentions, at, data, looks)
+                return cls(kind, site, seq, stamp, 1, mentions, at, data, looks, text)
             if kind in (DELETE, CHANGE_LOOKS, RESTORE):
                 looks = _selected(message) if kind == CHANGE_LOOKS else b""
-                return cls(kind, site, seq, stamp, 1, _ranges(message, HEADER.size + len(looks)), looks=looks)
+                return cls(kind, site, seq, stamp, 1, _ranges(message, HEADER.size + len(looks)), looks=looks, text=text)
         except (struct.error, IndexError) as why:
             raise NoMessage from why
         raise NoMessage
@@ -98,11 +101,24 @@ class Operation(NamedTuple):
         at = self.at + begin * length
         return Operation(self.kind, self.site, self.seq + begin, self.stamp + begin, end - begin,
                          (Names(self.site, at - 1, 1),) if begin else self.mentions, at,
-                         self.data[begin * length:end * length], self.looks)
+                         self.data[begin * length:end * length], self.looks, self.text)
 
     def each(self) -> Iterator["Operation"]:
         """The operations one by one."""
         return (self.part(number, number + 1) for number in range(self.size))
+
+    def spellings(self) -> Iterator[bytes]:
+        """The messages of the operations, one by one."""
+        if self.kind != INSERT:
+            yield b"".join([HEADER.pack(TAG, _version(self.kind), self.kind, self.text, self.site, self.seq, self.stamp), self.looks,
+                            TWO_BYTES.pack(len(self.mentions)), *(RANGE.pack(*one) for one in self.mentions)])
+            return
+        length, at, cause = len(self.data) // self.size, self.at, self.mentions[0][:2] if self.mentions else (0, 0)
+        end = self.looks + TWO_BYTES.pack(length)
+        for number in range(self.size):
+            yield b"".join((HEADER.pack(TAG, 1, INSERT, self.text, self.site, self.seq + number, self.stamp + number),
+                            CAUSE_AND_AT.pack(*cause, at), end, self.data[number * length:(number + 1) * length]))
+            cause, at = (self.site, at + length - 1), at + length
 
 
 def length_after(operations: Iterable[Operation], length: int) -> int:
@@ -117,6 +133,11 @@ def is_font(font: bytes, length: int) -> bool:
     """Whether bytes are the name of a font of this length."""
     return (len(font) == length and 1 <= length <= LONGEST_FONT and font[0] in FONT_BEGINS
             and FONT_BYTES.issuperset(font))
+
+
+def _version(kind: int) -> int:
+    """The version of the spelling of a kind."""
+    return 2 if kind == RESTORE else 1
 
 
 def _insertion(message: bytes, site: int) -> tuple[tuple[Names, ...], int, bytes, bytes]:

@@ -10,6 +10,7 @@ import re
 import struct
 from typing import NamedTuple
 
+from share.format.operation import TEXT
 
 TOKEN_BYTES = 16
 # Of a token the first bytes are random, and the others zeros.
@@ -23,7 +24,8 @@ MOST_NAME, MOST_NAME_BYTES = 40, 160
 LEAVING_BYTES = FORM.size + MOST_NAME_BYTES + 1
 # What a name doesn't have: controls, and what turns the direction of writing for all that follows.
 _NO_NAME = re.compile("[\0-\x1f\x7f-\x9f\u061c\u200e\u200f\u2028-\u202e\u2066-\u2069\ud800-\udfff]")
-HAS_CURSOR, HAS_ANCHOR = 1, 2
+# The upper four bits say the text, less 1.
+HAS_CURSOR, HAS_ANCHOR, TEXT_BIT = 1, 2, 4
 # Zeros, which a token of versions of before doesn't have there, and the count.
 COUNT = struct.Struct(">II")
 # The site and the offset of a character.
@@ -41,11 +43,13 @@ class Present(NamedTuple):
     cursor: NamedPlace | None
     anchor: NamedPlace | None
     name: str
+    # The text that the cursor is in: in a note of the first form there is one.
+    text: int = TEXT
 
 
 def presence_of(one: Present) -> bytes:
     """What an editor says, as bytes."""
-    flags = (one.cursor is not None) * HAS_CURSOR | (one.anchor is not None) * HAS_ANCHOR
+    flags = (one.cursor is not None) * HAS_CURSOR | (one.anchor is not None) * HAS_ANCHOR | one.text - 1 << TEXT_BIT
     head = FORM.pack(one.engine, one.editor, one.site, bytes.fromhex(one.colour[1:]), flags, *(one.cursor or AT_FRONT),
                      *(one.anchor or AT_FRONT))
     # Of one length, so that a server's operator can't tell people by the lengths of their names.
@@ -60,7 +64,7 @@ def read_presence(data: bytes) -> Present | None:
     cursor, anchor = (places[0], places[1]), (places[2], places[3])
     return Present(engine, editor, site, f"#{colour.hex()}", cursor if flags & HAS_CURSOR and _is_place(cursor) else None,
                    anchor if flags & HAS_ANCHOR and _is_place(anchor) else None,
-                   clean_name(data[FORM.size:].decode("utf-8", "ignore")))
+                   clean_name(data[FORM.size:].decode("utf-8", "ignore")), (flags >> TEXT_BIT) + 1)
 
 
 def clean_name(name: str) -> str:

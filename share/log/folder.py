@@ -33,3 +33,15 @@ def held(folder: pathlib.Path) -> Iterator[int]:
         yield file
     finally:
         os.close(file)
+
+
+@contextlib.contextmanager
+def undisturbed(folder: pathlib.Path) -> Iterator[None]:
+    """Keeps others meanwhile from making a file in a folder, or setting one aside, where that can be. Who opens a file of SQLite needs it:
+    what is beside the file is found by its name, and so would be what is beside the one that took that."""
+    with contextlib.ExitStack() as stack:
+        with contextlib.suppress(OSError):
+            file = os.open(folder, os.O_RDONLY | os.O_DIRECTORY | os.O_CLOEXEC)
+            stack.callback(os.close, file)
+            fcntl.flock(file, fcntl.LOCK_SH)
+        yield

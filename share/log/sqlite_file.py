@@ -67,18 +67,9 @@ class SqliteFile:
         found: int = self._file.execute(question, values).fetchone()[0]
         return found
 
-    @contextlib.contextmanager
-    def transaction(self) -> Iterator[None]:
+    def transaction(self) -> contextlib.AbstractContextManager[None]:
         """What is written meanwhile is written as a whole or not at all."""
-        self._file.execute("BEGIN IMMEDIATE")
-        try:
-            yield
-            self._file.execute("COMMIT")
-        except BaseException:
-            # Where the disk is full SQLite may have rolled back by itself.
-            if self._file.in_transaction:
-                self._file.execute("ROLLBACK")
-            raise
+        return _Transaction(self._file)
 
     def create(self, schema: str, application: int) -> None:
         """Makes the tables of an empty file, and says whose file it is."""
@@ -135,13 +126,42 @@ class SqliteFile:
         return self._ticks > MOST_TICKS
 
 
+class _Transaction(contextlib.AbstractContextManager[None]):
+    """A transaction. Each key has one, which made by a generator would take four times as many calls."""
+
+    def __init__(self, file: sqlite3.Connection):
+        self._file = file
+
+    def __enter__(self) -> None:
+        self._file.execute("BEGIN IMMEDIATE")
+
+    def __exit__(self, _: object, why: BaseException | None, where: object) -> None:
+        try:
+            if why is None:
+                self._file.execute("COMMIT")
+        finally:
+            # Where the disk is full SQLite may have rolled back by itself.
+            if self._file.in_transaction:
+                self._file.execute("ROLLBACK")
+
+
 class _Faults(contextlib.AbstractContextManager[None]):
     """Says of what SQLite raises whether the file is to blame."""
 
+    def __enter__(self) -> None:
+        pass
+
     def __exit__(self, _: object, why: BaseException | None, where: object) -> None:
-        if isinstance(why, sqlite3.DatabaseError) and not isinstance(why, sqlite3.ProgrammingError):
-            is_busy = isinstance(why, sqlite3.OperationalError) and not OTHER_TABLES.search(str(why))
-            raise (Busy if is_busy else Malformed)(str(why)) from why
+        if why is not None and (fault := fault_in(why)) is not why:
+            raise fault from why
+
+
+def fault_in(why: BaseException) -> BaseException:
+    """What SQLite raised, as Busy or Malformed, which say whether the file is to blame; anything else as it is."""
+    if isinstance(why, sqlite3.DatabaseError) and not isinstance(why, sqlite3.ProgrammingError):
+        is_busy = isinstance(why, sqlite3.OperationalError) and not OTHER_TABLES.search(str(why))
+        return (Busy if is_busy else Malformed)(str(why))
+    return why
 
 
 # It has nothing of its own, so there is one for all.

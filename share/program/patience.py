@@ -6,9 +6,10 @@ from collections.abc import Iterator
 from typing import NamedTuple
 
 # The seconds between two looks at a process that is waited for, and the number of looks in a row that find it still before it is
-# given up.
+# given up. One that hasn't answered anything yet is given more: it may wait for its own file, which on a disk of FUSE, or of
+# another machine, isn't seen from here.
 BETWEEN_LOOKS_SECONDS = 0.5
-MOST_STILL = 4
+MOST_STILL, MOST_STILL_AT_START = 4, 20
 # The seconds of a processor after which one that works is given up.
 MOST_WORKING_SECONDS = 30
 # It runs or wants to, or waits for the disk.
@@ -26,8 +27,9 @@ class Seen(NamedTuple):
 class Patience:
     """With a process that has something to do, and says nothing."""
 
-    def __init__(self, process: int):
+    def __init__(self, process: int, has_answered: bool = True):
         self._process, self._still = process, 0
+        self._most_still = MOST_STILL if has_answered else MOST_STILL_AT_START
         # Its seconds of a processor, at the first look and at the last one.
         self._first: float | None = None
         self._last: float | None = None
@@ -40,7 +42,7 @@ class Patience:
             self._first = self._last = seconds
         self._still = 0 if works or seconds > self._last else self._still + 1
         self._last = seconds
-        return self._still >= MOST_STILL or seconds >= self._first + MOST_WORKING_SECONDS
+        return self._still >= self._most_still or seconds >= self._first + MOST_WORKING_SECONDS
 
     def is_still(self) -> bool:
         """Whether the last look found that the process does nothing."""

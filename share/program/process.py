@@ -3,6 +3,7 @@ import contextlib
 import fcntl
 import os
 import pathlib
+import select
 import shlex
 import shutil
 import subprocess
@@ -81,7 +82,7 @@ class Program:
     answer of one that stands still is called."""
 
     def __init__(self, site: int, folder: pathlib.Path | None = None, still: Callable[[], None] = lambda: None):
-        self.site, self.lines, self._still = site, 0, still
+        self.site, self.lines, self._still, self._has_answered = site, 0, still, False
         runs = command()
         words, self.is_unproved = [*runs, "--first", str(site), "--count", "1"], is_unproved(runs)
         # It may have been taken away meanwhile, and what isn't there is no place for files.
@@ -94,6 +95,8 @@ class Program:
                           "it.") from why
         assert self.process.stdin and self.process.stdout
         self._in, self._out = self.process.stdin.fileno(), self.process.stdout.fileno()
+        self._answers = select.poll()
+        self._answers.register(self._out, select.POLLIN)
         try:
             os.set_blocking(self._in, False)
             for pipe in self._in, self._out:
@@ -106,17 +109,20 @@ class Program:
         """The answer lines of each event. All events are on their way at once, and answers are read
         meanwhile: if both sides only wrote, both pipes would fill and stand still."""
         self.lines += len(events)
-        script = memoryview(b"".join(event + b"\n" for event in events))
+        script = memoryview(b"\n".join([*events, b""]))
         answers: list[list[bytes]] = []
         answer: list[bytes] = []
         part: list[bytes] = []
-        patience = Patience(self.process.pid)
+        patience: Patience | None = None
+        # Nearly always the pipe has room for all.
+        script = script[self._written(script):]
         while len(answers) < len(events):
-            read, write = ready(BETWEEN_LOOKS_SECONDS, [self._out], [self._in] if script else [])
+            read, write = self._ready(bool(script))
             if not (read or write):
+                patience = patience or Patience(self.process.pid, self._has_answered)
                 self._wait(patience)
                 continue
-            patience = Patience(self.process.pid)
+            patience = None
             if write:
                 script = script[self._written(script):]
             if not read:
@@ -130,6 +136,14 @@ class Program:
                     answers.append(answer)
                     answer = []
         return answers
+
+    def _ready(self, writes: bool) -> tuple[bool, bool]:
+        """Whether an answer can be read, and whether events can be written, where some are left, as soon as one can."""
+        if writes:
+            read, write = ready(BETWEEN_LOOKS_SECONDS, [self._out], [self._in])
+            return bool(read), bool(write)
+        # Neither end is closed while an answer is waited for.
+        return bool(self._answers.poll(BETWEEN_LOOKS_SECONDS * 1_000)), False
 
     def event(self, verb: str, *words: int | bytes) -> bytes:
         """An event of the site, of its one text."""
@@ -151,7 +165,7 @@ class Program:
         """Waits on for a process of which nothing came, unless that hangs: then it is ended."""
         if patience.is_over():
             self.process.kill()
-            raise Ended
+            raise Ended("it was ended, since it stood still or worked on without an answer")
         if patience.is_still():
             self._still()
 
@@ -165,7 +179,8 @@ class Program:
 
     def _read(self) -> bytes:
         if not (data := os.read(self._out, PIPE)):
-            raise Ended
+            raise Ended("it ended by itself")
+        self._has_answered = True
         return data
 
     def close(self) -> None:
@@ -192,7 +207,7 @@ def _widen(pipe: int) -> None:
 
 def escaped(data: bytes) -> bytes:
     """Bytes as an event has them."""
-    return b"".join(ESCAPES[byte] for byte in data)
+    return b"".join([ESCAPES[byte] for byte in data])
 
 
 def text_in(answer: list[bytes]) -> bytes:

@@ -229,6 +229,8 @@ class Site:
 
     def insert(self, position: int, data: bytes) -> Edited:
         """Types bytes at a position of the text."""
+        if 0 < len(data) <= MOST_INSERTED:
+            return self._edit("type", position, escaped(data))
         parts = [*split(data)]
         places = accumulate(map(len, parts), initial=position)
         return one_by_one(self._edit("type", place, escaped(part)) for place, part in zip(places, parts))

@@ -40,11 +40,11 @@ class Undoing:
 
     def made(self, operations: Iterable[Operation], joins: bool) -> int:
         """Notes an edit, perhaps as one with the edit before it; the key of its step."""
-        step, meanwhile = Step(), list[Names]()
+        came, went, meanwhile = list[Names](), list[Names](), list[Names]()
         for one in operations:
-            (step.came if one.data else meanwhile if one.kind == RESTORE else step.went).extend(one.names)
+            (came if one.data else meanwhile if one.kind == RESTORE else went).extend(one.names)
         # What was shown while something was typed behind it was hidden before.
-        step = Step(united(step.came), without(united(step.went), united(meanwhile)) if step.went else [])
+        step = Step(united(came), without(united(went), united(meanwhile)) if went else [])
         if joins and self._done:
             step = self._done.pop().and_then(step)
         self.add(step)

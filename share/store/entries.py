@@ -180,12 +180,19 @@ class Entries:
         with self._file.reading():
             return self._sql.execute("SELECT number, hash FROM withdrawn WHERE number > ?", (after,)).fetchall()
 
-    def put(self, entries: Sequence[Entry], made: bool) -> int:
-        """Adds entries, within a transaction; how many it lacked."""
+    def put(self, entries: Sequence[Entry], made: bool) -> range:
+        """Adds entries, within a transaction; the places of those that it lacked, which are the last ones."""
         # What a log has counts, also where it was withdrawn here, and was made here all the same.
         back = set() if made else self._taken_from_withdrawn(entries)
-        return self._sql.executemany(ADD_ENTRY, (entry_values(entry, made or entry.hash in back, entry.hash in back, self._sealed)
-                                                 for entry in entries))
+        rows = (entry_values(entry, made or entry.hash in back, entry.hash in back, self._sealed) for entry in entries)
+        if len(entries) == 1:
+            # As each key has it: SQLite itself says which place a row got, where it added that one.
+            added = self._sql.execute(ADD_ENTRY, next(rows))
+            if added.rowcount == 1 and added.lastrowid:
+                return range(added.lastrowid, added.lastrowid + 1)
+        many = self._sql.executemany(ADD_ENTRY, rows)
+        last = self.last_place()
+        return range(last - many + 1, last + 1)
 
     def restore(self, rows: Mapping[bytes, Row], withdrawn: Iterable[bytes]) -> None:
         """Puts back what the file lacks of these, by their hashes, within a transaction. A log may have been offered any of it."""

@@ -3,10 +3,9 @@ or what belongs to it away."""
 import contextlib
 import pathlib
 from collections.abc import Callable, Collection, Iterator
-from typing import NoReturn
 
-from share.log.folder import inode_of
-from share.log.sqlite_file import FAULTS, Busy, Malformed, SqliteFile, application_without_log
+from share.log.folder import inode_of, undisturbed
+from share.log.sqlite_file import Busy, Malformed, SqliteFile, application_without_log, fault_in
 from share.store import unchanged
 
 
@@ -41,8 +40,13 @@ class GuardedFile:
         if fault := unchanged.fault(path):
             raise Changed(fault)
         self._version = self._shortened = 0
+        self._reading, self._explaining = _Reading(self.see, self._explain), _Reading(lambda: None, self._explain)
+        with undisturbed(path.parent):
+            self._begin(tables)
+
+    def _begin(self, tables: Collection[str]) -> None:
         with self.reading():
-            self.sql = SqliteFile(path)
+            self.sql = SqliteFile(self.path)
         try:
             with self.reading():
                 self._open(tables)
@@ -61,45 +65,40 @@ class GuardedFile:
         # Read once, it has beside it what belongs to it.
         self._left = unchanged.left(self.path)
 
-    @contextlib.contextmanager
-    def reading(self) -> Iterator[None]:
+    def reading(self) -> contextlib.AbstractContextManager[None]:
         """What is asked meanwhile is asked of a file of which nothing was cut off or taken away: a process that reads an index that was
         cut off is ended for it. Says Unkept or Damaged of what SQLite can't do."""
-        self._see()
-        try:
-            with FAULTS:
-                yield
-        except Busy as why:
-            if self.path.exists():
-                raise Unkept(f"{self.path}: {why}") from why
-            self._doubted(why)
-        except Malformed as why:
-            self._doubted(why)
+        return self._reading
 
     @contextlib.contextmanager
-    def writing(self) -> Iterator[None]:
-        """The same, and what is written meanwhile is written as a whole or not at all."""
-        with self.reading(), self.transaction():
+    def writing(self, is_seen: bool = False) -> Iterator[None]:
+        """The same, and what is written meanwhile is written as a whole or not at all. Who has just looked at the file says so."""
+        with self._explaining if is_seen else self._reading, self._written(), self.sql.transaction():
             yield
 
     @contextlib.contextmanager
     def transaction(self) -> Iterator[None]:
         """The same within `reading`."""
-        with self._left.written() if self._left else contextlib.nullcontext(), self.sql.transaction():
+        with self._written(), self.sql.transaction():
             yield
 
-    def look(self, read_again: Callable[[], None], at_end: bool = False) -> None:
+    def _written(self) -> contextlib.AbstractContextManager[None]:
+        return self._left.written() if self._left else contextlib.nullcontext()
+
+    def look(self, read_again: Callable[[], None], at_end: bool = False) -> bool:
         """Sees that a file that is in its place is what was written; where another program wrote to it, by what reading it again says. At
-        the end that is done, too, where SQLite wrote there what wasn't looked at."""
-        self._see()
+        the end that is done, too, where SQLite wrote there what wasn't looked at. Whether it needn't be read."""
+        self.see()
         if self._left and (fault := self._left.fault_of_log(at_end)):
             raise Changed(fault)
-        if self._left and (state := self._left.unknown(at_end)):
-            try:
-                read_again()
-            except Damaged as why:
-                raise Changed(f"another program wrote to it: {why}") from why
-            self._left.knows(state)
+        if not self._left or not (state := self._left.unknown(at_end)):
+            return True
+        try:
+            read_again()
+        except Damaged as why:
+            raise Changed(f"another program wrote to it: {why}") from why
+        self._left.knows(state)
+        return False
 
     def look_at_unseen(self, read: Callable[[], None]) -> bool:
         """Looks at what was written and nobody has looked at, and reads what of that is in the file itself; whether there was any. All that
@@ -128,7 +127,7 @@ class GuardedFile:
         log was looked at just now."""
         if self._left:
             self._shortened = self._left.ahead()
-            with self.reading(), self._left.written():
+            with self._reading, self._left.written():
                 self.sql.shorten_log()
 
     def check(self) -> None:
@@ -160,11 +159,31 @@ class GuardedFile:
             left.let_go()
         self.sql.close()
 
-    def _see(self) -> None:
+    def see(self) -> None:
+        """Raises Changed where something of the file was cut off or taken away."""
         if self._left and (fault := self._left.fault()):
             raise Changed(fault)
 
-    def _doubted(self, why: Exception) -> NoReturn:
-        # Another thread that has it open may have seen none of it.
-        unchanged.doubt(self.path)
-        raise Damaged(f"{self.path}: {why}") from why
+    def _explain(self, why: BaseException) -> None:
+        """Says Unkept or Damaged of what SQLite raised."""
+        fault = fault_in(why)
+        if isinstance(fault, Busy) and self.path.exists():
+            raise Unkept(f"{self.path}: {fault}") from why
+        if isinstance(fault, (Busy, Malformed)):
+            # Another thread that has it open may have seen none of it.
+            unchanged.doubt(self.path)
+            raise Damaged(f"{self.path}: {fault}") from why
+
+
+class _Reading(contextlib.AbstractContextManager[None]):
+    """What is done before a file is used, and with what is raised meanwhile. One serves all uses, within one another too."""
+
+    def __init__(self, begins: Callable[[], None], fails: Callable[[BaseException], None]):
+        self._begins, self._fails = begins, fails
+
+    def __enter__(self) -> None:
+        self._begins()
+
+    def __exit__(self, _: object, why: BaseException | None, where: object) -> None:
+        if why is not None:
+            self._fails(why)

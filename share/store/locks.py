@@ -85,15 +85,17 @@ class Locks:
 
     def note(self, of: bytes, place: int) -> None:
         """Notes up to which place a file has entries, unless more is noted. Where that can't be now the next time does it."""
-        with suppress(OSError):
+        try:
             file = self._opened()
             fcntl.flock(file, fcntl.LOCK_EX | fcntl.LOCK_NB)
             try:
-                if self.noted(of) < place:
+                if place_noted(os.pread(file, NOTED.size + SUM.size, 0), of) < place:
                     data = NOTED.pack(of, place)
                     os.pwrite(file, data + SUM.pack(zlib.crc32(data)), 0)
             finally:
                 fcntl.flock(file, fcntl.LOCK_UN)
+        except OSError:
+            pass
 
     def noted(self, of: bytes) -> int:
         """Up to which place a file has entries at least, as far as is known."""

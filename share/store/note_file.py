@@ -77,11 +77,12 @@ class Disk:
         """Whether the file is still the one under its name, and the locks are where others look for them."""
         return self._file.is_in_place() and self._locks.is_in_place()
 
-    def look(self, has_all: Callable[["Disk"], bool], at_end: bool = False) -> None:
-        """Sees that the file is what was written, and where another program wrote to it that it has all that is to be there."""
+    def look(self, has_all: Callable[["Disk"], bool], at_end: bool = False) -> bool:
+        """Sees that the file is what was written, and where another program wrote to it that it has all that is to be there; whether it
+        was seen without reading it again, so that all of this is so now."""
         if not self.is_in_place():
             raise Damaged(f"{self.path} was taken away")
-        self._file.look(lambda: self._has_still(has_all), at_end)
+        return self._file.look(lambda: self._has_still(has_all), at_end)
 
     def look_at_unseen(self) -> bool:
         """Looks whether all can be read that SQLite wrote to the file itself, where nobody has since; any thread may do so."""
@@ -121,23 +122,23 @@ class Disk:
         self.about = replace(self.about, url=url)
 
     def keep(self, entries: Sequence[Entry], made: bool, client: Client | None = None, retired: Sequence[Client] = (),
-             anew: Sequence[Anew] = (), hidings: Sequence[Copy] = ()) -> range:
+             anew: Sequence[Anew] = (), hidings: Sequence[Copy] = (), is_seen: bool = False) -> range:
         """Writes entries; with them, all or nothing, a number that was claimed, those that are given up,
-        what was made anew, and which messages hide copies. Gives the places of those that it lacked."""
-        self._be_whole()
-        with self._file.writing():
+        what was made anew, and which messages hide copies. Gives the places of those that it lacked. Who has just seen by `look` that the
+        file is in its place says so."""
+        self._be_whole(is_seen)
+        with self._file.writing(is_seen):
             if client:
                 self.own.add_client(client)
             if retired:
                 self.own.retire(retired)
-            many = self.entries.put(entries, made)
+            places = self.entries.put(entries, made)
             if anew:
                 self.own.add_anew(anew)
             self.own.add_hidings(hidings)
-            last = self.entries.last_place()
         # Where what is committed is lost with SQLite's log, the next opening tells.
-        self._locks.note(self._noted_of, last)
-        return range(last - many + 1, last + 1)
+        self._locks.note(self._noted_of, places.stop - 1)
+        return places
 
     def receive(self, rows: Sequence[Row]) -> tuple[int, list[Row]]:
         """Writes entries that a log has; the last place before them, and with their places, which follow it, those that are new."""
@@ -147,9 +148,9 @@ class Disk:
         self._locks.note(self._noted_of, before + len(new))
         return before, new
 
-    def _be_whole(self) -> None:
+    def _be_whole(self, is_seen: bool = False) -> None:
         """Raises Damaged where nothing may be written: what came to the places of what was lost would hide that."""
-        if not self.is_in_place():
+        if not (is_seen or self.is_in_place()):
             raise Damaged(f"{self.path} was taken away")
         if not self._is_whole and (many := self.lacks()):
             raise Damaged(f"{self.path} has lost {many_entries(many)} that it had")
@@ -189,7 +190,7 @@ class Disk:
                 now = max(0, unsent - self._file.sql.one(NEVER_OFFERED))
                 self._file.sql.execute("INSERT OR REPLACE INTO about VALUES (?, ?)", (IN_DOUBT, now))
 
-    def tidy(self, look: Callable[[], None]) -> None:
+    def tidy(self, look: Callable[[], object]) -> None:
         """Does what writing would do now and then, while there is time, where there is something to do and nothing wrong is seen."""
         if self._file.has_long_log():
             look()

@@ -171,8 +171,11 @@ def _log_of_new(url: str) -> str:
 
 def _give_way(name: str, path: pathlib.Path) -> str:
     """Gives a note's file one more name, so that another file can take its place; that name."""
-    with contextlib.closing(Disk(path)) as disk:
-        is_open = disk.locked()
+    try:
+        with contextlib.closing(Disk(path)) as disk:
+            is_open = disk.locked()
+    except Damaged as why:
+        raise Trouble(f"{why}. bin/note recover {path.parent} brings back what can be read of it.") from why
     if is_open or path.with_name(path.name + "-wal").exists():
         raise Trouble(f"The note {name} is open. Quit its editors first.")
     before = next(one for number in count(1) if not path_of(one := f"{name[:56]}.old-{number}").exists())

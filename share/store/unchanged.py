@@ -14,7 +14,6 @@ import threading
 import time
 import weakref
 from collections.abc import Iterator
-from typing import NamedTuple
 
 from share.log.folder import Inode, inode_of
 from share.log.sqlite_file import INDEX, WRITTEN_AHEAD, beside
@@ -25,13 +24,13 @@ INDEX_BYTES = 32_768
 # with, the salts and the sums so far.
 LOG_HEAD, FRAME = struct.Struct(">8I"), struct.Struct(">6I")
 SUMMED_HEAD, SUMMED_FRAME, WORD = 24, 8, 0xFFFFFFFF
-SALTS_OF_LOG, SALTS_OF_FRAME = slice(16, 24), slice(8, 16)
+SALTS_OF_LOG, SALTS_OF_FRAME, COMMITS = slice(16, 24), slice(8, 16), slice(4, 8)
 # How it begins says in which order bytes are summed.
 ORDERS = {0x377F0682: "<", 0x377F0683: ">"}
 # Of how many pages that is looked at each time, which takes a tenth of a millisecond a page.
 SUMMED_AT_ONCE = 4
 # How much of it is compared in one go, and how many pages are read.
-COMPARED_AT_ONCE, FRAMES_AT_ONCE = 2**18, 16
+COMPARED_AT_ONCE, FRAMES_OF_A_KEY, FRAMES_AT_ONCE = 2**18, 5, 16
 # What is written within this time of another writing may leave a file with the same time.
 TICK_SECONDS = 0.05
 # The file itself is read through once nothing was written there for this time: who reads it keeps the log from beginning anew.
@@ -40,15 +39,10 @@ QUIET_SECONDS = 1.0
 SUMMED_AFTER_SECONDS = 0.5
 
 
-class FileState(NamedTuple):
-    """How a file was left: its bytes, and when something of it was changed last."""
-
-    size: int
-    changed: int
-
-
+# How a file was left: its bytes, and when something of it was changed last.
+FileState = tuple[int, int]
 # No file is so.
-UNKNOWN = FileState(-1, 0)
+UNKNOWN: FileState = -1, 0
 
 
 class Ahead:
@@ -86,16 +80,19 @@ class Ahead:
                 return False
             self._seen, self._summed, self._sums = bytearray(head), LOG_HEAD.size, LOG_HEAD.unpack(head)[6:]
         before = end = len(self._seen)
-        for frame, commits in self._frames(before):
-            self._seen += frame
-            if commits:
-                end = len(self._seen)
+        for pages, committed in self._pages(before):
+            end = len(self._seen) + committed if committed else end
+            self._seen += pages
         del self._seen[end:]
         return end > before
 
     def changed(self) -> int:
         """When it was changed last."""
         return os.fstat(self._file).st_ctime_ns
+
+    def written_at(self) -> int:
+        """When something was written there last. SQLite, run by root, changes its owner as it opens it, which is no writing."""
+        return os.fstat(self._file).st_mtime_ns
 
     def rested(self) -> float:
         """For how many seconds it wasn't changed, as far as was seen."""
@@ -114,8 +111,20 @@ class Ahead:
         return found
 
     def _is_as_seen(self) -> bool:
+        if self._has_that_alone():
+            return True
         self.note()
         return all(map(self._has, range(0, len(self._seen), COMPARED_AT_ONCE)))
+
+    def _has_that_alone(self) -> bool:
+        """Whether what was seen is there, in one reading, and no page follows that belongs to it: so it is nearly always."""
+        size = len(self._seen)
+        if not size or size + FRAME.size > len(self._part):
+            return False
+        read = os.preadv(self._file, [self._part[:size + FRAME.size]], 0)
+        if read < size or not self._seen.startswith(self._part[:size]):
+            return False
+        return read < size + FRAME.size or self._part[size:size + FRAME.size].tobytes()[SALTS_OF_FRAME] != self._seen[SALTS_OF_LOG]
 
     def _has(self, begin: int) -> bool:
         """Whether the part that begins there is there still."""
@@ -155,23 +164,23 @@ class Ahead:
     def _read(self, begin: int, size: int) -> bytes:
         return os.pread(self._file, size, begin)
 
-    def _frames(self, begin: int) -> Iterator[tuple[bytes, int]]:
-        """The pages that follow from a place on, each with what is before it, and whether it ends a commit."""
+    def _pages(self, begin: int) -> Iterator[tuple[bytes, int]]:
+        """The pages that follow from a place on, some at a time, each with what is before it; and where the last of them that ends a commit
+        does, 0 where none does."""
         if not self._seen:
             return
-        _, _, page, _, *salts = LOG_HEAD.unpack_from(self._seen)[:6]
-        size = FRAME.size + page
-        # Mostly there is none.
-        while self._read(begin, FRAME.size)[SALTS_OF_FRAME] == self._seen[SALTS_OF_LOG]:
-            frames = self._read(begin, FRAMES_AT_ONCE * size)
-            for at in range(0, len(frames) // size * size, size):
-                _, commits, *found = FRAME.unpack_from(frames, at)
-                if found[:2] != salts:
-                    return
-                yield frames[at:at + size], commits
-            if len(frames) < size:
+        salts, size = self._seen[SALTS_OF_LOG], FRAME.size + LOG_HEAD.unpack_from(self._seen)[2]
+        # Mostly there is none, or those of a key.
+        most = FRAMES_OF_A_KEY * size
+        while len(frames := self._read(begin, most)) >= size:
+            committed = at = 0
+            while at + size <= len(frames) and frames[at + SALTS_OF_FRAME.start:at + SALTS_OF_FRAME.stop] == salts:
+                at += size
+                committed = at if any(frames[at - size + COMMITS.start:at - size + COMMITS.stop]) else committed
+            yield frames[:at], committed
+            if at + size <= len(frames) or len(frames) < most:
                 return
-            begin += len(frames) // size * size
+            begin, most = begin + at, FRAMES_AT_ONCE * size
 
 
 def _summed(data: bytes | bytearray, sums: tuple[int, ...], order: str) -> tuple[int, ...]:
@@ -232,19 +241,32 @@ class FileWatch:
                 self._sizes[path] = found.st_size
         return None
 
-    @contextlib.contextmanager
-    def written(self) -> Iterator[None]:
+    def written(self) -> "Written":
         """Takes note of what is written meanwhile. Only one thread writes at a time; what another program writes meanwhile isn't taken
         over."""
-        with self._writing:
-            is_known, before = self._state == self._now(), self._ahead.changed()
+        return Written(self)
+
+    def begin_writing(self) -> tuple[bool, int]:
+        """Waits until no other thread writes; whether the file is as it was left, and when the log was written to last."""
+        self._writing.acquire()
+        try:
+            return self._state == self._now(), self._ahead.written_at()
+        except BaseException:
+            self._writing.release()
+            raise
+
+    def end_writing(self, is_known: bool, before: int, is_done: bool) -> None:
+        """Lets others write, and notes what was written since the beginning, which gave the first two."""
+        try:
+            if is_done:
+                self._awaits |= not self._ahead.note() and self._ahead.written_at() != before
+        finally:
             try:
-                yield
-                self._awaits |= not self._ahead.note() and self._ahead.changed() != before
-            finally:
                 # SQLite itself may have moved pages of the log into the file.
                 if is_known and self._state != (now := self._now()):
                     self._knows(now)
+            finally:
+                self._writing.release()
 
     def unknown(self, at_end: bool = False) -> FileState | None:
         """How the file is, where another process has written to it, or at the end where that isn't looked at yet."""
@@ -309,7 +331,21 @@ class FileWatch:
             found = os.stat(self._path)
         except OSError:
             return UNKNOWN
-        return FileState(found.st_size, found.st_ctime_ns)
+        return found.st_size, found.st_ctime_ns
+
+
+class Written(contextlib.AbstractContextManager[None]):
+    """What this process writes to a file."""
+
+    def __init__(self, watch: FileWatch):
+        self._watch = watch
+        self._began = False, 0
+
+    def __enter__(self) -> None:
+        self._began = self._watch.begin_writing()
+
+    def __exit__(self, _: object, why: BaseException | None, where: object) -> None:
+        self._watch.end_writing(*self._began, why is None)
 
 
 _known: "weakref.WeakValueDictionary[Inode, FileWatch]" = weakref.WeakValueDictionary()

@@ -100,8 +100,8 @@ class OwnEdits:
         def keep() -> range:
             if self._numbers.is_taken:
                 raise Unkept("another editor of yours got this one's number")
-            self._file.look()
-            return self._file.disk.keep([*said, *made], True, anew=anew, hidings=hidings)
+            is_seen = self._file.look()
+            return self._file.disk.keep([*said, *made], True, anew=anew, hidings=hidings, is_seen=is_seen)
 
         trace(Traced.EDIT, messages=len(messages), entries=len(made))
         places = self._file.mended(keep)

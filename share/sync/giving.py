@@ -33,7 +33,9 @@ class Giver:
 
     def has_work(self) -> None:
         """Says that the file has more, or that the log may lack something."""
-        self._work.set()
+        # Without a log nobody ever takes that back, and each key says it.
+        if not self._work.is_set():
+            self._work.set()
 
     def is_done(self) -> bool:
         """Whether the log was read, and was given all that it is to have."""

@@ -152,14 +152,18 @@ class Numbers:
             self.own, self.is_taken, self.is_full = self.claimed(), False, False
         return retired
 
-    def withdraw(self, clients: Sequence[Client], has: Callable[[bytes], bool]) -> bool:
-        """Takes back what was made under numbers and that nobody else has; whether there was any."""
-        holdings, followed = self._holdings, self._holdings.followed()
+    def withdraw(self, clients: Sequence[Client], replicator: Replicator) -> bool:
+        """Takes back what was made under numbers and that nobody else has; whether there was any. What others have and the log
+        lacks it is given."""
+        holdings = self._holdings
         made = holdings.made_by(clients)
-        in_log = [of for of in made if of in followed or has(of)]
-        unsent = set(made).difference(in_log)
-        gone = self._file.mended(lambda: self._file.disk.entries.withdraw(unsent, in_log))
+        in_log = {of for of in made if replicator.has(of)}
+        known = holdings.followed().intersection(made) | in_log
+        gone = self._file.mended(lambda: self._file.disk.entries.withdraw(set(made) - known, known))
         holdings.withdraw(gone)
+        if known > in_log:
+            # It was held back until now.
+            replicator.read_from_front()
         return bool(gone)
 
     def take_another_when_full(self, length: int) -> bool:

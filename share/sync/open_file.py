@@ -94,10 +94,12 @@ class OpenFile:
             self.disk.entries.damaged, self.lacks = 0, True
         return new
 
-    def look(self, at_end: bool = False) -> None:
-        """Raises Damaged where the file isn't what is in memory. What is read next, as after an edit, needn't be looked at again."""
-        self.disk.look(self._has_all, at_end)
+    def look(self, at_end: bool = False) -> bool:
+        """Raises Damaged where the file isn't what is in memory; whether that was seen at once. What is read next, as after an edit,
+        needn't be looked at again."""
+        is_seen = self.disk.look(self._has_all, at_end)
         self._was_looked_at = True
+        return is_seen
 
     def tidy(self) -> None:
         """Does what can be done while there is time, so that the next edit needn't."""

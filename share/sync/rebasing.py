@@ -81,7 +81,7 @@ class Rebaser:
             return []
         numbers.is_settled, number = True, numbers.own.site
         try:
-            while (broken := numbers.broken()) and numbers.withdraw(broken, self._replicator.has):
+            while (broken := numbers.broken()) and numbers.withdraw(broken, self._replicator):
                 # What a copy of this folder sends of it counts, and has to be kept when it comes. What was typed after what
                 # was withdrawn, under another number, counts no more either.
                 self._replicator.read_from_front()

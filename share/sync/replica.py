@@ -77,12 +77,15 @@ class Replica:
 
     def made(self, messages: Sequence[Operation], found: Counted) -> None:
         """Takes over what counts, after messages that the site made were kept."""
-        parts = [(self._is_own(one), one) for one in found.messages.parts()]
-        self.comes(Messages(parts=(one for is_own, one in parts if not is_own)))
-        history, own = self.site.history, Messages(parts=(one for is_own, one in parts if is_own))
-        if not found.anew and history[len(history) - len(messages):] == messages and own == messages:
+        own, others = Messages(), Messages()
+        for part in found.messages.parts():
+            (own if self._is_own(part) else others).add(part)
+        if others:
+            self.comes(others)
+        history, made = self.site.history, [*messages]
+        if not found.anew and len(own) == len(made) <= len(history) and history.last(len(made)) == made == own.last(len(made)):
             # As entries have it, it takes less memory.
-            history.cut(len(history) - len(messages))
+            history.cut(len(history) - len(made))
             history += own
         # Else something else counts now than what is shown, and own edits perhaps don't.
         self.is_stale |= found.anew

@@ -1,10 +1,12 @@
 """Chromium, with pages of a note in windows of its own."""
+import contextlib
 import json
 import pathlib
 import shutil
 from typing import Any
 
 from selenium import webdriver
+from selenium.common.exceptions import WebDriverException
 from selenium.webdriver.chrome.service import Service
 from selenium.webdriver.common.action_chains import ActionChains
 from selenium.webdriver.common.by import By
@@ -25,6 +27,8 @@ const words = arguments;
   else if (Date.now() > end) done(false);
   else setTimeout(look, 10);
 })();"""
+# How often it is tried to start one: on a busy machine the driver gives up waiting for it, or somebody else gets the driver's port.
+STARTS = 5
 # So much is shown of a text where something is wrong.
 MOST_SHOWN = 2_000
 MIRROR = "document.querySelector('#text .CodeMirror').CodeMirror"
@@ -39,7 +43,7 @@ class Browser:
         for word in [*WORDS, f"--window-size={width},{height}", *([f"--user-data-dir={profile}"] if profile else [])]:
             options.add_argument(word)
         options.set_capability("goog:loggingPrefs", {"browser": "ALL"})
-        self.driver: Any = webdriver.Chrome(service=Service(DRIVER), options=options)
+        self.driver: Any = _started(options)
         self.driver.set_script_timeout(2 * PATIENCE)
         self.size = width, height
 
@@ -55,6 +59,14 @@ class Browser:
     def close(self) -> None:
         """Ends it."""
         self.driver.quit()
+
+
+def _started(options: Any) -> Any:
+    """The driver of a browser that was started."""
+    for _ in range(1, STARTS):
+        with contextlib.suppress(WebDriverException):
+            return webdriver.Chrome(service=Service(DRIVER), options=options)
+    return webdriver.Chrome(service=Service(DRIVER), options=options)
 
 
 class Window:

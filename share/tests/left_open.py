@@ -9,7 +9,7 @@ from typing import NamedTuple
 from share.tests.waiting import wait_for
 
 # How long is waited for what ends by itself: a connection that is being made, and a thread that waits for it.
-ENDING_SECONDS = 15
+ENDING_SECONDS = 120
 # What tells one of a kind from another.
 NUMBERS = re.compile(r"\d+|(?<=share-)\w+")
 

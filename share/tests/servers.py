@@ -5,18 +5,26 @@ import shutil
 import socket
 import ssl
 import subprocess
+import tempfile
 import threading
 from collections.abc import Callable
 
 from share.tests.waiting import PATIENCE, wait_for
 
 
-def free_port() -> int:
-    """A port of the loopback that nobody listens at."""
-    with socket.socket() as free:
-        free.bind(("127.0.0.1", 0))
-        port: int = free.getsockname()[1]
-        return port
+def held_port() -> socket.socket:
+    """A port of the loopback at which nobody listens, as long as this is open: one that lets others use its port may listen there, and
+    the system gives it to nobody who asks for any port."""
+    held = socket.socket()
+    held.setsockopt(socket.SOL_SOCKET, socket.SO_REUSEADDR, 1)
+    held.bind(("127.0.0.1", 0))
+    return held
+
+
+def port_of(held: socket.socket) -> int:
+    """The number of a port."""
+    port: int = held.getsockname()[1]
+    return port
 
 
 class RedisServer:
@@ -27,7 +35,9 @@ class RedisServer:
     def __init__(self, folder: pathlib.Path, *options: str):
         folder.mkdir(exist_ok=True)
         self.folder, self.options = folder, options
-        self.port = free_port()
+        # Held until it is closed: while it is down somebody else's connection could get its port, too.
+        self._held = held_port()
+        self.port = port_of(self._held)
         self.url = f"{self.scheme}://127.0.0.1:{self.port}"
         self.start()
 
@@ -35,8 +45,12 @@ class RedisServer:
         """Starts the server, with what its folder has."""
         words = ["redis-server", *self.listening(), "--bind", "127.0.0.1", "--dir", str(self.folder),
                  "--appendonly", "yes", "--appendfsync", "always", "--save", "", *self.options]
-        self.process = subprocess.Popen(words, stdout=subprocess.DEVNULL, stderr=subprocess.DEVNULL)
-        wait_for(self.answers, "a Redis server to answer")
+        with tempfile.TemporaryFile() as said:
+            self.process = subprocess.Popen(words, stdout=said, stderr=said)
+            wait_for(lambda: self.answers() or self.process.poll() is not None, "a Redis server to answer")
+            if (status := self.process.poll()) is not None:
+                said.seek(0)
+                raise AssertionError(f"a Redis server has ended with status {status}: {said.read()[-2_000:].decode(errors='replace')}")
 
     def listening(self) -> list[str]:
         """The options that say where it listens."""
@@ -62,6 +76,11 @@ class RedisServer:
         """Kills the server without a word."""
         self.process.kill()
         self.process.wait()
+
+    def close(self) -> None:
+        """Kills the server for good."""
+        self.kill()
+        self._held.close()
 
     def lose_all(self) -> None:
         """Kills the server, and takes its files away."""

@@ -19,8 +19,8 @@ from collections.abc import Callable, Iterator
 
 from share.editors.mirror import Mirror
 from share.tests.editors import Editor
+from share.tests.processes import children
 from share.tests.support import NOTE, Case, Person, alive, engine_of, written
-from share.tests.terminals import children
 from share.tests.waiting import PATIENCE, wait_for
 from share.text.line import Line
 
@@ -540,17 +540,25 @@ class Storm:
         """Waits until a file that was damaged is whole again, and it is told. Where that isn't told, nothing that was written was hit:
         what a crash would leave has all."""
         many = len(one.said)
-        with contextlib.suppress(AssertionError):
-            wait_for(lambda: (one.look(), not one.editor or DAMAGE_TOLD.search(str(one.said[many:])))[1], "", TOLD_PATIENCE)
+
+        def is_told(patience: float) -> bool:
+            with contextlib.suppress(AssertionError):
+                wait_for(lambda: (one.look(), not one.editor or DAMAGE_TOLD.search(str(one.said[many:])))[1], "", patience)
+                return True
+            return False
+
+        if is_told(TOLD_PATIENCE):
             return
         folder = self.case.folder / f"untold-{self.step}"
         one.copy_to(folder)
         for index in folder.glob("notes/*-shm"):
             index.unlink()
         shown = {*one.editor.text.split()} - {*one.typing.values()} if one.editor else set()
-        if lacks := shown - {*Person(folder).text().decode().split()}:
-            self.fault(f"damage to the file of {one.name} wasn't told in {TOLD_PATIENCE} s, and its disk lacks {sorted(lacks)}")
-        self.say("it hit nothing")
+        lacks = shown - {*Person(folder).text().decode().split()}
+        # On a busy machine it takes longer.
+        if lacks and not is_told(PATIENCE):
+            self.fault(f"damage to the file of {one.name} wasn't told in {TOLD_PATIENCE + PATIENCE} s, and its disk lacks {sorted(lacks)}")
+        self.say("it was told late" if lacks else "it hit nothing")
 
     def fill(self) -> None:
         """A disk is full for a while."""

@@ -115,7 +115,7 @@ class Case(unittest.TestCase):
     def redis(self) -> RedisServer:
         """A server of this test."""
         server = RedisServer(self.folder / "redis")
-        self.addCleanup(server.kill)
+        self.addCleanup(server.close)
         return server
 
     def together(self, url: str, *names: str) -> list[Note]:

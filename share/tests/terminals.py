@@ -8,6 +8,7 @@ import re
 import signal
 import subprocess
 
+from share.tests.processes import children
 from share.tests.support import NOTE, Case, wait_for
 
 WIDTH, HEIGHT = 70, 12
@@ -154,9 +155,3 @@ class Answering:
             self._read()
         assert self._status is not None
         return self._status
-
-
-def children(process: int) -> list[int]:
-    """The processes that the threads of a process started."""
-    lists = pathlib.Path(f"/proc/{process}/task").glob("*/children")
-    return [int(child) for threads in lists for child in threads.read_text().split()]

@@ -212,7 +212,9 @@ class Done:
     def wait_for(self, many: int, moment: float) -> None:
         """Waits until so many are done, and a moment more, in which others are amid theirs."""
         with self._changed:
-            assert self._changed.wait_for(lambda: self._many >= many, PATIENCE)
+            while (before := self._many) < many:
+                self._changed.wait(PATIENCE)
+                assert self._many > before, f"{before} of {many} things are done"
         time.sleep(moment)
 
 

@@ -64,8 +64,8 @@ class Keys(Case):
         def claims(hostile: Hostile, many: int) -> Iterable[bytes]:
             return [hostile.claim()[0].raw for _ in range(many)]
 
-        self.assert_no_dearer(lambda hostile: claims(hostile, 300), lambda hostile: claims(hostile, 900))
+        self.assert_no_dearer(lambda hostile: claims(hostile, 500), lambda hostile: claims(hostile, 1_500))
 
     def test_entries_of_kinds_that_nobody_knows(self) -> None:
-        self.assert_no_dearer(lambda hostile: attacks.unknown_kinds(hostile, 200, 1),
-                              lambda hostile: attacks.unknown_kinds(hostile, 600, 3))
+        self.assert_no_dearer(lambda hostile: attacks.unknown_kinds(hostile, 1_000, 1),
+                              lambda hostile: attacks.unknown_kinds(hostile, 3_000, 3))

@@ -1,5 +1,6 @@
 """What goes wrong is told in a sentence that says what to do, and leaves the note whole."""
 import contextlib
+import itertools
 import json
 import os
 import pathlib
@@ -16,7 +17,8 @@ from unittest import mock
 from share.format.link import read_link
 from share.log.base import Unreachable
 from share.log.sqlite import SqliteLog
-from share.program.process import Ended, Program
+from share.program import patience
+from share.program.process import Ended, Program, command
 from share.store import read_only
 from share.tests.naive import entry_of, inserting, newer
 from share.tests.note import Note
@@ -157,6 +159,20 @@ class BadInput(Case):
                     if not starves:
                         expected.enter_context(self.assertRaises(Ended))
                     self.assertEqual(program.text(), b"")
+
+    def test_a_program_that_waits_as_it_starts_is_waited_for(self) -> None:
+        goes_on, real, looks = self.folder / "goes-on", patience.seen, itertools.count(1)
+        waits = f"while [ ! -e {goes_on} ]; do sleep 0.01; done; exec {' '.join(command())} \"$@\""
+
+        def seen(process: int) -> patience.Seen:
+            if (number := next(looks)) == 2 * patience.MOST_STILL:
+                goes_on.touch()
+            return patience.Seen(False, 0.0) if number <= 2 * patience.MOST_STILL else real(process)
+
+        with mock.patch.object(patience, "seen", seen), mock.patch("share.program.process.BETWEEN_LOOKS_SECONDS", 0.1), \
+                mock.patch.dict(os.environ, VIALSHOAL_PROGRAM=shlex.join(["sh", "-c", waits, "sh"])):
+            self.assertEqual(self.opened(self.ann).session.text(), b"one two three ")
+        self.assertGreater(next(looks), 2 * patience.MOST_STILL)
 
     def starve(self, process: int) -> None:
         """Leaves a process a tenth of a processor."""

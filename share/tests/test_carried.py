@@ -109,13 +109,14 @@ class Lost(Case):
             append(log, raws)
             if not done:
                 # Who reads the log sees that, and begins anew, before it is known here what was given.
-                done.append(replicator.reading())
+                before = replicator.reading()
                 change(self.path, "DELETE FROM entry")
-                wait_for(lambda: replicator.reading() > done[0], "the loss to be seen")
+                done.append(before)
+                wait_for(lambda: replicator.reading() > before, "the loss to be seen")
 
         with mock.patch.object(SqliteLog, "append", appended):
             type_at_the_end(note, "two ")
-            wait_for(lambda: done, "an entry to be given")
+            wait_for(lambda: done, "an entry to be given and lost")
             self.assert_log_is_full()
         wait_for(lambda: not note.session.status().unsent, "all to be sent")
 
@@ -135,7 +136,7 @@ class Lost(Case):
 
         with mock.patch.object(SqliteLog, "append", appended), mock.patch.object(SqliteLog, "read", read_between):
             note = self.opened(self.anna, url=str(self.path))
-            wait_for(lambda: done, "an entry to be given")
+            wait_for(lambda: done, "an entry to be given and lost")
             self.assert_log_is_full()
         note.take_in()
         self.assertRegex(note.notice, "The log has lost 1 entry that it had. It is filled again from here")

@@ -13,9 +13,10 @@ from unittest import mock
 from share.admission.judge import Judge
 from share.admission.ledger import Row, Chained
 from share.format.chunk import GREATEST_SEQ
-from share.format.entry import NO_HASH, Author, Bad, Copied, Entry, Kind
+from share.format.entry import NO_HASH, Author, Bad, Copied, Entry, Kind, Plain
 from share.format.keystrokes import Keystrokes
 from share.format.operation import GREATEST_STAMP, MOST_OF_A_SITE
+from share.format.sealed import Sealed
 from share.store import chained
 from share.store.entries import Entries
 from share.store.note_file import About, Disk, make_note
@@ -132,7 +133,9 @@ class Alike(Case):
     def test_each_kind_of_damage_and_a_gap_among_many(self) -> None:
         for sealed in False, True:
             about = About(sealed, bytes(range(32 if sealed else 16)))
-            typist = Typist(about.form(), 9)
+            form = about.form()
+            assert isinstance(form, Plain | Sealed)
+            typist = Typist(form, 9)
             for number in range(2 * PORTION):
                 # A gap in the seqs is nobody's own.
                 typist.seq += 3 * (number == PORTION // 2)

@@ -58,7 +58,7 @@ class OfAServer(test_logs.Case):
     def setUp(self) -> None:
         super().setUp()
         self.server = RedisServer(self.folder / "redis")
-        self.addCleanup(self.server.kill)
+        self.addCleanup(self.server.close)
         self.bell = Bell()
         self.addCleanup(self.bell.close)
 

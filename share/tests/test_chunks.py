@@ -5,15 +5,18 @@ from collections.abc import Iterable
 from unittest import mock
 
 from share.admission.ledger import Branch, Ledger, Row
-from share.format.chunk import CHUNK_BEGIN, MOST_CHUNK, NoChunk, Writer, unpacked_one_by_one, unpacked
+from share.format.chunk import MOST_CHUNK, NoChunk, Writer, chunk_begin, packed_in_parts, text_of_chunk, unpacked_one_by_one, unpacked
 from share.format.entry import Author, Plain
 from share.format.history import Messages, Part
-from share.format.operation import DELETE, Operation
+from share.format.operation import CHANGE_LOOKS, DELETE, INSERT, RESTORE, Operation
 from share.program.process import Program
+from share.tests import naive_chunks
 from share.tests.naive import about, chunk_of, entry_of, inserting, taking
+from share.tests.test_spelling import Maker
+from share.text.names import Names
 
 # Site 1 has a file of five characters, types an a after them, and then the byte 15, which is a code in a chunk.
-WORKED = CHUNK_BEGIN + b"\x0f\1\3\x09\5" + b"\5\1\4a" + b"\x0e\x0f"
+WORKED = chunk_begin(1) + b"\x0f\1\3\x09\5" + b"\5\1\4a" + b"\x0e\x0f"
 TURNS, TRIES = 60, 300
 
 
@@ -123,7 +126,7 @@ class Chunks(unittest.TestCase):
                 found = unpacked_one_by_one(chunk)
             except NoChunk:
                 # A note's chunks are of one site, and have messages.
-                self.assertTrue(answer in (b"refused 1", b"refused 2") or chunk in (b"", CHUNK_BEGIN) or {1, 15} & {*chunk[7:]}, chunk)
+                self.assertTrue(answer in (b"refused 1", b"refused 2") or chunk in (b"", chunk_begin(1)) or {1, 15} & {*chunk[7:]}, chunk)
                 told[False] += 1
             else:
                 self.assertNotIn(answer, (b"refused 1", b"refused 2"))
@@ -134,7 +137,7 @@ class Chunks(unittest.TestCase):
 
 def length_of(chunk: bytes) -> int:
     """How many characters a chunk says that its site had."""
-    numbers, at = list[int](), len(CHUNK_BEGIN) + 1
+    numbers, at = list[int](), len(chunk_begin(1)) + 1
     while len(numbers) < 4:
         end = next(end for end in range(at, len(chunk)) if chunk[end] < 0x80)
         numbers.append(sum((byte & 0x7F) << 7 * place for place, byte in enumerate(chunk[at:end + 1])))
@@ -155,6 +158,81 @@ def line_of(parts: Iterable[list[Operation]]) -> Branch:
         line.add(ledger.add([Row(0, made, False)], line.numbers[-1]))
     assert line
     return line
+
+
+def plainly(one: Operation) -> naive_chunks.Message:
+    """An operation as the plain program has it."""
+    ranges = tuple((of.site, of.at, of.length) for of in one.mentions)
+    return naive_chunks.Message(one.kind, one.text, one.site, one.seq, one.stamp, ranges, one.at, one.data, one.looks)
+
+
+class Texts(unittest.TestCase):
+    """Chunks of other texts differ in the text's number alone, and are read as a plain program reads them."""
+
+    def setUp(self) -> None:
+        self.maker, self.chance = Maker(random.Random(3)), random.Random(4)
+
+    def operations(self, text: int) -> list[Operation]:
+        """Operations of a site that follow one another."""
+        found, at = list[Operation](), 0
+        for seq in range(1, self.chance.choice([2, 5, 30])):
+            self.maker.often = 0
+            kind, stamp, cause = self.chance.choice([INSERT, INSERT, DELETE, CHANGE_LOOKS, RESTORE]), 2 * seq, None
+            if kind == INSERT:
+                if self.chance.random() < 0.8:
+                    cause = self.chance.choice([(9, 4), (7, at - 1) if at else None])
+                data = self.chance.choice([b"a", b"\x0e", b"long", b"b"])
+                found.append(inserting(7, seq, stamp, cause, at, data)._replace(text=text))
+                at += len(data)
+            else:
+                looks = self.maker.change() if kind == CHANGE_LOOKS else b""
+                found.append(Operation(kind, 7, seq, stamp, 1, (Names(9, self.chance.randrange(3), 1),), looks=looks, text=text))
+        return found
+
+    def test_both_programs_read_and_write_alike(self) -> None:
+        for text in [1, 2, 16, 65_535] * 50:
+            operations = self.operations(text)
+            chunk = chunk_of(operations) or b""
+            plain = [plainly(one) for one in operations]
+            self.assertEqual(chunk, naive_chunks.chunk_of(plain))
+            self.assertEqual((unpacked_one_by_one(chunk, text), text_of_chunk(chunk)), (tuple(operations), text))
+            self.assertEqual([*naive_chunks.messages_of(chunk)], plain)
+            self.assertEqual(chunk_of(one._replace(text=1) for one in operations), chunk_begin(1) + chunk[6:])
+
+    def test_a_chunk_of_another_text_is_none(self) -> None:
+        for text in 1, 2:
+            for data in b"a", b"\x0e", b"ab":
+                chunk = chunk_of([inserting(7, 1, 1, None, 0, data)._replace(text=text)]) or b""
+                self.assertEqual(unpacked(chunk, text)[0].text, text)
+                # Also where it was read a moment ago.
+                self.assertRaises(NoChunk, unpacked, chunk, 3 - text)
+                self.assertRaises(NoChunk, unpacked_one_by_one, chunk, 3 - text)
+
+    def test_no_chunk_has_two_texts(self) -> None:
+        one, *others = [inserting(7, seq, seq, None, seq - 1, b"a") for seq in (1, 2)]
+        self.assertIsNone(chunk_of([one, *(other._replace(text=2) for other in others)]))
+        parts = packed_in_parts([one._replace(text=2), *others])
+        self.assertEqual([text_of_chunk(part.chunk) for part in parts], [2, 1])
+        rows = Messages([one._replace(text=3), *(other._replace(text=3) for other in others)])
+        self.assertEqual([(text_of_chunk(chunk), many) for chunk, many in rows.chunks()], [(3, 2)])
+
+    def test_hostile_bytes_are_read_alike(self) -> None:
+        told = {True: 0, False: 0}
+        for _ in range(600):
+            bad = bytearray(chunk_of(self.operations(2)) or b"")
+            for _ in range(self.chance.choice([0, 1, 1, 2])):
+                at = self.chance.randrange(len(bad))
+                bad[at:at + self.chance.randrange(3)] = self.chance.choices([*range(16), 0x80, 255], k=self.chance.randrange(3))
+            try:
+                found = [*naive_chunks.messages_of(bytes(bad))]
+            except naive_chunks.NoChunk:
+                found = []
+            if not found or found[0].text != 2:
+                self.assertRaises(NoChunk, unpacked_one_by_one, bytes(bad), 2)
+            else:
+                self.assertEqual([plainly(one) for one in unpacked_one_by_one(bytes(bad), 2)], found)
+            told[bool(found)] += 1
+        self.assertGreater(min(told.values()), 50)
 
 
 class InARow(unittest.TestCase):

@@ -67,7 +67,7 @@ class Logs(Closing):
         yield self.file_log()
         yield self.redis().url
         server = SocketServer(self.folder / "by-socket")
-        self.addCleanup(server.kill)
+        self.addCleanup(server.close)
         yield server.url
 
     def test_a_note_that_is_closed(self) -> None:
@@ -92,7 +92,7 @@ class Logs(Closing):
 
     def test_a_tls_server(self) -> None:
         server = TlsServer(self.folder / "tls", "IP:127.0.0.1")
-        self.addCleanup(server.kill)
+        self.addCleanup(server.close)
         for trusted in True, False:
             with mock.patch.dict(os.environ, {"SSL_CERT_FILE": str(server.certificate)} if trusted else {}):
                 for number in range(TIMES):

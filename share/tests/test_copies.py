@@ -452,6 +452,13 @@ class Forked(Copied):
         expected = sorted([*expected, "the-line"])
         wait_for(lambda: are_alike(notes) and words(notes[0].text) == expected, "the line to be there once")
         self.assertEqual(self.assert_meet(self.opened(self.person("late"), link=anna.link()), *notes), bytes(notes[0].text))
+        # Nor is it made anew by who comes again.
+        for number, name in enumerate(("berta", "carla")):
+            notes[number].session.close()
+            notes[number] = self.opened(self.person(name))
+        wait_for(lambda: are_alike(notes) and words(notes[0].text) == expected, "all to be the same")
+        for typed_once in b"inside", b"behind", b"more":
+            self.assertEqual(sum(typed_once in message.data for message in notes[0].session.messages()), 1, typed_once)
 
 
 class BegunAnew(Copied):

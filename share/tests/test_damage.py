@@ -209,8 +209,42 @@ class Compared(Case):
             ahead, log = Ahead(self.folder / "file"), log_of(self.folder / "file").read_bytes()
             self.addCleanup(ahead.close)
             self.assertEqual(bytes(ahead._seen), log)
-            # Byte by byte it takes six times as long as to hash it, as a whole a fifth.
-            self.assertLess(3 * quickest(ahead._is_as_seen), quickest(lambda: hashlib.blake2b(log)))
+            # Byte by byte it takes six times as long as to hash it, as a whole a fifth, unless others take the memory's time.
+            wait_for(lambda: 3 * quickest(ahead._is_as_seen) < quickest(lambda: hashlib.blake2b(log)), "a log to be compared quickly")
+
+    def test_what_was_cut_off_is_seen_before_anything_is_read(self) -> None:
+        path = self.folder / "file"
+        with contextlib.closing(sqlite3.connect(path, isolation_level=None)) as file:
+            for statement in ("PRAGMA journal_mode = WAL", "CREATE TABLE one (bytes BLOB)"):
+                file.execute(statement)
+            watch = FileWatch(path).use()
+            self.addCleanup(watch.let_go)
+            for end in "", "-shm":
+                one, data = beside(path, end), beside(path, end).read_bytes()
+                self.assertIsNone(watch.fault())
+                for size, words in (len(data) - 1, "cut off"), (0, "emptied"):
+                    os.truncate(one, size)
+                    self.assertEqual(watch.fault(), f"{one.name} was {words}")
+                # SQLite has it in memory.
+                write_over(one, 0, data)
+
+    def test_who_opens_a_file_while_nothing_is_written_has_damaged_nothing(self) -> None:
+        path = self.folder / "file"
+        with contextlib.closing(sqlite3.connect(path, isolation_level=None)) as file:
+            for statement in ("PRAGMA journal_mode = WAL", "CREATE TABLE one (bytes BLOB)"):
+                file.execute(statement)
+            watch = FileWatch(path).use()
+            self.addCleanup(watch.let_go)
+            begin = os.stat(log_of(path)).st_ctime_ns
+
+            def opened() -> bool:
+                # As SQLite does it that is run by root.
+                os.chown(log_of(path), os.geteuid(), os.getegid())
+                return os.stat(log_of(path)).st_ctime_ns != begin
+
+            with watch.written():
+                wait_for(opened, "the clock to go on")
+            self.assertIsNone(watch.fault_of_log())
 
     def test_a_log_that_was_found_right_is_looked_at_again_once_it_changed(self) -> None:
         with contextlib.closing(sqlite3.connect(self.folder / "file", isolation_level=None)) as file:

@@ -26,8 +26,8 @@ from share.store.note_file import Disk
 from share.sync.session import Session
 from share.tests.counting import instructions
 from share.tests.editors import EngineHere, Engines
+from share.tests.processes import children
 from share.tests.support import NOTE, type_at_the_end
-from share.tests.terminals import children
 from share.tests.waiting import PATIENCE, wait_for
 from share.text.change import Change
 from share.text.errors import Trouble

@@ -3,7 +3,7 @@ import hashlib
 import random
 import unittest
 
-from share.format.chunk import CHUNK_BEGIN, MOST_CHUNK, varint
+from share.format.chunk import MOST_CHUNK, chunk_begin, varint
 from share.format.entry import GREATEST_SITE, HEAD, LENGTH, MOST_BYTES, NO_HASH, Author, Bad, Copied, Entry, Kind, Plain
 from share.format.operation import LONGEST_MESSAGE, MOST_RANGES, Operation
 from share.tests import naive
@@ -253,7 +253,7 @@ class Wrong(unittest.TestCase):
         self.assert_bad("more in it", spelled(kind=1, first=0, before=NO_HASH, body=right))
         self.assert_bad("says of nothing", spelled(kind=4, first=0, body=right))
         # One of another text, and one with a message of another site after the first one.
-        self.assert_bad("no chunk", spelled(kind=5, body=right.replace(CHUNK_BEGIN, b"OTC1\0\2"), count=2))
+        self.assert_bad("no chunk", spelled(kind=5, body=right.replace(chunk_begin(1), b"OTC1\0\2"), count=2))
         other = right + b"".join([b"\x0f", *map(varint, (8, 1, 3, 0)), b"\5\7\0z"])
         self.assert_bad("no chunk", spelled(kind=5, body=other, count=3))
 

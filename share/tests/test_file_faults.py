@@ -4,11 +4,15 @@ import contextlib
 import pathlib
 import shutil
 import subprocess
+import threading
+import time
 from typing import Any
 from unittest import mock
 
 from share.admission.chains import rank
 from share.format.operation import MOST_INSERTED
+from share.log.folder import inode_of
+from share.log.sqlite_file import WRITTEN_AHEAD, SqliteFile, beside
 from share.program.site import Edited, Site, Told
 from share.store.entries import Entries
 from share.store.guarded import Unkept
@@ -266,6 +270,44 @@ class Damaged(Case):
         self.assertEqual(run.returncode, 0, run.stderr)
         self.assertRegex(run.stdout, r"note\.2: .* in .*note\.2\.note")
         self.assertNotIn("Traceback", run.stderr)
+
+
+class Replaced(Case):
+    """A note's file whose place is taken as it is opened."""
+
+    def test_none_takes_the_place_of_one_that_is_being_opened(self) -> None:
+        person = self.person()
+        note = self.opened(person)
+        written(note, "words ")
+        path, inode, many = person.path(), inode_of(person.path()), note.session._file.disk.entries.size()
+        replaces = threading.Thread(target=lambda: make_note(path, note.session._about, damaged=inode))
+
+        def opened(*words: Any, **more: Any) -> SqliteFile:
+            file = SqliteFile(*words, **more)
+            replaces.start()
+            # That long it may take, if nothing holds it up.
+            replaces.join(1)
+            return file
+
+        # What is beside the new one isn't what the old one, which was opened, goes on with.
+        with mock.patch("share.store.guarded.SqliteFile", opened), contextlib.closing(Disk(path)) as disk:
+            self.assertEqual((disk.inode, disk.entries.size()), (inode, many))
+            replaces.join()
+            self.assertEqual((disk.is_in_place(), disk.entries.size()), (False, many))
+        self.assertNotEqual(inode_of(path), inode)
+
+    def test_who_opens_it_meanwhile_has_written_nothing(self) -> None:
+        note = self.opened(self.person())
+        written(note, "words ")
+        disk = note.session._file.disk
+        for _ in range(2):
+            # Nothing is written, and its log counts as changed: so it does where somebody opens it as root.
+            with disk._file.writing(), contextlib.closing(Disk(disk.path)):
+                log, before = beside(disk.path, WRITTEN_AHEAD), time.time_ns()
+                wait_for(lambda log=log, before=before: (log.chmod(0o600), log.stat().st_ctime_ns > before)[1], "the time to show it")
+            disk.look(lambda again: True)
+        written(note, "more ")
+        self.assertEqual((note.notice, [*disk.path.parent.glob("*damaged*")]), ("", []))
 
 
 class Places(Case):

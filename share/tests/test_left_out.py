@@ -210,6 +210,27 @@ class Taken(Three):
         return found
 
 
+class NothingOwn(Three):
+    """Somebody takes the number of one who has typed nothing."""
+
+    def told(self) -> str:
+        """What Carol is told as her number is taken."""
+        carol = self.opened(self.carol)
+        wait_for(lambda: (carol.take_in(), carol.session.status().can_type)[1], "a number")
+        number = carol.session.number
+        take(self.carol, number)
+        wait_for(lambda: (carol.take_in(), carol.session.number)[1] != number, "another number")
+        return str(carol.notice)
+
+    def test_it_is_told_that_nothing_is_lost(self) -> None:
+        self.begun()
+        self.assertIn("No edit was lost.", self.told())
+
+    def test_it_is_not_told_where_others_text_is_left_out(self) -> None:
+        take(self.anna, self.begun())
+        self.assertNotIn("No edit was lost.", self.told())
+
+
 class Told(Engines):
     """What editors are told of it."""
 

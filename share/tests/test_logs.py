@@ -27,7 +27,7 @@ from share.log.bell import Bell
 from share.log.opening import open_log
 from share.log.sqlite import SqliteLog
 from share.tests.counting import memory
-from share.tests.servers import RedisServer, free_port
+from share.tests.servers import RedisServer, held_port, port_of
 from share.tests.waiting import PATIENCE, wait_for
 from share.text.errors import Trouble
 
@@ -532,7 +532,7 @@ class Servers(Shared.Both):
     def setUp(self) -> None:
         super().setUp()
         self.server = RedisServer(self.folder / "redis")
-        self.addCleanup(self.server.kill)
+        self.addCleanup(self.server.close)
         # A busy machine's server isn't one that is gone.
         patient = mock.patch("share.log.resp.REPLY_SECONDS", PATIENCE)
         patient.start()
@@ -668,9 +668,10 @@ class Servers(Shared.Both):
         with self.assertRaisesRegex(Unreachable, "has no memory left"):
             log.append([raw(2)])
         self.server.cli("CONFIG", "SET", "maxmemory", "0")
-        self.server.cli("REPLICAOF", "127.0.0.1", str(free_port()))
-        with self.assertRaisesRegex(Unreachable, "is a replica"):
-            log.append([raw(2)])
+        with held_port() as nobodys:
+            self.server.cli("REPLICAOF", "127.0.0.1", str(port_of(nobodys)))
+            with self.assertRaisesRegex(Unreachable, "is a replica"):
+                log.append([raw(2)])
         self.server.cli("REPLICAOF", "NO", "ONE")
         log.append([raw(2)])
         self.assertEqual(raws(log), [raw(1), raw(2)])

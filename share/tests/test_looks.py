@@ -121,8 +121,11 @@ class Shown(Engines):
         first.edit((0, 0, "one two"))
         second.shows("one two")
         self.set(first, [0, 3], **BOLD_RED)
-        self.looks(second, {"begin": 0, "end": 3, **BOLD_RED})
+        # What is asked of the first one next is to be so since it has seen what the second one did.
+        for editor in first, second:
+            self.looks(editor, {"begin": 0, "end": 3, **BOLD_RED})
         second.edit((0, 4, ""))
+        first.shows("two")
         self.looks(first)
         self.assertTrue(second.ask("undo")["done"])
         first.shows("one two")

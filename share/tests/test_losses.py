@@ -433,7 +433,7 @@ class OnAServer(Case):
         self.assert_meet(anna, berta)
         (self.folder / "second").mkdir()
         second = RedisServer(self.folder / "second")
-        self.addCleanup(second.kill)
+        self.addCleanup(second.close)
         berta.session.close()
         berta = self.opened(self.person("berta"), url=second.url)
         written(berta, "berta ")

@@ -240,7 +240,7 @@ class Servers(OldCase):
     def setUp(self) -> None:
         super().setUp()
         self.server = RedisServer(self.folder / "redis")
-        self.addCleanup(self.server.kill)
+        self.addCleanup(self.server.close)
         subprocess.run(["redis-cli", "-p", str(self.server.port), "--pipe"], check=True, capture_output=True,
                        input=(self.folder / "server.aof").read_bytes())
 

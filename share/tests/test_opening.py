@@ -141,7 +141,7 @@ class Links(Opening):
 
     def test_a_password_of_a_file_or_a_variable(self) -> None:
         server = RedisServer(self.folder / "redis", "--requirepass", "open sesame")
-        self.addCleanup(server.kill)
+        self.addCleanup(server.close)
         (self.folder / "password").write_text("open sesame\n")
         ann = self.person("ann")
         with ann.here():
@@ -195,8 +195,8 @@ class Moved(Opening):
 
     def test_a_server_that_moved(self) -> None:
         one, two = RedisServer(self.folder / "one"), RedisServer(self.folder / "two")
-        self.addCleanup(one.kill)
-        self.addCleanup(two.kill)
+        self.addCleanup(one.close)
+        self.addCleanup(two.close)
         ann = self.made("ann", one.url)
         bob = self.person("bob")
         bob.open(link=ann.link()).session.close()
@@ -277,7 +277,7 @@ class Before(Opening):
     def server(self) -> RedisServer:
         """A server with a note of the form of before."""
         server = RedisServer(self.folder / "redis")
-        self.addCleanup(server.kill)
+        self.addCleanup(server.close)
         subprocess.run(["redis-cli", "-p", str(server.port), "--pipe"], check=True, capture_output=True,
                        input=(self.folder / "server.aof").read_bytes())
         return server

@@ -171,7 +171,7 @@ class Renewing(Case):
         self.addCleanup(bob.close)
         bob.shows("one ")
         number = note.session.number
-        self.assertNotIn("renewed", bob.notices("state")[-1])
+        self.assertNotIn("renewed", bob.wait_for(lambda: bob.notices("state"), "the state")[-1])
         self.run_as(self.ann, "renew", "note")
         by = {"site": number, "own": False, "name": "Ann"}
         bob.wait_for(lambda: bob.notices("state")[-1].get("renewed") == by, "the state to say so")

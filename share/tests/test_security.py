@@ -6,6 +6,7 @@ import json
 import os
 import pathlib
 import pty
+import re
 import shutil
 import socket
 import stat
@@ -99,7 +100,7 @@ class Shared(Case):
     def setUp(self) -> None:
         super().setUp()
         self.server = Server(self.folder / "redis")
-        self.addCleanup(self.server.kill)
+        self.addCleanup(self.server.close)
         self.ann = self.person("ann")
         self.note_of_ann = self.opened(self.ann, url=self.server.url)
         for words in "one ", "two ":
@@ -423,7 +424,7 @@ class Accounts(Case):
 
     def test_no_key_and_no_password_in_arguments(self) -> None:
         server = Server(self.folder / "redis", "--requirepass", "gooseberry")
-        self.addCleanup(server.kill)
+        self.addCleanup(server.close)
         person, password = self.person(), self.folder / "password"
         password.write_text("gooseberry\n")
         terminal = Terminal(self, person, "note", "--log", server.url, "--password-file", str(password))
@@ -480,6 +481,19 @@ class Accounts(Case):
         self.assertEqual(bad, [], shown)
         for part in parts:
             self.assertIn(part, shown)
+
+
+class Said(unittest.TestCase):
+    """The page's table of who can do what."""
+
+    def test_it_says_what_these_tests_show(self) -> None:
+        page = (TOP / "docs" / "SHARING.md").read_text(encoding="utf-8")
+        lines = page.partition("| Who | Can | Can't |\n|---|---|---|\n")[2].partition("\n\n")[0].splitlines()
+        table = {who: (can, cannot) for _, who, can, cannot, _ in (re.split(r" *\| *", line) for line in lines)}
+        self.assertIn("claim all numbers, so that no newcomer can type", table["somebody with the link"][0])
+        self.assertIn("write in another's name", table["who may write the folder of a log in a file"][0])
+        for _, cannot in table.values():
+            self.assertNotRegex(cannot, "newcomer|keep .* out")
 
 
 class Terminal:

@@ -209,6 +209,22 @@ class SecondReading(unittest.TestCase):
             new = Names(read.site, read.at, read.length) if read.kind == INSERT else None
             self.assertEqual((message.new, message.mentions), (new, ranges))
             self.assertEqual(message.names, (new,) if new else ranges if read.kind in (DELETE, RESTORE) else ())
+            self.assertEqual([*message.spellings()], [raw])
+
+    def test_texts(self) -> None:
+        for raw in [one for one in made() if is_spelled(one)][:TRIES // 10]:
+            for text in 2, 16, 65_535:
+                other = raw[:4] + text.to_bytes(2, "big") + raw[6:]
+                message = Operation.read(other, text)
+                self.assertEqual(message, Operation.read(raw)._replace(text=text))
+                self.assertEqual([*message.spellings()], [other])
+                self.assertFalse(is_spelled(other))
+                self.assertRaises(ValueError, Operation.read, raw, text)
+
+    def test_letters_in_a_row(self) -> None:
+        row = Operation.read(spelled(inserting(7, 3, 9, (2, 5), 4, b"a")))._replace(size=3, data=b"abc", text=2)
+        self.assertEqual([*row.spellings()], [one for each in row.each() for one in each.spellings()])
+        self.assertEqual([Operation.read(one, 2) for one in row.spellings()], [*row.each()])
 
     def test_what_does_not_begin_as_a_message(self) -> None:
         raw = spelled(inserting(1, 1, 1, None, 0, b"x"))
@@ -219,9 +235,9 @@ class SecondReading(unittest.TestCase):
 
 
 class TheProgramAlone(unittest.TestCase):
-    """Messages are made by the program, and read here, in one file."""
+    """Messages are made by the program, and read here, in one file, which spells them again where they are hashed."""
 
-    def test_no_file_packs_a_message(self) -> None:
+    def test_no_other_file_packs_a_message(self) -> None:
         reads = pathlib.Path(messages.__file__)
         for path in (path for path in reads.parents[1].rglob("*.py") if path.parent.name != "tests"):
             nodes = [*ast.walk(ast.parse(path.read_bytes()))]
@@ -229,8 +245,16 @@ class TheProgramAlone(unittest.TestCase):
             forms = {name.name for one in nodes if isinstance(one, ast.ImportFrom) and one.module == "share.format.operation"
                      for name in one.names}
             tags = [one for one in nodes if isinstance(one, ast.Constant) and one.value == messages.TAG]
-            self.assertEqual(packs if path == reads else packs & forms, set(), path.name)
+            self.assertEqual(bool(packs if path == reads else packs & forms), path == reads, path.name)
             self.assertEqual(bool(tags or "TAG" in forms), path == reads, path.name)
+
+    def test_what_is_spelled_again_was_read(self) -> None:
+        places = set()
+        for path in (path for path in pathlib.Path(messages.__file__).parents[1].rglob("*.py") if "tests" not in path.parts):
+            nodes = ast.walk(ast.parse(path.read_bytes()))
+            if any(isinstance(one, ast.Attribute) and one.attr == "spellings" for one in nodes):
+                places.add(path.parent.name)
+        self.assertLessEqual(places, {"second"})
 
 
 if __name__ == "__main__":

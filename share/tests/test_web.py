@@ -353,8 +353,8 @@ class Strangers(OneServer):
                 talks.append(await held[-1].__aenter__())
             async with talking(self.server) as talk:
                 await talk.line(notice="welcome")
-            for talk in talks[:84]:
-                await talk.code()
+            # Who comes last takes the place of who came first; nobody waits until the time for the secret is over.
+            self.assertEqual({await talk.code() for talk in talks[:84]}, {aiohttp.WSCloseCode.ABNORMAL_CLOSURE})
             self.assertFalse(any(talk.socket.closed for talk in talks[85:]))
         finally:
             for one in held:

@@ -35,7 +35,7 @@ class Ways(Case):
     def server(self, kind: type[RedisServer], *words: str) -> RedisServer:
         """A server as long as the test runs."""
         server = kind(self.folder / kind.__name__, *words)
-        self.addCleanup(server.kill)
+        self.addCleanup(server.close)
         return server
 
     def test_passwords(self) -> None:
@@ -83,7 +83,7 @@ class Ways(Case):
 
     def test_a_certificate_is_looked_at(self) -> None:
         server = TlsServer(self.folder / "tls", "IP:127.0.0.1")
-        self.addCleanup(server.kill)
+        self.addCleanup(server.close)
         self.trusting(None)
         with self.assertRaisesRegex(Unreachable, "isn't trusted for it: .*self-signed"):
             self.at(server)
@@ -92,7 +92,7 @@ class Ways(Case):
 
     def test_the_hosts_name_is_looked_at(self) -> None:
         server = TlsServer(self.folder / "tls", "DNS:elsewhere.example,IP:127.0.0.2")
-        self.addCleanup(server.kill)
+        self.addCleanup(server.close)
         self.trusting(server.certificate)
         with self.assertRaisesRegex(Unreachable, "isn't trusted for it: .*127.0.0.1"):
             self.at(server)

@@ -3,7 +3,8 @@ import time
 from collections.abc import Callable
 from typing import Any
 
-PATIENCE = 120
+# What is waited for comes within seconds; on a machine with much else to do it may take minutes.
+PATIENCE = 300
 
 
 def wait_for(condition: Callable[..., Any], what: str, patience: float = PATIENCE) -> Any:

@@ -21,8 +21,9 @@ from urllib3.exceptions import HTTPError
 
 from share.tests.browser import MIRROR, Browser, Window
 from share.tests.pages import Server
+from share.tests.processes import children
 from share.tests.support import NOTE, TOP, Case, alive, engine_of, wait_for
-from share.tests.terminals import EMACS, Terminal, children
+from share.tests.terminals import EMACS, Terminal
 from share.tests.waiting import PATIENCE as PATIENCE
 
 EDITORS = TOP / "editors"

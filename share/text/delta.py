@@ -181,6 +181,12 @@ def of_changes(changes: Iterable[Replacement], units: Units) -> Op:
     return all_composed([_of_run(run, falls, units) for run, falls in _runs(changes, units)], units)
 
 
+def of_change(begin: int, end: int, data: bytes) -> Op:
+    """The op of one change."""
+    parts: Op = [begin, data, begin - end]
+    return [part for part in parts if part] if data or begin < end else []
+
+
 def all_composed(ops: list[Op], units: Units) -> Op:
     """What does what some ops do, one after the other."""
     while len(ops) > 1:

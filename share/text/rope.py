@@ -5,11 +5,15 @@ whatever a text has. A byte that is no UTF-8 is shown as U+FFFD.
 """
 from bisect import bisect_right
 from itertools import accumulate
+from operator import itemgetter
 
 from share.text.change import Change
 from share.text.units import UNITS, Units
 
 AS_BYTES = "bytes"
+# In what the size of a part is counted, and how it is got of all that is counted.
+SIZES = AS_BYTES, *UNITS
+GETTERS = {unit: itemgetter(unit) for unit in SIZES}
 # The bytes of a part as it is made; changes may double them.
 PIECE_SIZE = 4_096
 # A character goes on with no more than this many bytes.
@@ -41,6 +45,8 @@ def readable(data: bytes) -> str:
 
 def _sizes_of(data: bytes) -> dict[str, int]:
     """The size of some bytes, in bytes and in each of the units as they are shown."""
+    if data.isascii():
+        return dict.fromkeys(SIZES, len(data))
     text = readable(data)
     return {AS_BYTES: len(data), "utf-8": len(text.encode()), "utf-16": len(text.encode("utf-16-le")) // 2,
             "utf-32": len(text)}
@@ -60,7 +66,10 @@ def _pieces(data: bytes) -> list[bytes]:
     """Bytes in parts, none of which begins inside a character that the one before it begins."""
     parts, begin = [], 0
     while begin < len(data):
-        end = len(data) if len(data) - begin <= 2 * PIECE_SIZE else begin + PIECE_SIZE
+        if len(data) - begin <= 2 * PIECE_SIZE:
+            parts.append(data[begin:])
+            break
+        end = begin + PIECE_SIZE
         end += _going_on(data[end:end + REACH])
         parts.append(data[begin:end])
         begin = end
@@ -72,9 +81,9 @@ class Measured:
 
     def __init__(self, data: bytes):
         self._parts: list[bytes] = []
-        # The sizes of the parts, and where each ends, which is counted where it is asked for.
-        self._sizes: dict[str, list[int]] = {unit: [] for unit in (AS_BYTES, *UNITS)}
-        self._ends: dict[str, list[int]] = {}
+        # The sizes of the parts, and where the first ones end, which is counted on as it is asked for.
+        self._sizes: dict[str, list[int]] = {unit: [] for unit in SIZES}
+        self._ends: dict[str, list[int]] = {unit: [] for unit in SIZES}
         self._set(0, 0, _pieces(swapped(data)))
 
     @property
@@ -111,32 +120,37 @@ class Measured:
 
     def place(self, position: int, units: Units) -> int:
         """The number of bytes before a position in units; Split where it is inside a character."""
-        if not 0 <= position <= self.length(units):
+        ends = self._ends_of(units.name)
+        if not 0 <= position <= (ends[-1] if ends else 0):
             raise OutsideText(f"Position {position} is outside the text.")
-        number = bisect_right(self._ends_of(units.name), position)
-        left = position - self._begin(number, units.name)
+        number = bisect_right(ends, position)
+        left = position - (ends[number - 1] if number else 0)
         return self._begin(number, AS_BYTES) + (_bytes_of(self._parts[number], left, units, position) if left else 0)
 
     def is_whole(self, change: Change) -> bool:
         """Whether a change cuts no character, and joins none of what is beside it."""
-        return not _goes_on(self._byte(change.begin)) and not _goes_on(self._byte(change.end))
+        return not (_goes_on(self._byte(change.begin)) or change.end > change.begin and _goes_on(self._byte(change.end)))
 
     def whole(self, change: Change) -> Change:
         """A change that does the same with whole characters: it has more where one is cut, or joined."""
         begin, end = change.begin, change.end
-        if begin > 0 and (_goes_on(self._byte(begin)) or _goes_on(change.new[0] if change.new else self._byte(end))):
+        first = self._byte(begin)
+        last = self._byte(end) if end > begin else first
+        if begin > 0 and (_goes_on(first) or _goes_on(change.new[0] if change.new else last)):
             # Where none of the bytes before can begin a character with what follows, it ends there.
             back = _going_on(self._slice(max(0, begin - REACH), begin)[::-1]) + 1
             begin -= back if back <= min(REACH, begin) else 0
-        end += _going_on(self._slice(end, min(end + REACH, self.size)))
+        if _goes_on(last):
+            end += _going_on(self._slice(end, min(end + REACH, self.size)))
         if (begin, end) == (change.begin, change.end):
             return change
         return Change(begin, end, self.slice(begin, change.begin) + change.new + self.slice(change.end, end))
 
     def replace(self, change: Change) -> None:
         """Makes a change of whole characters."""
-        low, before = self._find(change.begin)
-        high, up_to = self._find(change.end)
+        low, before = high, up_to = self._find(change.begin)
+        if change.end > change.begin:
+            high, up_to = self._find(change.end)
         tail = self._parts[high][change.end - up_to:] if high < len(self._parts) else b""
         if low == len(self._parts) and low:
             # What comes in at the end is the last part's, too.
@@ -148,15 +162,16 @@ class Measured:
     def _set(self, begin: int, end: int, parts: list[bytes]) -> None:
         """Puts parts in the place of others."""
         self._parts[begin:end] = parts
-        found = [_sizes_of(part) for part in parts]
+        found = [*map(_sizes_of, parts)]
         for unit, sizes in self._sizes.items():
-            sizes[begin:end] = [one[unit] for one in found]
-        self._ends = {}
+            sizes[begin:end] = map(GETTERS[unit], found)
+            del self._ends[unit][begin:]
 
     def _ends_of(self, unit: str) -> list[int]:
-        ends = self._ends.get(unit)
-        if ends is None:
-            ends = self._ends[unit] = [*accumulate(self._sizes[unit])]
+        ends, sizes = self._ends[unit], self._sizes[unit]
+        if len(ends) < len(sizes):
+            # Those after the last known one, which comes first then.
+            ends.extend(accumulate(sizes[len(ends):], initial=ends.pop()) if ends else accumulate(sizes))
         return ends
 
     def _begin(self, number: int, unit: str) -> int:
@@ -180,6 +195,8 @@ class Measured:
 
     def _slice(self, begin: int, end: int) -> bytes:
         low, before = self._find(begin)
+        if end < before + len(self._parts[low] if low < len(self._parts) else b""):
+            return self._parts[low][begin - before:end - before]
         high, _ = self._find(end)
         return b"".join(self._parts[low:high + 1])[begin - before:end - before]
 

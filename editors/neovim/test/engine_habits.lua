@@ -143,7 +143,7 @@ with_folder('however much waits, a command is carried over', function(_, folder)
   bo:run([[
     for number = 1, 400 do
       vim.api.nvim_buf_set_text(0, 0, 0, 0, 0, { 'x' })
-      vim.wait(60000, function() return v.note().made == v.note().answered and #v.note().changes == 0 end, 1)
+      vim.wait(120000, function() return v.note().made == v.note().answered and #v.note().changes == 0 end, 1)
     end
   ]])
   waits(ada)

@@ -1,0 +1,75 @@
+"""A link of a note of the second form: its key, with which whoever has it reads and writes, and where its log is.
+
+It is spelled `vialshoal:2:s:SECRET@URL`, with a `p` in place of the `s` for a plain note. SECRET is base64url of the key and of a
+checksum of all of the link. A page's is `https://HOST/#vialshoal:2:s:SECRET`, with the checksum of the link to `https://HOST`: what
+comes after # goes to no server.
+"""
+import base64
+import binascii
+import hashlib
+import re
+from typing import NamedTuple
+
+from share.format.link import CHECK_BYTES, FORMS, GREATEST_PORT, MISTAKEN, UNSEALED, FormName, is_network, url_of
+from share.format.second.keys import NOTE_KEY_BYTES
+from share.text.errors import Trouble
+
+KEY_LINK = re.compile(r"vialshoal:2:([ps]):([A-Za-z0-9_-]{48})@(.+)")
+PAGE_LINK = re.compile(r"(https://[^/#@]+)/#vialshoal:2:s:([A-Za-z0-9_-]{48})")
+# A server of pages as browsers spell where it is: in small letters, and the port unless it is the one that is meant without.
+ORIGIN = re.compile(r"https://([a-z0-9.-]+|\[[0-9a-f:.]+\])(?::([1-9][0-9]{0,4}))?")
+PORT_OF_HTTPS = 443
+
+
+class KeyLink(NamedTuple):
+    """What a link says: the form of the note's records, its key, and its log's URL or path, or the origin of a page."""
+
+    form: FormName
+    key: bytes
+    url: str
+
+    def __repr__(self) -> str:
+        # Where it is printed by mistake, the key isn't.
+        return f"KeyLink({self.form!r}, url={self.url!r})"
+
+    def spelled(self) -> str:
+        """The link as text."""
+        return f"vialshoal:2:{self.form[0]}:{self._checked()}@{self.url}"
+
+    def page(self) -> str:
+        """The address of the note's page, where its log is at a server of pages."""
+        return f"{self.url}/#vialshoal:2:{self.form[0]}:{self._checked()}"
+
+    def _checked(self) -> str:
+        """The key and the checksum."""
+        check = hashlib.sha256(b"vialshoal 2 link " + self.form[0].encode() + self.key + self.url.encode()).digest()[:CHECK_BYTES]
+        return base64.urlsafe_b64encode(self.key + check).decode()
+
+
+def read_key_link(text: str) -> KeyLink:
+    """The link that is spelled so, or a page's address, with space around it or none."""
+    text = text.strip()
+    if found := PAGE_LINK.fullmatch(text):
+        form, secret, url = "s", found[2], found[1]
+    elif found := KEY_LINK.fullmatch(text):
+        form, secret, url = found.groups()
+    else:
+        raise Trouble("That isn't a note's link, which begins with vialshoal:2: and ends with its log's URL. Copy it whole, in one line.")
+    try:
+        link = KeyLink(FORMS[form], base64.urlsafe_b64decode(secret)[:NOTE_KEY_BYTES], url)
+    except binascii.Error as why:
+        raise Trouble(MISTAKEN) from why
+    # Also what is right but for its spelling has another checksum.
+    if text not in (link.spelled(), link.page()):
+        raise Trouble(MISTAKEN)
+    if not is_origin(url) and url_of(url) != url:
+        raise Trouble("That link isn't spelled as bin/note link prints it. Copy it whole, in one line.")
+    if form == "p" and (is_origin(url) or is_network(url)):
+        raise Trouble(UNSEALED)
+    return link
+
+
+def is_origin(url: str) -> bool:
+    """Whether this is where a server of pages is, as browsers spell it."""
+    found = ORIGIN.fullmatch(url)
+    return bool(found and (not found[2] or int(found[2]) <= GREATEST_PORT and int(found[2]) != PORT_OF_HTTPS))
