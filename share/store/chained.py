@@ -20,7 +20,7 @@ def put_together(form: Form, keystrokes: Keystrokes, portion: Sequence[KeptEntry
     """Rows of a file in their order, those put together that follow one another; by themselves where not all of them are as they were
     written, or something of those that follow isn't right."""
     try:
-        together = _chained(form, portion)
+        together = _put_in_columns(form, portion)
     except (TypeError, ValueError, struct.error, Bad):
         # What the disk damaged may have another type.
         yield portion
@@ -39,7 +39,7 @@ def put_together(form: Form, keystrokes: Keystrokes, portion: Sequence[KeptEntry
         yield portion[between:]
 
 
-def _chained(form: Form, portion: Sequence[KeptEntry]) -> list[tuple[int, bytes, Chained]]:
+def _put_in_columns(form: Form, portion: Sequence[KeptEntry]) -> list[tuple[int, bytes, Chained]]:
     """Those of some rows that follow one another: where they begin, and which of them are a letter. Raises an error where not all of the
     rows are as they were written."""
     hashes, raws, made = [one[1] for one in portion], [one[2] for one in portion], [bool(one[5]) for one in portion]
