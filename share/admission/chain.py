@@ -77,7 +77,7 @@ class Chain(Passing):
             return
         self.pending -= branch.ledger.weight_of(branch.numbers[self.at:end])
         before, size = self.length - self.front, branch.lasts[end - 1] - self.front
-        self._ends.extend(before + last for last in branch.lasts[at:end])
+        self._ends.extend([before + last for last in branch.lasts[at:end]])
         self._passed(self.stamp + 1, size, True)
         self.front, self.stamp = self.front + size, self.stamp + size
         self.at, self._runs, self.run = end, None, 0

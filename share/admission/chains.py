@@ -11,7 +11,7 @@ from collections.abc import Callable, Iterable, Iterator, Sequence
 from enum import Enum
 
 from share.admission.chain import Chain
-from share.admission.ledger import Ledger, Row
+from share.admission.ledger import Ledger, Row, hashes_of
 from share.admission.outside import Unchained
 from share.admission.room import Room
 from share.admission.statements import Statements
@@ -127,7 +127,7 @@ class Chains:
         entry, chain = run[0].entry, self.by_site.get(run[0].entry.site)
         if not chain or self.ledger.hash(last := chain.branch.numbers[-1]) != entry.before or not self.follows(entry, last):
             return False
-        hashes = [row.entry.hash for row in run]
+        hashes = hashes_of(run)
         if not self._awaited.isdisjoint(hashes) or self.outside.speaks_of(hashes):
             return False
         self._put_at_end(chain, run)

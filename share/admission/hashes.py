@@ -41,10 +41,14 @@ class Hashes:
         """Enters hashes into the index, the first of which has a number. One that was added before has its new one from now on."""
         while 3 * len(self) > 2 * len(self._index):
             self._grow()
-        index, seat = self._index, self._seat
+        index, mask = self._index, self._mask
         for number, of in enumerate(hashes, first + 1):
             mark = hash(of) & MARK_MASK
-            index[seat(of, mark)] = mark | number
+            seat = mark >> NUMBER_BITS & mask
+            # As in `_seat`: to call that takes longer than all the rest.
+            while (found := index[seat]) and (found & MARK_MASK != mark or self.hash((found & NUMBER_MASK) - 1) != of):
+                seat = seat + 1 & mask
+            index[seat] = mark | number
 
     def _grow(self) -> None:
         """Makes the index twice as long."""

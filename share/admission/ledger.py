@@ -7,8 +7,9 @@ memory, and a note in which each keystroke is an entry fits there.
 from array import array
 from bisect import bisect_left
 from collections.abc import Iterable, Iterator, Sequence
+from itertools import accumulate
 from operator import attrgetter
-from typing import NamedTuple
+from typing import NamedTuple, overload
 
 from share.admission.hashes import HASH_BYTES, MARK_MASK, NUMBER_BITS, Hashes
 from share.format.entry import CHUNKS, NO_HASH, SAY_WHAT_THEY_BUILD_ON, Entry, Form, Kind, operations_of, operations_one_by_one
@@ -36,6 +37,41 @@ MADE_OF, TYPES_ON_OF, PLACE_OF = map(attrgetter, ("made", "types_on", "place"))
 KIND_BY_NUMBER = {int(kind): kind for kind in Kind}
 
 
+class Chained(Sequence[Row]):
+    """Entries of messages of which each follows the one before it, in columns. A row is made where somebody asks for it, since nobody
+    asks for nearly all of them. Either all of them were made here, or none."""
+
+    def __init__(self, form: Form, places: Sequence[int], hashes: Sequence[bytes], raws: Sequence[bytes], bodies: Sequence[bytes],
+                 kinds: bytes, firsts: Sequence[int], sizes: Sequence[int], made: bool):
+        self.form, self.places, self.hashes, self.raws, self.bodies = form, places, hashes, raws, bodies
+        self.kinds, self.firsts, self.sizes, self.made = kinds, firsts, sizes, made
+        # Whether each is known to type on after the one before it.
+        self.types_on: bytes | bytearray = bytes(len(places))
+
+    def __len__(self) -> int:
+        return len(self.places)
+
+    @overload
+    def __getitem__(self, at: int) -> Row: ...
+
+    @overload
+    def __getitem__(self, at: slice) -> list[Row]: ...
+
+    def __getitem__(self, at: int | slice) -> Row | list[Row]:
+        if isinstance(at, slice):
+            return [self[number] for number in range(*at.indices(len(self)))]
+        return Row(self.places[at], self.entry(at), self.made, bool(self.types_on[at]))
+
+    def entry(self, at: int) -> Entry:
+        """The entry at a place."""
+        return self.form.reopened(self.raws[at], self.bodies[at], self.hashes[at])
+
+
+def hashes_of(rows: Sequence[Row]) -> Sequence[bytes]:
+    """The hashes of entries."""
+    return rows.hashes if isinstance(rows, Chained) else [row.entry.hash for row in rows]
+
+
 class Ledger(Hashes):
     """Entries, each by a number of its own; they are added and never change."""
 
@@ -60,9 +96,12 @@ class Ledger(Hashes):
         if len(rows) == 1:
             number = self._add_one(rows[0], before)
             return range(number, number + 1)
+        if isinstance(rows, Chained) and self._form:
+            return self._add_columns(rows, before, self._form)
         entries, first = [row.entry for row in rows], len(self)
         numbers = range(first, first + len(rows))
-        self._hashes += b"".join(hashes := [*map(HASH_OF, entries)])
+        hashes = [*map(HASH_OF, entries)]
+        self._hashes += b"".join(hashes)
         self._whose.extend([self._client(entries[0])] * len(rows))
         self._kinds += bytes(map(KIND_OF, entries))
         self._made += bytes(map(MADE_OF, rows))
@@ -73,6 +112,28 @@ class Ledger(Hashes):
         self._places.extend(map(PLACE_OF, rows))
         self._keep(entries)
         self._enter(hashes, first)
+        return numbers
+
+    def _add_columns(self, these: Chained, before: int, form: Form) -> range:
+        """The same of entries in columns."""
+        first, many = len(self), len(these)
+        numbers = range(first, first + many)
+        self._hashes += b"".join(these.hashes)
+        self._whose.extend([self._client(these.entry(0))] * many)
+        self._kinds += these.kinds
+        self._made += bytes([these.made]) * many
+        self._types_on += these.types_on
+        self._befores.extend([before, *numbers[:-1]])
+        self._firsts.extend(these.firsts)
+        self._sizes.extend(these.sizes)
+        self._places.extend(these.places)
+        kept, tail = these.bodies, form.tail_bytes
+        if tail:
+            kept = [raw[-tail:] + body for raw, body in zip(these.raws, kept)]
+        begin = len(self._kept)
+        self._kept += b"".join(kept)
+        self._ends.extend([begin + end for end in accumulate(map(len, kept))])
+        self._enter(these.hashes, first)
         return numbers
 
     def _add_one(self, row: Row, before: int) -> int:

@@ -51,6 +51,8 @@ from share.format.operation import NoMessage, Operation
 from share.format.presence import MOST_PRESENCE
 
 HEAD = struct.Struct(">BB16sHIH32s")
+# The same without the form and the note.
+HEAD_WITHOUT_NOTE = ">xB16xHIH32s"
 LENGTH = struct.Struct(">H")
 SITE_FIELD = struct.Struct(">H")
 # The most bytes of an entry.
@@ -229,6 +231,10 @@ class Form(ABC):
         """What is after the head of an entry that was opened before, unsealed."""
         return self._checked(raw)
 
+    def bodies(self, raws: Sequence[bytes]) -> list[bytes]:
+        """The same of each of some entries."""
+        return [*map(self.body, raws)]
+
     def tail(self, raw: bytes) -> bytes:
         """The last bytes of an entry, which can't be computed from the others."""
         return raw[len(raw) - self.tail_bytes:]
@@ -346,6 +352,10 @@ class Plain(Form):
 
     def body(self, raw: bytes) -> bytes:
         return raw[HEAD.size + self.author_bytes:-DIGEST_BYTES]
+
+    def bodies(self, raws: Sequence[bytes]) -> list[bytes]:
+        begin = HEAD.size + self.author_bytes
+        return [raw[begin:-DIGEST_BYTES] for raw in raws]
 
     def formed(self, raws: Sequence[tuple[bytes, bytes]]) -> list[Entry | Bad]:
         # Nearly all are chunks, which are opened in one step here: a call for each of its parts takes most of the time.

@@ -6,10 +6,11 @@ import zlib
 from collections.abc import Collection, Container, Iterable, Iterator, Mapping, Sequence
 from typing import NamedTuple
 
-from share.admission.ledger import Row
-from share.format.entry import CHUNKS, HEAD, MOST_AUTHOR_BYTES, NO_HASH, ONE_BY_ONE, Bad, Entry, Form, Kind, digest
+from share.admission.ledger import Row, Chained
+from share.format.entry import CHUNKS, HEAD, MOST_AUTHOR_BYTES, MOST_BYTES, NO_HASH, ONE_BY_ONE, Bad, Entry, Form, Kind, digest
 from share.format.keystrokes import Keystrokes
 from share.store.guarded import GuardedFile
+from share.store.chained import LEAST_ROWS, KeptEntry, put_together
 
 ENTRIES_SCHEMA = """
     CREATE TABLE entry (place INTEGER PRIMARY KEY AUTOINCREMENT, hash BLOB NOT NULL UNIQUE, raw BLOB NOT NULL,
@@ -93,15 +94,20 @@ class Entries:
     def rows(self, after: int = 0, most: float = math.inf) -> list[Row]:
         """The entries after a place, also those that were withdrawn; all, or the first ones, until they have this many bytes.
         What the disk damaged is taken out: whoever has it brings it back."""
-        rows: list[Row] = []
+        return [row for rows in self.read(after, most)[0] for row in rows]
+
+    def read(self, after: int = 0, most: float = math.inf) -> tuple[list[Sequence[Row]], bool]:
+        """The same, those together that follow one another; and whether there may be more after them."""
+        found: list[Sequence[Row]] = []
         with self._file.reading():
-            while True:
-                found = self._portion(after, most)
-                rows += [row for one in found if (row := self._row(*one))]
-                if len(found) < ROWS_AT_ONCE or most < math.inf:
+            while most > 0:
+                portion, size = self._portion(after, most)
+                found += self._rows_of(portion)
+                most -= size
+                if len(portion) < ROWS_AT_ONCE:
                     break
-                after = found[-1][0]
-        return rows
+                after = portion[-1][0]
+        return found, most <= 0
 
     def rows_at(self, places: Collection[int]) -> list[Row]:
         """The entries at these places."""
@@ -211,17 +217,25 @@ class Entries:
         # What the disk has damaged meanwhile isn't sent.
         return [one[0] for one in found if one and isinstance(one[0], bytes) and digest(one[0]) == one[1]]
 
-    def _portion(self, after: int, most: float) -> list[tuple[int, bytes, bytes, bytes | None, int, int]]:
-        """The first of the entries after a place, as the file has them."""
-        found, size = [], 0
-        with contextlib.closing(self._sql.execute(AFTER_PLACE, (after, ROWS_AT_ONCE))) as rows:
-            for one in rows:
+    def _rows_of(self, portion: Sequence[KeptEntry]) -> list[Sequence[Row]]:
+        """What some rows are, those together that follow one another; where one isn't as it was written each by itself."""
+        found: list[Sequence[Row]] = []
+        for one in put_together(self._form, self._keystrokes, portion) if len(portion) >= LEAST_ROWS else [portion]:
+            if isinstance(one, Chained):
                 found.append(one)
-                # What the disk damaged may have another type.
-                size += len(one[2]) if isinstance(one[2], bytes) else 0
-                if size >= most:
-                    break
+            elif rows := [row for kept in one if (row := self._row(*kept))]:
+                found.append(rows)
         return found
+
+    def _portion(self, after: int, most: float) -> tuple[list[KeptEntry], int]:
+        """The first of the entries after a place, as the file has them, and their bytes."""
+        found, size, at_once = list[KeptEntry](), 0, int(min(max(1, most // MOST_BYTES), ROWS_AT_ONCE))
+        with contextlib.closing(self._sql.execute(AFTER_PLACE, (after, ROWS_AT_ONCE))) as rows:
+            while size < most and (some := rows.fetchmany(at_once)):
+                found += some
+                # What the disk damaged may have another type.
+                size += sum([len(one[2]) for one in some if isinstance(one[2], bytes)])
+        return found, size
 
     def _row(self, place: int, of: bytes, raw: bytes, body: bytes | None, check: int, made: int) -> Row | None:
         try:

@@ -5,7 +5,7 @@ from itertools import chain, takewhile
 from typing import NamedTuple
 
 from share.admission.judge import Counted, Judge
-from share.admission.ledger import Row, Who
+from share.admission.ledger import Row, Chained, Who
 from share.admission.left_out import LeftOut
 from share.admission.runs import runs
 from share.format.entry import NOT_UNDER_A_NUMBER, Copy, Entry, Form, Kind
@@ -89,24 +89,18 @@ class Holdings:
         self.has_more = False
         self._rejudged = False
 
-    def _is_edit(self, row: Row) -> bool:
-        return row.made and bool(row.entry.size)
-
     def read(self, disk: Disk, most: float = math.inf) -> list[Sequence[Row]]:
         """Reads what the file has more, all or until it has this many bytes; the rows that weren't known, as `runs` has them."""
         if not self.rows:
             self.reread_anew(disk)
-        rows, has_more = self._rows_of(disk, most)
+        read, has_more = self._rows_of(disk, most)
         gone = disk.entries.withdrawn(self._number)
         again, self._again = self._again[:READ_AGAIN_AT_ONCE], self._again[READ_AGAIN_AT_ONCE:]
-        rows += disk.entries.rows_at(dict.fromkeys(again))
-        # What was withdrawn comes once more where a log had it after all.
-        new = [*runs(self.judge.unknown(rows))]
-        if any(run[0].made for run in new):
+        read.append(disk.entries.rows_at(dict.fromkeys(again)))
+        if any(row.made for rows in read for row in ([rows[0]] if isinstance(rows, Chained) else rows)):
             # Another editor of this person may have claimed a number.
             self.clients |= {who(one): one for one in disk.own.clients()}
-        for run in new:
-            self._add_run(run)
+        new = [run for rows in read for run in self._added(rows)]
         if gone:
             # What was withdrawn may be further on in the file.
             self._number = self._number if has_more else gone[-1][0]
@@ -114,15 +108,22 @@ class Holdings:
         self.has_more = has_more or bool(self._again)
         return new
 
-    def _rows_of(self, disk: Disk, most: float) -> tuple[list[Row], bool]:
+    def _added(self, rows: Sequence[Row]) -> list[Sequence[Row]]:
+        """Adds those of some rows that aren't known, and gives them, as `runs` has them."""
+        # What is known can't follow the last entry of a chain; what was withdrawn comes once more where a log had it after all.
+        is_new = isinstance(rows, Chained) and self._extends(rows)
+        new = [rows] if is_new else [*runs(self.judge.unknown(rows))]
+        for row in (row for run in new if not (is_new or self._extends(run)) for row in run):
+            self._add(row)
+        return new
+
+    def _rows_of(self, disk: Disk, most: float) -> tuple[list[Sequence[Row]], bool]:
         """The next rows of a file, and whether it may have more. Those that were handed over needn't be read there."""
         rows, size = self._handover.take(disk.inode, self._place, most)
         self._place = rows[-1].place if rows else self._place
-        if (left := most - size) <= 0:
-            return rows, True
-        read = disk.entries.rows(self._place, left)
-        self._place = read[-1].place if read else self._place
-        return rows + read, sum(len(row.entry.raw) for row in read) >= left
+        read, has_more = disk.entries.read(self._place, most - size)
+        self._place = read[-1][-1].place if read else self._place
+        return [rows, *read], has_more
 
     @property
     def place(self) -> int:
@@ -257,7 +258,7 @@ class Holdings:
 
     def made_by(self, clients: Sequence[Client]) -> list[bytes]:
         """The hashes of the messages' entries that were made under numbers."""
-        return [row.entry.hash for one in clients for row in self.judge.of(*who(one)) if self._is_edit(row)]
+        return [row.entry.hash for one in clients for row in self.judge.of(*who(one)) if row.made and row.entry.size]
 
     def followed(self) -> set[bytes]:
         """The hashes of the entries made here to which one is chained that wasn't: who made that one had them."""
@@ -288,12 +289,13 @@ class Holdings:
         return [*self.standing.fronts(self.counts_up_to), *self.standing_for_all.fronts(self.counts_up_to),
                 *self.recovered.fronts(self.counts_up_to)]
 
-    def _add_run(self, run: Sequence[Row]) -> None:
-        """Adds one entry; or several of messages, each of which follows the one before it, together where nothing was said of them here."""
-        is_plain = len(run) > 1 and not (self._withdrawn or self.standing_for_all.waits or who(run[0].entry) in self.clients)
-        if not (is_plain and self.judge.extend(run)):
-            for row in run:
-                self._add(row)
+    def _extends(self, run: Sequence[Row]) -> bool:
+        """Adds entries of messages, each of which follows the one before it, together, where nothing was said of them; whether it did."""
+        is_plain = len(run) > 1 and not (self._withdrawn or self.standing.waits or self.standing_for_all.waits)
+        is_added = is_plain and self.judge.extend(run)
+        if is_added and not run[0].made and (of := who(run[0].entry)) in self.clients:
+            self._shared.add(of)
+        return is_added
 
     def _add(self, row: Row) -> None:
         entry, of = row.entry, who(row.entry)

@@ -66,6 +66,17 @@ class Read(Case):
             self.assertEqual((holdings.judge.front(1), holdings.judge.front(2)), (1, 100))
             self.assertEqual(holdings.withdrawn(), {self.mine[1].hash})
 
+    def test_what_was_withdrawn_further_on_than_damage_is_left_out(self) -> None:
+        self.disk.keep([self.others_claim, *self.others], False)
+        self.disk.keep(self.mine, True)
+        self.disk.entries.withdraw([self.mine[1].hash])
+        with contextlib.closing(sqlite3.connect(self.disk.path, isolation_level=None)) as file:
+            # Of a part of the file, which is as long as was asked for.
+            file.execute("UPDATE entry SET sum = sum + 1 WHERE hash = ?", (self.others[4].hash,))
+        holdings = self.read(Holdings(self.disk.form, Handover()), 2**14)
+        self.assertEqual((self.disk.entries.damaged, holdings.judge.front(1), holdings.judge.front(2)), (1, 1, 4))
+        self.assertEqual(holdings.withdrawn(), {self.mine[1].hash})
+
     def test_what_has_no_room_comes_in_its_turn_after_something_was_withdrawn(self) -> None:
         self.disk.keep(self.mine, True)
         self.disk.keep([self.others_claim, *self.others[1:]], False)
