@@ -14,8 +14,8 @@ from share.admission.room import Room
 from share.format.history import Messages, Part
 from share.format.operation import Operation
 
-# Chains of entries, or of messages.
-Chained = TypeVar("Chained", bound=Passing)
+# SomeChain of entries, or of messages.
+SomeChain = TypeVar("SomeChain", bound=Passing)
 Ruled = TypeVar("Ruled", bound=Passing, contravariant=True)
 
 # Letters that are typed on are let through together before those of others whose stamps are lower by no more than this.
@@ -68,11 +68,11 @@ class Rule(Protocol[Ruled]):
         how long the site's file has to be to have them all."""
 
 
-class Passage(Generic[Chained]):
+class Passage(Generic[SomeChain]):
     """What is let through of the chains, each of a site. `changes` rises where a chain begins to wait, has less to wait for, or grows as
     it waits."""
 
-    def __init__(self, chains: Mapping[int, Chained], room: Room, causes: Rule[Chained]):
+    def __init__(self, chains: Mapping[int, SomeChain], room: Room, causes: Rule[SomeChain]):
         self.changes = 0
         # The sites whose next message isn't let through, but those where it is wrong, and these.
         self.blocked: set[int] = set()
@@ -165,7 +165,7 @@ class Passage(Generic[Chained]):
             run = chain.next()
         return run
 
-    def _pass_on(self, site: int, chain: Chained, run: Operation, woken: list[int], up_to: float) -> None:
+    def _pass_on(self, site: int, chain: SomeChain, run: Operation, woken: list[int], up_to: float) -> None:
         """Lets a chain's next messages through, and wakes those that waited for them."""
         chain.pass_on(run, up_to)
         part = Part(chain.branch, run.seq - 1, chain.front)
@@ -198,7 +198,7 @@ class Passage(Generic[Chained]):
             self.changes += 1
             woken.append(site)
 
-    def _block(self, site: int, chain: Chained, run: Operation, verdict: Verdict) -> None:
+    def _block(self, site: int, chain: SomeChain, run: Operation, verdict: Verdict) -> None:
         """Notes for what a chain waits whose next messages can't be let through."""
         self.changes += 1
         if verdict is Verdict.WRONG:

@@ -54,13 +54,14 @@ class Closing(Case):
             note.session.close()
 
     def redis(self) -> RedisServer:
-        return self.held(super().redis())
+        server = super().redis()
+        self.held(server)
+        return server
 
-    def held(self, server: RedisServer) -> RedisServer:
-        """A server, whose port is this process's until the test ends, which opened nothing else meanwhile."""
+    def held(self, server: RedisServer) -> None:
+        """The port of a server that was just started is this process's until the test ends."""
         self.addCleanup(server.close)
         self.before = open_now()
-        return server
 
     def assert_nothing_open(self) -> None:
         """That nothing is open that wasn't before."""
@@ -75,7 +76,9 @@ class Logs(Closing):
         yield ""
         yield self.file_log()
         yield self.redis().url
-        yield self.held(SocketServer(self.folder / "by-socket")).url
+        server = SocketServer(self.folder / "by-socket")
+        self.held(server)
+        yield server.url
 
     def test_a_note_that_is_closed(self) -> None:
         for number, url in enumerate(self.logs()):
@@ -98,7 +101,8 @@ class Logs(Closing):
                 self.assertEqual(open_now().beyond(self.before).words(), "")
 
     def test_a_tls_server(self) -> None:
-        server = self.held(TlsServer(self.folder / "tls", "IP:127.0.0.1"))
+        server = TlsServer(self.folder / "tls", "IP:127.0.0.1")
+        self.held(server)
         for trusted in True, False:
             with mock.patch.dict(os.environ, {"SSL_CERT_FILE": str(server.certificate)} if trusted else {}):
                 for number in range(TIMES):

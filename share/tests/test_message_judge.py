@@ -25,7 +25,7 @@ SEEDS = st.integers(0, 2**16 - 1)
 TIMES = int(os.environ.get("VIALSHOAL_EXAMPLES", "0"))
 ADA, BOB, EVE = (bytes([number]) * 32 for number in (1, 2, 3))
 # Of three times as much a letter may take this many times the instructions.
-MOST_TIMES = 1.2
+MOST_TIMES = 1.6
 MOST_BYTES_OF_A_LETTER = 350
 
 
