@@ -79,8 +79,8 @@ class Renewed(Engines):
         self.server.kill()
         editor.type("mine")
         editor.settle()
-        editor.wait_for(lambda: editor.notices("state")[-1]["log"] == "away", "the log to be away")
-        self.assertEqual(editor.notices("state")[-1]["unsent"], 1)
+        # That the log is away may be told before the edit is made.
+        editor.wait_for(lambda: [editor.notices("state")[-1][of] for of in ("log", "unsent")] == ["away", 1], "one edit to be unsent")
 
     def test_nothing_is_typed_under_them(self) -> None:
         notes = [self.opened(self.ann) for _ in range(3)]

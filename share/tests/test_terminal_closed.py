@@ -6,9 +6,10 @@ import signal
 
 from share.tests.support import NOTE, TOP, Case, wait_for, written
 from share.tests.terminals import EMACS
+from share.tests.waiting import PATIENCE
 
-# No editor shows this of its own.
-TYPED = "\u00e9"
+# No editor shows this of its own. How often it is typed at most.
+TYPED, TIMES = "\u00e9", 60
 IN_EMACS = (*EMACS, "-L", str(TOP / "editors" / "emacs"), "-l", "vialshoal", "--eval",
             f'(progn (setq vialshoal-command (list "{NOTE}")) (vialshoal-open "note"))')
 NEOVIM = ("nvim", "-u", "NONE", "-i", "NONE", "-n", "--cmd", f"set runtimepath^={TOP / 'editors' / 'neovim'}", "-c",
@@ -28,19 +29,29 @@ class Closed(Case):
             os.environ.update(VIALSHOAL_DATA=data, TERM="xterm", LC_ALL="C.UTF-8", LINES="24", COLUMNS="80")
             os.execvp(words[0], words)
         try:
-            self.shown(end, b"begin.")
-            os.write(end, TYPED.encode())
-            self.shown(end, TYPED.encode())
+            self.assertTrue(self.shown(end, b"begin."))
+            self.typed(end)
             os.close(end)
             wait_for(lambda: os.waitpid(process, os.WNOHANG)[0], "the editor to end")
         except BaseException:
-            with contextlib.suppress(ProcessLookupError):
+            with contextlib.suppress(OSError):
+                os.close(end)
+            with contextlib.suppress(ProcessLookupError, ChildProcessError):
                 os.kill(process, signal.SIGKILL)
+                os.waitpid(process, 0)
             raise
         self.assertIn(TYPED, self.note("cat", "note", VIALSHOAL_DATA=data).stdout)
 
-    def shown(self, end: int, what: bytes) -> None:
-        """Waits until a terminal has shown this."""
+    def typed(self, end: int) -> None:
+        """Types until that is shown: where the text is shown it may not be let be edited yet."""
+        for _ in range(TIMES):
+            os.write(end, TYPED.encode())
+            if self.shown(end, TYPED.encode(), PATIENCE / TIMES):
+                return
+        self.fail("what is typed isn't shown")
+
+    def shown(self, end: int, what: bytes, patience: float = PATIENCE) -> bool:
+        """Whether a terminal shows this in time."""
         told = bytearray()
         os.set_blocking(end, False)
 
@@ -49,7 +60,9 @@ class Closed(Case):
                 told.extend(os.read(end, 1 << 16))
             return what in told
 
-        wait_for(is_shown, f"{what!r} to be shown")
+        with contextlib.suppress(AssertionError):
+            return bool(wait_for(is_shown, "it to be shown", patience))
+        return False
 
     def test_of_the_own_editor(self) -> None:
         self.closed(NOTE, "note")
