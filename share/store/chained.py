@@ -65,7 +65,7 @@ def _bodies(form: Form, portion: Sequence[KeptEntry], raws: Sequence[bytes]) -> 
     """The bodies of some rows. Raises an error where one isn't as it was written."""
     bodies, sums = [one[3] for one in portion], [one[4] for one in portion]
     if has_bodies := bodies.count(None) < len(bodies):
-        is_right = sums == [zlib.crc32(body or b"") for body in bodies]
+        is_right = sums == [zlib.crc32(b"" if body is None else body) for body in bodies]
     else:
         is_right = sums.count(zlib.crc32(b"")) == len(sums)
     if not is_right:

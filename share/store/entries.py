@@ -84,7 +84,8 @@ class Entries:
         """The hashes that the file has, each with whether its entry is as it was written."""
         with self._file.reading():
             for of, raw, body, check in self._sql.execute("SELECT hash, raw, body, sum FROM entry"):
-                yield of, isinstance(raw, bytes) and digest(raw) == of and zlib.crc32(body or b"") == check
+                yield of, (isinstance(raw, bytes) and digest(raw) == of
+                           and isinstance(body, bytes | None) and zlib.crc32(body or b"") == check)
 
     def greatest_place(self) -> int:
         """The greatest place that an entry ever had."""
@@ -239,7 +240,7 @@ class Entries:
 
     def _row(self, place: int, of: bytes, raw: bytes, body: bytes | None, check: int, made: int) -> Row | None:
         try:
-            if digest(raw) == of and zlib.crc32(body or b"") == check:
+            if digest(raw) == of and zlib.crc32(b"" if body is None else body) == check:
                 entry = self._form.reopened(raw, self._form.body(raw) if body is None else body, of)
                 # A version that didn't know these has kept whatever came.
                 types_on = (entry.kind in CHUNKS or entry.kind is Kind.COPIES) and self._keystrokes.type_on(entry)

@@ -29,7 +29,7 @@ from share.tests.test_keystrokes import FORM, Typist, damaged
 
 ROUNDS, PORTION, KEYS = 40, 50, 400
 DAMAGES = ("raw = CAST(raw || x'00' AS BLOB)", "raw = x'01'", "raw = 'a word'", "hash = zeroblob(32)", "hash = 7", "sum = sum + 1",
-           "sum = NULL", "body = x'00'", "body = 'a word'", "made = 2")
+           "sum = NULL", "body = x'00'", "body = 'a word'", "body = 0", "body = ''", "made = 2")
 
 
 def one_by_one(form: object, keystrokes: object, portion: Sequence[Any]) -> list[Sequence[Any]]:
