@@ -97,18 +97,19 @@ class Entries:
         What the disk damaged is taken out: whoever has it brings it back."""
         return [row for rows in self.read(after, most)[0] for row in rows]
 
-    def read(self, after: int = 0, most: float = math.inf) -> tuple[list[Sequence[Row]], bool]:
-        """The same, those together that follow one another; and whether there may be more after them."""
+    def read(self, after: int = 0, most: float = math.inf) -> tuple[list[Sequence[Row]], int, bool]:
+        """The same, those together that follow one another; the place up to which was read, and whether there may be more after it. What
+        is there may be left out, and more of it than this."""
         found: list[Sequence[Row]] = []
         with self._file.reading():
             while most > 0:
                 portion, size = self._portion(after, most)
                 found += self._rows_of(portion)
                 most -= size
+                after = portion[-1][0] if portion else after
                 if len(portion) < ROWS_AT_ONCE:
                     break
-                after = portion[-1][0]
-        return found, most <= 0
+        return found, after, most <= 0
 
     def rows_at(self, places: Collection[int]) -> list[Row]:
         """The entries at these places."""

@@ -121,8 +121,7 @@ class Holdings:
         """The next rows of a file, and whether it may have more. Those that were handed over needn't be read there."""
         rows, size = self._handover.take(disk.inode, self._place, most)
         self._place = rows[-1].place if rows else self._place
-        read, has_more = disk.entries.read(self._place, most - size)
-        self._place = read[-1][-1].place if read else self._place
+        read, self._place, has_more = disk.entries.read(self._place, most - size)
         return [rows, *read], has_more
 
     @property

@@ -7,7 +7,7 @@ import sqlite3
 import struct
 import unittest
 from collections.abc import Sequence
-from typing import Any
+from typing import Any, cast
 from unittest import mock
 
 from share.admission.judge import Judge
@@ -215,6 +215,19 @@ class TypedByHand(Case):
             with contextlib.closing(Disk(path)) as disk:
                 self.assertEqual([row.entry for row in disk.entries.rows()], typist.entries[:-1])
                 self.assertEqual(disk.entries.damaged, 1)
+
+    def test_what_is_left_out_is_passed_over(self) -> None:
+        # What a newer version keeps in another way, more than is read in one go.
+        author, path, holdings = Author(self.entries[0].author, b""), self.folder / "newer.note", Holdings(FORM, Handover())
+        newer = [FORM._made(cast(Kind, 99), 9, 0, 0, NO_HASH, author, b"", bytes([number])) for number in range(PORTION)]
+        entries = [*self.entries[:PORTION], *newer, *self.entries[PORTION:]]
+        make_note(path, About(False, FORM.note), (Row(0, entry, True) for entry in entries))
+        with contextlib.closing(sqlite3.connect(path, isolation_level=None)) as file:
+            file.execute("UPDATE entry SET sum = sum + 1 WHERE place BETWEEN ? AND ?", (PORTION + 1, 2 * PORTION))
+        with contextlib.closing(Disk(path)) as disk:
+            for _ in range(4 * KEYS):
+                holdings.read(disk, len(newer[0].raw))
+            self.assertEqual((holdings.judge.front(9), holdings.has_more, disk.entries.damaged), (KEYS, False, 0))
 
     def test_somebody_else_under_an_own_number_is_seen(self) -> None:
         with contextlib.closing(sqlite3.connect(self.path, isolation_level=None)) as file:
