@@ -231,7 +231,7 @@ class Entries:
 
     def _portion(self, after: int, most: float) -> tuple[list[KeptEntry], int]:
         """The first of the entries after a place, as the file has them, and their bytes."""
-        found, size, at_once = list[KeptEntry](), 0, int(min(max(1, most // MOST_BYTES), ROWS_AT_ONCE))
+        found, size, at_once = list[KeptEntry](), 0, int(max(1, min(most / MOST_BYTES, ROWS_AT_ONCE)))
         with contextlib.closing(self._sql.execute(AFTER_PLACE, (after, ROWS_AT_ONCE))) as rows:
             while size < most and (some := rows.fetchmany(at_once)):
                 found += some
