@@ -3,9 +3,12 @@ import contextlib
 import fcntl
 import os
 import pathlib
+import time
 from collections.abc import Iterator
 
 Inode = tuple[int, int]
+# How long is waited for who makes a file, which takes some milliseconds unless that process was stopped; and between two tries.
+MOST_DISTURBED_SECONDS, TRY_LOCK_SECONDS = 5.0, 0.01
 
 
 def inode_of(path: pathlib.Path | str | int) -> Inode | None:
@@ -43,5 +46,16 @@ def undisturbed(folder: pathlib.Path) -> Iterator[None]:
         with contextlib.suppress(OSError):
             file = os.open(folder, os.O_RDONLY | os.O_DIRECTORY | os.O_CLOEXEC)
             stack.callback(os.close, file)
-            fcntl.flock(file, fcntl.LOCK_SH)
+            end = time.monotonic() + MOST_DISTURBED_SECONDS
+            while not _is_shared(file) and time.monotonic() < end:
+                time.sleep(TRY_LOCK_SECONDS)
         yield
+
+
+def _is_shared(file: int) -> bool:
+    """Locks a folder for this process and others that do so; whether it could."""
+    try:
+        fcntl.flock(file, fcntl.LOCK_SH | fcntl.LOCK_NB)
+    except BlockingIOError:
+        return False
+    return True

@@ -11,7 +11,7 @@ from unittest import mock
 
 from share.admission.chains import rank
 from share.format.operation import MOST_INSERTED
-from share.log.folder import inode_of
+from share.log.folder import held, inode_of
 from share.log.sqlite_file import WRITTEN_AHEAD, SqliteFile, beside
 from share.program.site import Edited, Site, Told
 from share.store.entries import Entries
@@ -295,6 +295,13 @@ class Replaced(Case):
             replaces.join()
             self.assertEqual((disk.is_in_place(), disk.entries.size()), (False, many))
         self.assertNotEqual(inode_of(path), inode)
+
+    def test_who_stopped_as_it_took_a_place_keeps_nobody_from_opening(self) -> None:
+        note = self.opened(self.person())
+        written(note, "words ")
+        path = note.session._file.disk.path
+        with held(path.parent), mock.patch("share.log.folder.MOST_DISTURBED_SECONDS", 0.1), contextlib.closing(Disk(path)) as disk:
+            self.assertGreater(disk.entries.size(), 0)
 
     def test_who_opens_it_meanwhile_has_written_nothing(self) -> None:
         note = self.opened(self.person())
