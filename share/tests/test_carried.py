@@ -104,6 +104,8 @@ class Lost(Case):
         note, append, done = self.opened(self.anna, url=str(self.path)), SqliteLog.append, list[int]()
         written(note, "one ")
         replicator = note.session._replicator
+        # A log of which nothing was read yet begins no reading anew where it has nothing more.
+        wait_for(lambda: not replicator._known.now.given(), "what was given to be read")
 
         def appended(log: SqliteLog, raws: Sequence[bytes]) -> None:
             append(log, raws)
