@@ -28,6 +28,8 @@ class Carried:
         self.looked = self.withdrawn = 0
         self._lock = threading.Lock()
         self._marks = bytearray()
+        # How often what was held back was let go.
+        self.lettings = 0
         # The places that the log was given and that weren't read there yet.
         self._given: set[int] = set()
         # No place before this one is lacking.
@@ -82,7 +84,7 @@ class Carried:
     def begin(self) -> None:
         """The log is to be read from its front."""
         with self._lock:
-            self._marks = self._marks.translate(_AFTER_BEGIN)
+            self._marks, self.lettings = self._marks.translate(_AFTER_BEGIN), self.lettings + 1
             self._given.clear()
             self._first = 1
 
@@ -97,7 +99,7 @@ class Carried:
         """All that the log had as `begin` was called was read; the places that it had before and has no more."""
         with self._lock:
             missing = [place for place, mark in enumerate(self._marks) if mark & IN_LOG == WAS_HAD]
-            self._marks = self._marks.translate(_AFTER_END)
+            self._marks, self.lettings = self._marks.translate(_AFTER_END), self.lettings + 1
             self._unsent = self._marks.count(OWN_EDIT)
             self._first = 1
             self.whole += 1
@@ -132,7 +134,7 @@ class Carried:
     def lets_go(self) -> None:
         """What is held back is lacking again."""
         with self._lock:
-            self._marks = self._marks.translate(_LET_GO)
+            self._marks, self.lettings = self._marks.translate(_LET_GO), self.lettings + 1
             self._first = 1
 
     def next_lacking(self) -> int | None:
@@ -146,10 +148,11 @@ class Carried:
         """Whether the log was read whole, and is known to have all that it is to have of what was looked at."""
         return self.whole > 0 and self.next_lacking() is None
 
-    def holds_back(self, places: Iterable[int]) -> None:
-        """These places aren't to be given, or have nothing."""
+    def holds_back(self, places: Iterable[int], lettings: int) -> None:
+        """These places weren't to be given, or had nothing, when all had been let go this often."""
         with self._lock:
-            self._mark(places, HELD_BACK)
+            if lettings == self.lettings:
+                self._mark(places, HELD_BACK)
 
     def _of(self, place: int) -> int:
         return self._marks[place] if place < len(self._marks) else 0

@@ -89,7 +89,8 @@ class Giver:
 
     def _give_from(self, place: int, disk: Disk, log: Log, carried: Carried) -> None:
         """Gives the log what it lacks of what is from a place on."""
-        found = disk.entries.places(place - 1, GIVEN_AT_ONCE)
+        # What is let go meanwhile is looked at once more: the file may say by now that it may be given.
+        lettings, found = carried.lettings, disk.entries.places(place - 1, GIVEN_AT_ONCE)
         had = {one.place for one in found if carried.has(one.place)}
         lacks = {one.hash: one.place for one in found if one.place not in had and self._known.may_give(one)}
         raws = disk.entries.offer([*lacks.values()])
@@ -106,7 +107,7 @@ class Giver:
             self._threads.wake()
         # Of what was withdrawn, dropped or damaged there is nothing at its place.
         last = found[-1].place if found else carried.looked
-        carried.holds_back({*range(place, last + 1)} - had - given)
+        carried.holds_back({*range(place, last + 1)} - had - given, lettings)
 
     def _answer(self, disk: Disk, log: Log, carried: Carried) -> None:
         """Gives the log again what others lack, of what it seemed to have."""

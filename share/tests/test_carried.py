@@ -62,12 +62,12 @@ class Marks(unittest.TestCase):
         found = []
         while (place := carried.next_lacking()) is not None:
             found.append(place)
-            carried.holds_back([place])
+            carried.holds_back([place], carried.lettings)
         self.assertEqual((found, carried.unsent), ([2, 5, 6, 7, 8, 9], 2))
         carried.end()
         self.assertEqual((carried.next_lacking(), carried.unsent), (2, 2))
         carried.gave([2])
-        carried.holds_back([5, 6, 7, 8])
+        carried.holds_back([5, 6, 7, 8], carried.lettings)
         self.assertEqual((carried.next_lacking(), carried.unsent), (9, 1))
         self.assertEqual(carried.came_to_end(carried.given()), 1)
         self.assertEqual((carried.next_lacking(), carried.unsent), (9, 2))
