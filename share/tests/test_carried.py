@@ -76,6 +76,17 @@ class Marks(unittest.TestCase):
         carried.took_back(1, [2])
         self.assertEqual(carried.unsent, 1)
 
+    def test_what_was_let_go_meanwhile_is_not_held_back(self) -> None:
+        carried = Carried(None)
+        carried.found(1, [1])
+        for lets_go in carried.begin, carried.end, carried.lets_go:
+            before = carried.lettings
+            carried.holds_back([1], before)
+            self.assertIsNone(carried.next_lacking())
+            lets_go()
+            carried.holds_back([1], before)
+            self.assertEqual(carried.next_lacking(), 1)
+
     def test_a_million_entries_take_a_byte_each(self) -> None:
         carried = Carried(None)
         carried.found(1_000_000, [])
