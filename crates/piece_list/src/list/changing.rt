@@ -186,8 +186,9 @@ impl PieceList {
             (IsNoted setting.now names.now note.old.items note.new.items self.old.items self.new.items) }
     {
         let ranges = names.ranges();
-        self.pieces.enter(setting)?;
         self.pieces.reserve(2 * ranges.len())?;
+        // Last, since an entry isn't taken out where memory is refused afterwards.
+        self.pieces.enter(setting)?;
         self.pieces.change_ranges(ranges, setting, note);
         Ok(())
     }

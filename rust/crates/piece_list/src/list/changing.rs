@@ -98,8 +98,9 @@ impl PieceList {
         note: &mut Vec<Change>,
     ) -> Result<(), Refusal> {
         let ranges = names.ranges();
-        self.pieces.enter(setting)?;
         self.pieces.reserve(2 * ranges.len())?;
+        // Last, since an entry isn't taken out where memory is refused afterwards.
+        self.pieces.enter(setting)?;
         self.pieces.change_ranges(ranges, setting, note);
         Ok(())
     }
