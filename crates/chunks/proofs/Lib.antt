@@ -7,5 +7,6 @@ pub mod OneChunk
 pub mod Opening
 pub mod ReadAll
 pub mod Sizes
+pub mod TypedRows
 pub mod Whole
 pub mod Written

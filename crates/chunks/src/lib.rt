@@ -6,6 +6,7 @@ mod codes;
 mod laws;
 mod limits;
 mod reading;
+mod rows;
 mod writing;
 
 pub use laws::{lemma_chunks_tell, lemma_one_chunk};

@@ -1,4 +1,5 @@
-ghost use Rattle.std.specs.Prelude.{true, false, ◌≡◌, ◌≢◌, ◌++◌, ◌<◌, ◌≤◌, ◌⊎◌, ◌↔◌, IsTrue, ℕ, List, [], ◌∷◌, length, take, MatchOption, OnOk, IfOk, IfErr, IsErrOf};
+ghost use Rattle.std.specs.Prelude.{true, false, ◌≡◌, ◌≢◌, ◌++◌, ◌<◌, ◌≤◌, ◌⊎◌, ◌↔◌, IsTrue, ℕ, List, [], ◌∷◌, length, take, MatchOption, OnOk, IfOk, IfErr, IfNone, IfSome, IsErrOf};
+ghost use Rattle.looks.specs.Refusal.{RefusedForMemoryAlone};
 ghost use Rattle.byte_fields.specs.Fields.{Finds};
 ghost use Rattle.operations.specs.Operation.{Operation};
 ghost use Rattle.packed.specs.Told.{nothing_begun, has_begun, told_on, IsNext};
@@ -6,10 +7,12 @@ ghost use Rattle.packed.specs.Spelling.{packed_next};
 ghost use Rattle.packed.specs.Reading.{CanBeNext, BeginsWithNone};
 ghost use Rattle.chunks.specs.declared.TheConstants.{MAX_CHUNK};
 ghost use Rattle.chunks.specs.Chunks.{Placed, operations_of, added_after, tag, CanAllCome, BeginsAsChunk, IsChunkOf, IsNoChunk};
+ghost use Rattle.chunks.specs.Rows.{ReadsRow, ReadsSome};
 ghost use Rattle.chunks.specs.Parts.{begin_of, begin_at, begun_so, BeginsNoSite, IsOpen, ReadsFirst, NoneIsFirst, HasAll};
 
 use crate::MAX_CHUNK;
 use crate::codes::{BEGIN, TAG};
+use crate::rows::push_letters;
 use byte_fields::text_at;
 use char_files::{MAX_FILE, SiteNo, TextNo};
 use looks::Refusal;
@@ -215,6 +218,60 @@ fn rest_of_tag(bytes: &[u8]) -> Option<&[u8]>
     bytes.strip_prefix(TAG)
 }
 
+// Reads the letters that a site types on with, if it has begun and some come next, and answers the bytes after them; else nothing is
+// noted. Refused `OutOfMemory` alone.
+fn read_row<'a>(
+    history: &mut History,
+    operations: &mut Vec<Op>,
+    alloc: Global,
+    text: TextNo,
+    bytes: &'a [u8],
+) -> Result<Option<&'a [u8]>, Refusal>
+    ensures row { IfOk result (λ found. IfSome found
+        (λ rest. ReadsRow history.old history.new text bytes.now operations.old.items operations.new.items rest.now)) }
+    ensures none { IfOk result (λ found. IfNone found
+        ((history.new ≡ history.old) × (operations.new.items ≡ operations.old.items))) }
+    ensures errors { RefusedForMemoryAlone result }
+{
+    let Some((typing, typed, rest)) = history.letters(text, bytes) else {
+        return Ok(None);
+    };
+    if !history.has_begun(typing.site) {
+        return Ok(None);
+    }
+    push_letters(operations, alloc, &typing, typed)?;
+    history.pass_letters(&typing, typed)?;
+    Ok(Some(rest))
+}
+
+// Reads what comes next, a row of letters or else an operation, and answers the bytes after it. Refused `Malformed` where the bytes
+// begin with none that can come.
+fn read_some<'a>(
+    history: &mut History,
+    operations: &mut Vec<Op>,
+    alloc: Global,
+    text: TextNo,
+    bytes: &'a [u8],
+) -> Result<&'a [u8], Refusal>
+    requires { IsOpen history.old }
+    ensures ok { IfOk result (λ rest. ReadsSome history.old history.new text bytes.now
+        operations.old.items operations.new.items rest.now) }
+    ensures refused { IsErrOf result Refusal.Malformed → NoneIsFirst history.old text bytes.now }
+    ensures errors { IfErr result (λ e. (e ≡ Refusal.Malformed) ⊎ (e ≡ Refusal.OutOfMemory)) }
+{
+    match read_row(history, operations, alloc, text, bytes) {
+        Ok(Some(rest)) => Ok(rest),
+        Ok(None) => match next_op(history, alloc, text, bytes) {
+            Ok((op, rest)) => {
+                operations.push(op)?;
+                Ok(rest)
+            }
+            Err(why) => Err(why),
+        },
+        Err(why) => Err(why),
+    }
+}
+
 // All operations. Refused `Malformed` where the bytes aren't operations that can come one after the other.
 fn read_all(alloc: Global, text: TextNo, bytes: &[u8]) -> Result<Vec<Op>, Refusal>
     ensures ok { IfOk result (λ ops. HasAll text ops.items bytes.now) }
@@ -228,11 +285,8 @@ fn read_all(alloc: Global, text: TextNo, bytes: &[u8]) -> Result<Vec<Op>, Refusa
     let mut operations = Vec::new(alloc);
     let mut rest = bytes;
     while !rest.is_empty() {
-        match next_op(&mut history, alloc, text, rest) {
-            Ok((op, after)) => {
-                operations.push(op)?;
-                rest = after;
-            }
+        match read_some(&mut history, &mut operations, alloc, text, rest) {
+            Ok(after) => rest = after,
             Err(why) => return Err(why),
         }
     }

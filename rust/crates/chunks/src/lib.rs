@@ -5,6 +5,7 @@
 
 mod codes;
 mod reading;
+mod rows;
 mod writing;
 
 pub use reading::{Chunk, read_chunk};

@@ -1,17 +1,20 @@
-use Rattle.std.proofs.Common.{◌≡◌, ◌<◌, Err, List, [], length, ap, arith, subst, sym, ◌∙◌}
+use Rattle.std.proofs.Common.{◌≡◌, ◌<◌, Err, [], length, ap, arith, subst, sym, ◌∙◌}
 use Rattle.std.proofs.lemmas.Bool.{eqb-false, eqb-true}
 use Rattle.std.proofs.lemmas.List.{nil_from_length}
 use Rattle.looks.specs.declared.refusal.Refusal.TheVariants.{Malformed}
-use Rattle.operations.specs.Operation.{Operation}
-use Rattle.chunks.proofs.ReadAll.{SoFar, one_more, none_left, all_these}
+use Rattle.chunks.proofs.ReadAll.{SoFar, none_left, all_these}
+use Rattle.chunks.proofs.TypedRows.{some_more, some_shorter}
 use Rattle.chunks.proofs.reading.read_all.Goals as goal
 
 pub loop-rest-preserved : goal.loop-rest-preserved
 loop-rest-preserved c =
-    subst (λ (ops : List Operation). SoFar c.args.text c.args.bytes.now c.next_op.new.history ops c.in-Ok.after.now)
-    (sym c.in_ok-push-in-Ok.ensures.items)
-    (one_more c.args.text c.args.bytes.now c.loop-rest.history c.next_op.new.history c.loop-rest.operations.items
-    c.loop-rest.rest.now c.in-Ok.after.now _ c.loop-rest.invariant c.in-Ok.ensures.ok)
+    some_more c.args.text c.args.bytes.now c.loop-rest.history c.read_some.new.history c.loop-rest.operations.items
+    c.read_some.new.operations.items c.loop-rest.rest.now c.in-Ok.after.now c.loop-rest.invariant c.in-Ok.ensures.ok
+
+pub loop-rest-smaller : goal.loop-rest-smaller
+loop-rest-smaller c =
+    some_shorter c.loop-rest.history c.read_some.new.history c.args.text c.loop-rest.operations.items
+    c.read_some.new.operations.items c.loop-rest.rest.now c.in-Ok.after.now c.in-Ok.ensures.ok
 
 pub returns-in-Err-clause-refused : goal.returns-in-Err-clause-refused
 returns-in-Err-clause-refused c = λ bad ps come e.
