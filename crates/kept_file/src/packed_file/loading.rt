@@ -13,7 +13,7 @@ ghost use Rattle.kept_file.specs.PackedParts.{ArePacked, HasTakenFirst, IsFirst}
 use super::reading::rest_of_tag;
 use crate::MAX_PACKED;
 use crate::head::{Head, head_at};
-use crate::taking::take_ready;
+use crate::taking::{MOST_NOTED, take_ready};
 use looks::Refusal;
 use packed::History;
 use std::alloc::Global;
@@ -70,7 +70,7 @@ fn take_letters<'a>(
 
 // Takes in the first of packed operations: a row of letters, or else one. Answers how many, and the bytes after them. Refused
 // `BadFile` where none is there that is ready.
-fn take_some<'a>(
+fn take_letters_or_first<'a>(
     replica: &mut Replica,
     history: &mut History,
     alloc: Global,
@@ -91,6 +91,25 @@ fn take_some<'a>(
         },
         Err(why) => Err(why),
     }
+}
+
+// The same, and where many changes are noted then, they are noted together.
+fn take_some<'a>(
+    replica: &mut Replica,
+    history: &mut History,
+    alloc: Global,
+    bytes: &'a [u8],
+) -> Result<(u64, &'a [u8]), Refusal>
+    requires { replica.old.waiting_room ≡ [] }
+    ensures ok { IfOk result (λ x.
+        HasTakenFirst replica.old history.old bytes.now x.0 x.1.now replica.new history.new) }
+    ensures refused { IsErrOf result Refusal.BadFile → (op : Operation) (rest : List ℕ)
+        → IsFirst history.old replica.old.text bytes.now op rest → IsJudged replica.old op ready → ⊥ }
+    ensures errors { IfErr result (λ e. (e ≡ Refusal.BadFile) ⊎ (e ≡ Refusal.OutOfMemory)) }
+{
+    let taken = take_letters_or_first(replica, history, alloc, bytes)?;
+    replica.note_together(MOST_NOTED)?;
+    Ok(taken)
 }
 
 // Takes in packed operations, of which there may be `MAX_PACKED`.
@@ -134,7 +153,7 @@ fn text_of(alloc: Global, head: Head, bytes: &[u8]) -> Result<Replica, Refusal>
 }
 
 /// The text of a packed file, as its site kept it: with the same operations, taken in in the same order. Nothing waits
-/// for it, and nothing was cut last.
+/// for it, and nothing was cut last; its changes are told as those of one insertion where they are many.
 ///
 /// Refused `BadFile` where no text of a site has this file. Where it doesn't begin as one this is told before memory is
 /// asked for; where an operation is at fault, `OutOfMemory` may come in the place of it, as of all else. The time, and the

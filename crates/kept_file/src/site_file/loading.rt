@@ -8,14 +8,14 @@ ghost use Rattle.texts.specs.TextState.{empty_text};
 ghost use Rattle.kept_file.specs.SiteParts.{AreEntries, IsCutAsFile};
 
 use super::reading::{CountedHead, are_messages, counted_at, message_at, rest_of_tag};
-use crate::taking::{refusal_of_file, take_ready};
+use crate::taking::{MOST_NOTED, refusal_of_file, take_ready};
 use looks::Refusal;
 use operations::decode;
 use std::alloc::Global;
 use texts::Replica;
 
 // Takes in the operation of a message. Refused `BadFile` where it tells none that is ready.
-fn take_next(replica: &mut Replica, alloc: Global, message: &[u8]) -> Result<(), Refusal>
+fn take_message(replica: &mut Replica, alloc: Global, message: &[u8]) -> Result<(), Refusal>
     requires { replica.old.waiting_room ≡ [] }
     ensures ok { OnOk result ((op : Operation) × Encodes message.now op × HasTaken replica.old op replica.new) }
     ensures refused { IsErrOf result Refusal.BadFile → (op : Operation) → Encodes message.now op
@@ -29,6 +29,18 @@ fn take_next(replica: &mut Replica, alloc: Global, message: &[u8]) -> Result<(),
         }
         Err(why) => Err(refusal_of_file(why)),
     }
+}
+
+// The same, and where many changes are noted then, they are noted together.
+fn take_next(replica: &mut Replica, alloc: Global, message: &[u8]) -> Result<(), Refusal>
+    requires { replica.old.waiting_room ≡ [] }
+    ensures ok { OnOk result ((op : Operation) × Encodes message.now op × HasTaken replica.old op replica.new) }
+    ensures refused { IsErrOf result Refusal.BadFile → (op : Operation) → Encodes message.now op
+        → IsJudged replica.old op ready → ⊥ }
+    ensures errors { IfErr result (λ e. (e ≡ Refusal.BadFile) ⊎ (e ≡ Refusal.OutOfMemory)) }
+{
+    take_message(replica, alloc, message)?;
+    replica.note_together(MOST_NOTED)
 }
 
 // Takes in the operations of so many messages, after which nothing may follow.
@@ -72,7 +84,7 @@ fn text_of(alloc: Global, head: CountedHead, entries: &[u8]) -> Result<Replica, 
 }
 
 /// The text of a site's file, as its site kept it: with the same operations, taken in in the same order. Nothing waits
-/// for it, and nothing was cut last.
+/// for it, and nothing was cut last; its changes are told as those of one insertion where they are many.
 ///
 /// Refused `BadFile` where no text of a site has this file. Where the file isn't cut as one this is told before memory is
 /// asked for; where a message is at fault, `OutOfMemory` may come in the place of it, as of all else. The time, and the memory,

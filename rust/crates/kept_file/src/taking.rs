@@ -5,6 +5,9 @@ use looks::Refusal;
 use operations::Op;
 use texts::{Replica, Took};
 
+/// So many changes are noted at most while a file is loaded, beside those of one operation or row of letters.
+pub(crate) const MOST_NOTED: usize = 1_024;
+
 /// Why a file is refused, one of whose operations is refused for this.
 pub(crate) fn refusal_of_file(why: Refusal) -> Refusal {
     match why {

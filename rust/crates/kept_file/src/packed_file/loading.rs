@@ -2,7 +2,7 @@
 use super::reading::rest_of_tag;
 use crate::MAX_PACKED;
 use crate::head::{Head, head_at};
-use crate::taking::take_ready;
+use crate::taking::{MOST_NOTED, take_ready};
 use fallible::Global;
 use looks::Refusal;
 use packed::History;
@@ -44,7 +44,7 @@ fn take_letters<'a>(
 
 // Takes in the first of packed operations: a row of letters, or else one. Answers how many, and the bytes after them. Refused
 // `BadFile` where none is there that is ready.
-fn take_some<'a>(
+fn take_letters_or_first<'a>(
     replica: &mut Replica,
     history: &mut History,
     alloc: Global,
@@ -58,6 +58,18 @@ fn take_some<'a>(
         },
         Err(why) => Err(why),
     }
+}
+
+// The same, and where many changes are noted then, they are noted together.
+fn take_some<'a>(
+    replica: &mut Replica,
+    history: &mut History,
+    alloc: Global,
+    bytes: &'a [u8],
+) -> Result<(u64, &'a [u8]), Refusal> {
+    let taken = take_letters_or_first(replica, history, alloc, bytes)?;
+    replica.note_together(MOST_NOTED)?;
+    Ok(taken)
 }
 
 // Takes in packed operations, of which there may be `MAX_PACKED`.
@@ -84,7 +96,7 @@ fn text_of(alloc: Global, head: Head, bytes: &[u8]) -> Result<Replica, Refusal> 
 }
 
 /// The text of a packed file, as its site kept it: with the same operations, taken in in the same order. Nothing waits
-/// for it, and nothing was cut last.
+/// for it, and nothing was cut last; its changes are told as those of one insertion where they are many.
 ///
 /// Refused `BadFile` where no text of a site has this file. Where it doesn't begin as one this is told before memory is
 /// asked for; where an operation is at fault, `OutOfMemory` may come in the place of it, as of all else. The time, and the

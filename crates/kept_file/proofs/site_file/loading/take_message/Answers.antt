@@ -4,7 +4,7 @@ use Rattle.operations.specs.Operation.{Operation}
 use Rattle.set_laws.specs.Verdict.{ready}
 use Rattle.texts.specs.Taking.{IsJudged}
 use Rattle.kept_file.proofs.OneMessage.{next_told, none_told}
-use Rattle.kept_file.proofs.site_file.loading.take_next.Goals as goal
+use Rattle.kept_file.proofs.site_file.loading.take_message.Goals as goal
 
 pub returns-in-Ok-clause-ok : goal.returns-in-Ok-clause-ok
 returns-in-Ok-clause-ok c =

@@ -3,7 +3,7 @@ use Rattle.looks.specs.declared.refusal.Refusal.TheVariants.{BadFile}
 use Rattle.set_laws.specs.Verdict.{ready}
 use Rattle.texts.specs.Taking.{IsJudged}
 use Rattle.texts.specs.TextState.{TextState}
-use Rattle.kept_file.proofs.packed_file.loading.take_some.Goals as goal
+use Rattle.kept_file.proofs.packed_file.loading.take_letters_or_first.Goals as goal
 
 pub returns-in-Err-take_first-clause-refused : goal.returns-in-Err-take_first-clause-refused
 returns-in-Err-take_first-clause-refused c = λ bad op rest first judged.
