@@ -6,6 +6,7 @@ import dataclasses
 import os
 import pathlib
 import re
+import shutil
 import signal
 import subprocess
 import sys
@@ -14,6 +15,7 @@ import time
 from collections.abc import Sequence
 from typing import TextIO
 
+TOP = pathlib.Path(__file__).resolve().parent.parent
 PR_SET_CHILD_SUBREAPER = 36
 COUNTED = re.compile(rb"Collected : (\d+)")
 STARTED = """
@@ -73,3 +75,13 @@ def instructions(command: Sequence[str], script: bytes) -> int:
     if not (found := COUNTED.search(ended.stderr)):
         sys.exit("valgrind counted nothing")
     return int(found[1])
+
+
+def ordinary() -> list[str] | None:
+    """The program as ordinary Rust, which is built where that is needed; none without cargo, which is said."""
+    if shutil.which("cargo") is None:
+        print("there is no cargo, so nothing is counted\n0 passed, 0 failed")
+        return None
+    environment = {**os.environ, "VIALSHOAL_BUILD": "rust"}
+    subprocess.run([TOP / "bin" / "site_cli"], stdin=subprocess.DEVNULL, stderr=subprocess.DEVNULL, env=environment, check=True)
+    return [str(TOP / "out" / "rust" / "site_cli")]
