@@ -126,7 +126,7 @@ def verdicts(lines: list[str], crates: Iterable[str]) -> dict[Verdict, list[str]
 
 
 def counted(found: dict[Verdict, list[str]], tried: int) -> tuple[int, list[str]]:
-    """How many bodies weren't refused, of so many, and what is printed: the counts, and each body that no clause was seen to refuse."""
+    """How many of the bodies tried weren't refused, and what is printed: the counts, and each that no clause was seen to refuse."""
     clause, proof, limit = (len(found[it]) for it in (Verdict.BY_A_CLAUSE, Verdict.BY_A_PROOF, Verdict.BY_A_LIMIT))
     missed = tried - clause - proof - limit
     others = [line[:120] for verdict, lines in found.items() if verdict is not Verdict.BY_A_CLAUSE for line in lines]
