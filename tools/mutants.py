@@ -8,8 +8,8 @@
 A file crates/NAME/mutants/MODULE.edits has the wrong bodies of src/MODULE.rt. Each begins with a line '== ITS-NAME', and
 an empty line parts it from the next. The gate tries those in must-fail/ alone.
 
-The prover also refuses a body where a stored proof names what the body took away, or at a limit of its own. Then no clause was seen to
-refuse it: such bodies are counted apart, and listed.
+The prover also refuses a body where a stored proof doesn't fit it any more, where one names what the body took away, and at a limit of the
+prover's own. Then no clause was seen to refuse it: such bodies are counted apart, and listed.
 """
 from __future__ import annotations
 
@@ -35,10 +35,11 @@ UNNAMED = "(no clause named)"
 class Verdict(Enum):
     """What a try came to, by the words of the prover's tool behind the body's name; in their order the first that fits."""
 
-    BY_A_PROOF = ": refused, as it must be (only because a proof file names"
-    BY_A_LIMIT = ": refused, as it must be (only by a limit"
-    BY_A_CLAUSE = ": refused, as it must be"
-    NOT_REFUSED = ""
+    BY_A_NAME = re.compile(r": refused, as it must be \(only because a proof file names")
+    BY_A_LIMIT = re.compile(r": refused, as it must be \(only by a limit")
+    BY_A_PROOF = re.compile(r": refused, as it must be: (?:note: )?(?:\./)?proofs/")
+    BY_A_CLAUSE = re.compile(r": refused, as it must be")
+    NOT_REFUSED = re.compile("")
 
 
 class Malformed(Exception):
@@ -121,17 +122,17 @@ def verdicts(lines: list[str], crates: Iterable[str]) -> dict[Verdict, list[str]
     found: dict[Verdict, list[str]] = {verdict: [] for verdict in Verdict}
     for line in lines:
         if line.startswith(heads):
-            found[next(verdict for verdict in Verdict if verdict.value in line)].append(line)
+            found[next(verdict for verdict in Verdict if verdict.value.search(line))].append(line)
     return found
 
 
 def counted(found: dict[Verdict, list[str]], tried: int) -> tuple[int, list[str]]:
     """How many of the bodies tried weren't refused, and what is printed: the counts, and each that no clause was seen to refuse."""
-    clause, proof, limit = (len(found[it]) for it in (Verdict.BY_A_CLAUSE, Verdict.BY_A_PROOF, Verdict.BY_A_LIMIT))
-    missed = tried - clause - proof - limit
+    clause, proof, name, limit = (len(found[it]) for it in (Verdict.BY_A_CLAUSE, Verdict.BY_A_PROOF, Verdict.BY_A_NAME, Verdict.BY_A_LIMIT))
+    missed = tried - clause - proof - name - limit
     others = [line[:120] for verdict, lines in found.items() if verdict is not Verdict.BY_A_CLAUSE for line in lines]
-    count = f"mutants: {tried} tried, {clause} refused by a clause, {proof} by a stored proof alone, {limit} at a limit of the prover"
-    return missed, [f"{count}, {missed} let through or not tried", *others]
+    counts = f"{clause} refused by a clause, {proof} by a stored proof, {name} by a name in one, {limit} at a limit of the prover"
+    return missed, [f"mutants: {tried} tried, {counts}, {missed} let through or not tried", *others]
 
 
 def try_all(bodies: dict[str, list[WrongBody]]) -> bool:

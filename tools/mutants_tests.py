@@ -13,6 +13,7 @@ SAID = [
     "rt: must-fail a/f--one.edit: refused, as it must be: note: src/a.rt:1:1: it is not proved that what the function ensures holds",
     "rt: must-fail a/f--two.edit: refused, as it must be (only because a proof file names what the edit took away, so this says little",
     "rt: must-fail a/f--three.edit: refused, as it must be (only by a limit of the prover, which gave no verdict, so this says less",
+    "rt: must-fail a/f--five.edit: refused, as it must be: ./proofs/a/f/Answers.antt:15:13: error: `loop-col-preserved`: as printed",
     "rt: must-fail a/f--four.edit: NOT REFUSED: the crate is still proved with this edit",
     "rt: must-fail low/g--one.edit: refused, as it must be: note: src/low.rt:1:1: it is not proved",
     "rt: a is kept",
@@ -37,11 +38,12 @@ class Mutants(unittest.TestCase):
 
     def test_what_a_clause_refuses_is_counted_apart(self) -> None:
         found = verdicts(SAID, ["a"])
-        self.assertEqual([len(found[verdict]) for verdict in Verdict], [1, 1, 1, 1])
-        missed, report = counted(found, 5)
+        self.assertEqual([len(found[verdict]) for verdict in Verdict], [1, 1, 1, 1, 1])
+        missed, report = counted(found, 6)
         self.assertEqual(missed, 2)
-        self.assertIn("5 tried, 1 refused by a clause, 1 by a stored proof alone, 1 at a limit of the prover, 2 let through", report[0])
-        self.assertEqual([line.split(":")[1] for line in report[1:]], [f" must-fail a/f--{name}.edit" for name in ("two", "three", "four")])
+        self.assertIn("1 refused by a clause, 1 by a stored proof, 1 by a name in one, 1 at a limit of the prover, 2 let", report[0])
+        listed = [line.split(":")[1] for line in report[1:]]
+        self.assertEqual(listed, [f" must-fail a/f--{name}.edit" for name in ("two", "three", "five", "four")])
 
 
 if __name__ == "__main__":
