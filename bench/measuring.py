@@ -17,6 +17,7 @@ from typing import TextIO
 
 TOP = pathlib.Path(__file__).resolve().parent.parent
 PR_SET_CHILD_SUBREAPER = 36
+PR_SET_THP_DISABLE = 41
 COUNTED = re.compile(rb"Collected : (\d+)")
 STARTED = """
     folder=$1; shift
@@ -66,6 +67,11 @@ def run(command: Sequence[str], script: bytes, busy: bool = False) -> Run:
             sys.exit(f"{' '.join(command)} ended with {code}")
         answers = (pathlib.Path(folder) / "answers").read_text().splitlines()
     return Run(answers, seconds, used.ru_maxrss * 1024)
+
+
+def without_large_pages() -> None:
+    """Has the system give all that is started from now on memory in small pages alone, so that it counts as it is used."""
+    ctypes.CDLL(None).prctl(PR_SET_THP_DISABLE, 1, 0, 0, 0)
 
 
 def instructions(command: Sequence[str], script: bytes) -> int:
