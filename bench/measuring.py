@@ -89,5 +89,5 @@ def ordinary() -> list[str] | None:
         print("there is no cargo, so nothing is counted\n0 passed, 0 failed")
         return None
     environment = {**os.environ, "VIALSHOAL_BUILD": "rust"}
-    subprocess.run([TOP / "bin" / "site_cli"], stdin=subprocess.DEVNULL, stderr=subprocess.DEVNULL, env=environment, check=True)
+    subprocess.run([TOP / "bin" / "site_cli"], stdin=subprocess.DEVNULL, env=environment, check=True)
     return [str(TOP / "out" / "rust" / "site_cli")]
