@@ -27,6 +27,11 @@ STRAIGHT = {
     "sites with a letter": Bar(18_000, 1_000),
     "repeats": Bar(6_000, 1_000),
     "conflicts": Bar(11_000, 1_000),
+    "drained": Bar(20_000, 1_000),
+    "typed by turns, all names": Bar(3_000, 1_000),
+    "typed by turns, where half is": Bar(5_000, 1_000),
+    "typed by turns, all cut": Bar(4_000, 1_000),
+    "typed by turns, all given a colour": Bar(4_000, 1_000),
 }
 # A step takes the longer the more there is, so that the whole is a square.
 SQUARE = {
