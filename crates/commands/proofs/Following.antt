@@ -1,5 +1,5 @@
 -- What a text grew by is what its changes tell.
-use Rattle.std.proofs.Common.{◌≡◌, ℕ, ◌-◌, List, take, drop, length, Contains, refl, sym, ap, subst, ◌∙◌, inl, inr, None}
+use Rattle.std.proofs.Common.{◌≡◌, ℕ, ◌-◌, List, take, length, Contains, refl, sym, ap, subst, ◌∙◌, inl, inr, None}
 use Rattle.std.specs.Prelude.{slice_get}
 use Rattle.std.proofs.lemmas.List.{set-set}
 use Rattle.std.proofs.Math.Seq.{take-append_seam}
@@ -15,7 +15,7 @@ use Rattle.tree_order.proofs.OneText.{shows_one_text}
 use Rattle.tree_order.proofs.SameSet.{char}
 use Rattle.tree_order.specs.Shown.{IsShown}
 use Rattle.set_laws.specs.Sets.{IsPartOf}
-use Rattle.taken_text.proofs.Noting.{all_lead}
+use Rattle.taken_text.proofs.Noting.{since_leads}
 use Rattle.taken_text.specs.Noted.{AreChangesSince, SameChar}
 use Rattle.texts.proofs.Chars.{grown_keeps_the_order, shows_the_definition}
 use Rattle.texts.specs.Text.{IsAnchor}
@@ -43,7 +43,7 @@ leads_since t u changes told grows since =
     (subst (λ (ops : List Operation). IsShown ops since.was) all since.shown)
     ∙ sym ((shows_one_text t.operations grows.was.good).only (shown_of t) (shows_the_definition t grows.was)) in
     subst (λ (shown : List Char). Leads SameChar changes shown (shown_of u)) was
-    (all_lead (take u.asked u.operations) (drop u.asked u.operations) changes since.was (shown_of u) since.told)
+    (since_leads u.asked u.operations changes (shown_of u) since)
 
 -- a text that has grown follows by the changes that it tells then
 text_follows : (t u : TextState) (changes : List Change) → t.asked ≡ length t.operations → Grows t u

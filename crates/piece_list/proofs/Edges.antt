@@ -18,6 +18,7 @@ use Rattle.piece_list.proofs.SplitList.{is_piece, split_spells, split_counts}
 use Rattle.piece_list.proofs.Found.{member_at, one_value, entry_of, some_is, name_has_spot}
 use Rattle.piece_list.proofs.Gap.{all_left, all_right}
 use Rattle.piece_list.proofs.Placing.{split_others}
+use Rattle.piece_list.proofs.Spent.{unlike_after_split}
 
 abbrev Items : Type 0
 Items = List (ℕ × Piece)
@@ -188,6 +189,7 @@ split_once old new tag n u tags some split =
     let more : length new ≡ length old + 1 = split_counts old new tag n u split in
     record {
       spells = split_spells old new tag n u split;
+      unlike_more = unlike_after_split old new tag n u split;
       few = omega (arith, more);
       edges = edges_after_split old new tag n u split;
       firsts = λ t d is. split_others old new tag n u tags split (record { piece = t; within = 0 }) d is (inr some);
@@ -196,6 +198,7 @@ split_once old new tag n u tags some split =
 pub not_split : (items : Items) → AreSplitOnce items items
 not_split items = record {
   spells = refl;
+  unlike_more = λ hidden. omega arith;
   few = omega arith;
   edges = λ site off edge. edge;
   firsts = λ tag d is. is;

@@ -3,6 +3,7 @@ pub mod ChangedNames
 pub mod ChangedPiece
 pub mod Changes
 pub mod CharOf
+pub mod Spent
 pub mod Split
 pub mod SplitList
 pub mod Splitting

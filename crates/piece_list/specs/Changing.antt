@@ -1,5 +1,6 @@
 -- How the characters of a set of names are changed, piece by piece.
-use Rattle.std.specs.Prelude.{◌≡◌, ℕ, ◌+◌, ◌<◌, ◌≤◌, true, List, All, Contains, length}
+use Rattle.std.specs.Prelude.{◌≡◌, ℕ, ◌+◌, ◌<◌, ◌≤◌, Bool, true, false, if◌then◌else◌, List, All, Contains, length}
+use Rattle.std.specs.List.{sum_by}
 use Rattle.looks.specs.Key.{is_below}
 use Rattle.looks.specs.declared.key.Key.{Key}
 use Rattle.char_files.specs.CharName.{CharName}
@@ -51,9 +52,19 @@ pub record AreTheSame (old new : List (ℕ × Piece)) : Type 0 where
   pub edges : (site off : ℕ) → IsEdge site off old → IsEdge site off new
   pub firsts : KeepFirsts old new
 
+-- 1 for a value of the register that hides other than this one, else 0
+abbrev pub differs : (hidden value : Bool) → ℕ
+differs true value = if value then 0 else 1
+differs false value = if value then 1 else 0
+
+-- how many pieces are hidden, or shown, other than this
+abbrev pub unlike : (hidden : Bool) → List (ℕ × Piece) → ℕ
+unlike hidden items = sum_by (λ m. differs hidden m.1.hidden.value) items
+
 -- the same characters in the same pieces, one of which may be split in two
 pub record AreSplitOnce (old new : List (ℕ × Piece)) : Type 0 where
   pub spells : spelled new ≡ spelled old
+  pub unlike_more : (hidden : Bool) → unlike hidden new ≤ unlike hidden old + 1
   pub few : length new ≤ length old + 1
   pub edges : (site off : ℕ) → IsEdge site off old → IsEdge site off new
   pub firsts : KeepFirsts old new

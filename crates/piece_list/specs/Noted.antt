@@ -1,5 +1,5 @@
 -- How a note tells what a change of characters makes of what is shown.
-use Rattle.std.specs.Prelude.{◌≡◌, ℕ, ◌+◌, ◌≤◌, ◌++◌, Bool, true, false, not, List, map, take, drop, All}
+use Rattle.std.specs.Prelude.{◌≡◌, ℕ, ◌+◌, ◌*◌, ◌<◌, ◌≤◌, ◌++◌, Bool, true, false, not, List, map, take, drop, length, min, All}
 use Rattle.std.specs.Prelude.{Vec, vec_len, vec_capacity}
 use Rattle.std.specs.declared.alloc.Global.{Global}
 use Rattle.std.specs.List.{sum_by}
@@ -11,6 +11,7 @@ use Rattle.list_changes.specs.declared.change.ChangeKind.TheVariants.{Insert, De
 use Rattle.list_changes.specs.Changes.{IsOfKind, Leads}
 use Rattle.piece_list.specs.declared.setting.Setting.{Setting}
 use Rattle.piece_list.specs.declared.setting.Setting.TheVariants.{Switch, Relook}
+use Rattle.piece_list.specs.Changing.{unlike}
 use Rattle.piece_list.specs.Piece.{Piece}
 use Rattle.piece_list.specs.Shown.{Appearance, appearance_of, looks_of}
 use Rattle.piece_list.specs.Spelled.{spelled, shown_chars}
@@ -59,11 +60,19 @@ abbrev pub IsNoted : Setting → List Range → (old new : List Change) → (was
 IsNoted setting names old new was now =
     Notes (λ change. IsOf setting names (appearances was) change) old new (appearances was) (appearances now)
 
--- the note tells it where it had room for so many entries, and gains no more than those
-pub record AreNoted (setting : Setting) (names : List Range) (n : ℕ) (old new : Vec Change Global)
+-- each entry of a switch is of a piece that is switched, which it isn't again; splits add some pieces
+abbrev pub IsSpent : Setting → ℕ → (old new : Vec Change Global) → (was now : List (ℕ × Piece)) → Type 0
+IsSpent (Switch hidden key) splits old new was now = vec_len new + unlike hidden now
+    ≤ vec_len old + unlike hidden was + splits
+IsSpent (Relook sel looks key) splits old new was now = Unit {0}
+
+-- the note tells it where it isn't full then, and gains no more than so many entries, and a switch no more than one a piece
+pub record AreNoted (setting : Setting) (names : List Range) (n splits : ℕ) (old new : Vec Change Global)
     (was now : List (ℕ × Piece)) : Type 0 where
-  pub told : vec_len old + n ≤ vec_capacity old → IsNoted setting names old.items new.items was now
+  pub told : vec_len new < vec_capacity old → IsNoted setting names old.items new.items was now
+  pub grows : vec_len old ≤ vec_len new
   pub few : vec_len new ≤ vec_len old + n
+  pub spent : IsSpent setting splits old new was now
   pub capacity : vec_capacity old ≤ vec_capacity new
 
 -- a piece may show something else after the setting: it was hidden and is shown, or the other way round, or it is
@@ -80,3 +89,8 @@ ShowsTheSame old new =
 -- how many names the ranges have
 abbrev pub name_count : List Range → ℕ
 name_count ranges = sum_by (λ r. r.len) ranges
+
+-- room in a note for one entry more than it may gain
+abbrev pub entry_room : Setting → List Range → List (ℕ × Piece) → ℕ
+entry_room (Switch hidden key) names items = min (name_count names) (length items) + 2 * length names + 1
+entry_room (Relook sel looks key) names items = name_count names + 1

@@ -1,5 +1,5 @@
 -- The tables that say which piece holds a name.
-use Rattle.std.specs.Prelude.{ℕ, nat_eq, List, [], Option, None, Some, slice_index_or, if◌then◌else◌}
+use Rattle.std.specs.Prelude.{ℕ, ◌+◌, ◌++◌, take, drop, replicate, nat_eq, List, [], Option, None, Some, slice_index_or, if◌then◌else◌}
 use Rattle.std.specs.Option.{option_map_or}
 use Rattle.std.specs.Map.{lookup}
 use Rattle.char_files.specs.CharName.{CharName}
@@ -12,6 +12,10 @@ tag_of n = if nat_eq n NO_TAG then None else Some n
 -- the number of the piece that holds the byte at an offset, if one does
 abbrev pub tag_in : List (Option ℕ) → ℕ → Option ℕ
 tag_in tags off = slice_index_or tags off None
+
+-- entries of which those from an offset on, so many, are written over by this tag
+abbrev pub written : List ℕ → (off len tag : ℕ) → List ℕ
+written tags off len tag = take off tags ++ (replicate len tag ++ drop (off + len) tags)
 
 -- tables by their sites' numbers
 abbrev pub Tables : Type 0

@@ -1,6 +1,6 @@
-ghost use Rattle.std.specs.Prelude.{◌≡◌, ◌≢◌, ℕ, ◌+◌, ◌<◌, ◌≤◌, [], Some as Just, length, OnOk};
+ghost use Rattle.std.specs.Prelude.{◌≡◌, ◌≢◌, ℕ, ◌+◌, ◌<◌, ◌≤◌, [], Some as Just, length, replicate, OnOk};
 ghost use Rattle.looks.specs.Refusal.{RefusedForMemoryAlone};
-ghost use Rattle.piece_list.specs.Tables.{tag_in, table_of, tag_at};
+ghost use Rattle.piece_list.specs.Tables.{tag_in, table_of, tag_at, written};
 ghost use Rattle.piece_list.specs.declared.tags.TheConstants.{NO_TAG};
 
 use char_files::{Name, SiteMap, SiteNo};
@@ -10,6 +10,9 @@ use std::marker::Model;
 
 // What stands where no piece holds a byte.
 const NO_TAG: u32 = u32::MAX;
+
+// How many entries are written one by one.
+const FEW: usize = 32;
 
 // Beside each byte of a site's file, the number of the piece that holds it, in four bytes.
 #[derive(Drop)]
@@ -24,6 +27,28 @@ impl Model for SiteTags {
     ghost Value = { List (Option ℕ) };
 
     ghost view = { λ t. map tag_of t.tags.items };
+}
+
+// Writes this tag in all entries: in a few one by one, and then what is written is copied to as many again, a block of memory at a time.
+fn spread(tags: &mut [u32], tag: u32)
+    ensures { tags.new ≡ replicate (length tags.old) tag }
+{
+    if tags.len() <= FEW {
+        tags.fill(tag);
+        return;
+    }
+    let half = tags.len() / 2;
+    let (front, back) = tags.split_at_mut(tags.len() - half);
+    spread(front, tag);
+    back.copy_from_slice(&front[..half]);
+}
+
+// Writes this tag in the entries from an offset on.
+fn overwrite(tags: &mut Vec<u32>, off: usize, len: usize, tag: u32)
+    requires { off + len ≤ length tags.old.items }
+    ensures { tags.new.items ≡ written tags.old.items off len tag }
+{
+    spread(&mut tags[off..off + len], tag);
 }
 
 impl SiteTags {
@@ -58,9 +83,7 @@ impl SiteTags {
         ensures after { (at : ℕ) → off + len ≤ at → tag_in self.new at ≡ tag_in self.old at }
         ensures long { length self.new ≡ length self.old }
     {
-        for at in off as usize..off as usize + len as usize {
-            self.tags[at] = tag as u32;
-        }
+        overwrite(&mut self.tags, off as usize, len as usize, tag as u32);
     }
 }
 

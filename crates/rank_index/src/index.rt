@@ -319,6 +319,13 @@ impl RankIndex {
         )
     }
 
+    /// How many members there are.
+    pub fn len(&self) -> usize
+        ensures { result ≡ length self.now.items }
+    {
+        self.homes.len()
+    }
+
     /// The sum of all weights.
     pub fn total(&self) -> u64
         ensures total { result ≡ weight_of self.now.items }

@@ -20,7 +20,7 @@ abbrev name : (site off : ℕ) → CharName
 name site off = record { site = site; off = off }
 
 -- n + m names are n of them and m of them
-names_cut : (site at n m : ℕ) → names_of (range site at (n + m)) ≡ names_of (range site at n) ++ names_of (range site (at + n) m)
+pub names_cut : (site at n m : ℕ) → names_of (range site at (n + m)) ≡ names_of (range site at n) ++ names_of (range site (at + n) m)
 names_cut site at zero m = (λ k. names_of (range site (at_is k) (len_is k)))
   where
     at_is : at ≡ at + zero

@@ -7,6 +7,7 @@ pub mod Placed
 pub mod Ready
 pub mod RowChars
 pub mod Runs
+pub mod SameNames
 pub mod Spelling
 pub mod Stretch
 pub mod Taking

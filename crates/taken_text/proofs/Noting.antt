@@ -1,5 +1,5 @@
 -- What a note tells of a text, operation by operation.
-use Rattle.std.proofs.Common.{◌≡◌, ℕ, ◌+◌, ◌-◌, not, List, [], ◌∷◌, ◌++◌, length, get_or, map, take, drop, All, refl, sym, ap, subst, ◌∙◌, inl, inr, arith, append_assoc}
+use Rattle.std.proofs.Common.{◌≡◌, ℕ, zero, suc, ◌+◌, ◌-◌, ◌<◌, ◌≤◌, ◌⊎◌, not, List, [], ◌∷◌, ◌++◌, length, get_or, map, take, drop, All, refl, sym, ap, subst, ◌∙◌, inl, inr, arith, append_assoc}
 use Rattle.std.specs.Prelude.{slice_index, slice_range}
 use Rattle.std.proofs.lemmas.Bool.{cases_lt}
 use Rattle.std.proofs.lemmas.List.{append-nil, length-append, length-take, take_all, take-append-le, drop-append-le, drop_all, drop-take, drop-map, take-map, take-append-drop}
@@ -14,6 +14,7 @@ use Rattle.looks.specs.Sel.{Selection}
 use Rattle.looks.specs.declared.looks.Looks.{Looks}
 use Rattle.list_changes.specs.Changes.{Leads}
 use Rattle.list_changes.specs.declared.change.Change.{Change}
+use Rattle.list_changes.specs.declared.change.ChangeKind.TheVariants.{Insert}
 use Rattle.tree_order.specs.Registers.{Atom}
 use Rattle.tree_order.specs.Shown.{IsShown}
 use Rattle.list_changes.proofs.Leading.{leads-append, leads-mapped}
@@ -21,11 +22,12 @@ use Rattle.piece_list.specs.Piece.{Piece}
 use Rattle.piece_list.specs.Noted.{Notes, SameName, IsReplaceOf, appearances, names_shown}
 use Rattle.piece_list.specs.Shown.{Appearance, appearance_of}
 use Rattle.piece_list.specs.Spelled.{spelled, shown_chars}
-use Rattle.taken_text.specs.Noted.{AreChangesOf, AreChangesOfAll, AreChangesSince, GainsChangesOf, IsChangeOf, SameChar}
+use Rattle.taken_text.specs.Noted.{AreChangesAfter, AreChangesOf, AreChangesOfAll, AreChangesSince, AreToldTogether, GainsChangesOf, IsChangeOf, SameChar, insertion_of}
 use Rattle.taken_text.specs.Shown.{with_byte}
 use Rattle.taken_text.specs.Taken.{IsTaken, char_in, chars_shown}
 use Rattle.taken_text.proofs.Bytes.{byte_stays}
 use Rattle.taken_text.proofs.Counted.{HasByteIn, have_bytes}
+use Rattle.taken_text.proofs.Nothing.{nothing_is_taken}
 use Rattle.taken_text.proofs.Spelling.{is_shown}
 
 abbrev Items : Type 0
@@ -165,43 +167,133 @@ told_more ops (o ∷ more) op changes gained was mid now (here, rest, next, part
       (subst (λ (l : List Operation). AreChangesOf l op gained mid now) (sym (append_assoc ops (o ∷ []) more)) told),
 )
 
+after_more : (n : ℕ) (ops : List Operation) (op : Operation) (changes gained : List Change) (was mid now : List Char)
+    → AreChangesAfter n ops changes was mid → AreChangesOf ops op gained mid now
+    → AreChangesAfter n (ops ++ op ∷ []) (changes ++ gained) was now
+after_more n ops op changes gained was mid now after one =
+    let front : take n (ops ++ op ∷ []) ≡ take n ops = take-append-le n ops (op ∷ []) after.within in
+    let back : drop n (ops ++ op ∷ []) ≡ drop n ops ++ op ∷ [] = drop-append-le n ops (op ∷ []) after.within in
+    let told : AreChangesOf (take n ops ++ drop n ops) op gained mid now =
+    subst (λ (l : List Operation). AreChangesOf l op gained mid now) (sym (take-append-drop n ops)) one in
+    let all : AreChangesOfAll (take n ops) (drop n ops ++ op ∷ []) (changes ++ gained) was now =
+    told_more (take n ops) (drop n ops) op changes gained was mid now after.told told in
+    record {
+      within = omega (arith, after.within, length-append ops (op ∷ []));
+      shown = subst (λ (l : List Operation). IsShown l was) (sym front) after.shown;
+      told = subst (λ (l : List Operation). AreChangesOfAll l (drop n (ops ++ op ∷ [])) (changes ++ gained) was now) (sym front)
+          (subst (λ (l : List Operation). AreChangesOfAll (take n ops) l (changes ++ gained) was now) (sym back) all);
+    }
+
+-- so it is whether they tell of each or of the first together
+told_so_more : (asked : ℕ) (ops : List Operation) (op : Operation) (changes gained : List Change) (was mid now : List Char)
+    → AreChangesAfter asked ops changes was mid ⊎ AreToldTogether asked ops changes was mid → AreChangesOf ops op gained mid now
+    → AreChangesAfter asked (ops ++ op ∷ []) (changes ++ gained) was now ⊎ AreToldTogether asked (ops ++ op ∷ []) (changes ++ gained) was now
+told_so_more asked ops op changes gained was mid now (inl after) one =
+    inl (after_more asked ops op changes gained was mid now after one)
+told_so_more asked ops op changes gained was mid now (inr together) one = inr (record {
+  first = together.first;
+  nothing = together.nothing;
+  together = together.together;
+  mid = together.mid;
+  rest = together.rest ++ gained;
+  begin = ap (λ (l : List Change). l ++ gained) together.begin
+      ∙ append_assoc (insertion_of (length together.mid)) together.rest gained;
+  others = after_more together.together ops op together.rest gained together.mid mid now together.others one;
+})
+
+-- there are no more operations before them than there are
+asked_within : (asked : ℕ) (ops : List Operation) (changes : List Change) (was now : List Char)
+    → AreChangesAfter asked ops changes was now ⊎ AreToldTogether asked ops changes was now → asked ≤ length ops
+asked_within asked ops changes was now (inl after) = after.within
+asked_within asked ops changes was now (inr together) = omega (arith, together.first)
+
 pub since_more : (asked : ℕ) (ops : List Operation) (op : Operation) (old new : List Change) (was now : List Char)
     → AreChangesSince asked ops old was → GainsChangesOf ops op old new was now
     → AreChangesSince asked (ops ++ op ∷ []) new now
 since_more asked ops op old new was now since gains =
-    let front : take asked (ops ++ op ∷ []) ≡ take asked ops = take-append-le asked ops (op ∷ []) since.within in
-    let back : drop asked (ops ++ op ∷ []) ≡ drop asked ops ++ op ∷ [] = drop-append-le asked ops (op ∷ []) since.within in
-    let told : AreChangesOf (take asked ops ++ drop asked ops) op gains.gained was now =
-    subst (λ (l : List Operation). AreChangesOf l op gains.gained was now) (sym (take-append-drop asked ops)) gains.told in
-    let all : AreChangesOfAll (take asked ops) (drop asked ops ++ op ∷ []) (old ++ gains.gained) since.was now =
-    told_more (take asked ops) (drop asked ops) op old gains.gained since.was was now since.told told in
+    let front : take asked (ops ++ op ∷ []) ≡ take asked ops =
+    take-append-le asked ops (op ∷ []) (asked_within asked ops old since.was was since.told) in
     record {
-      within = omega (arith, since.within, length-append ops (op ∷ []));
       was = since.was;
       shown = subst (λ (l : List Operation). IsShown l since.was) (sym front) since.shown;
-      told = subst (λ (l : List Operation). AreChangesOfAll l (drop asked (ops ++ op ∷ [])) new since.was now) (sym front)
-          (subst (λ (l : List Operation). AreChangesOfAll (take asked ops) l new since.was now) (sym back)
-          (subst (λ (l : List Change). AreChangesOfAll (take asked ops) (drop asked ops ++ op ∷ []) l since.was now)
-          (sym gains.kept) all));
+      told = subst (λ (l : List Change). AreChangesAfter asked (ops ++ op ∷ []) l since.was now
+          ⊎ AreToldTogether asked (ops ++ op ∷ []) l since.was now) (sym gains.kept)
+          (told_so_more asked ops op old gains.gained since.was was now since.told gains.told);
     }
 
 -- where all are told there is nothing to tell
-pub since_now : (ops : List Operation) (items : Items) (files : Files) → IsTaken ops items files
-    → AreChangesSince (length ops) ops [] (chars_shown items files)
-since_now ops items files taken = record {
+after_all : (ops : List Operation) (shown : List Char) → IsShown ops shown → AreChangesAfter (length ops) ops [] shown shown
+after_all ops shown is = record {
   within = omega arith;
-  was = chars_shown items files;
-  shown = subst (λ (l : List Operation). IsShown l (chars_shown items files)) (sym (take_all (length ops) ops (omega arith)))
-      (is_shown ops items files taken);
-  told = subst (λ (l : List Operation). AreChangesOfAll (take (length ops) ops) l [] (chars_shown items files) (chars_shown items files))
+  shown = subst (λ (l : List Operation). IsShown l shown) (sym (take_all (length ops) ops (omega arith))) is;
+  told = subst (λ (l : List Operation). AreChangesOfAll (take (length ops) ops) l [] shown shown)
       (sym (drop_all (length ops) ops (omega arith))) (refl, refl);
 }
 
+pub since_now : (ops : List Operation) (items : Items) (files : Files) → IsTaken ops items files
+    → AreChangesSince (length ops) ops [] (chars_shown items files)
+since_now ops items files taken =
+    let after : AreChangesAfter (length ops) ops [] (chars_shown items files) (chars_shown items files) =
+    after_all ops (chars_shown items files) (is_shown ops items files taken) in
+    record { was = chars_shown items files; shown = after.shown; told = inl after }
+
+-- one insertion tells of all operations together
+pub since_together : (asked : ℕ) (ops : List Operation) (items : Items) (files : Files) → asked ≡ 0 → IsTaken ops items files
+    → AreChangesSince asked ops (insertion_of (length (chars_shown items files))) (chars_shown items files)
+since_together asked ops items files none taken = record {
+  was = [];
+  shown = subst (λ (n : ℕ). IsShown (take n ops) []) (sym none) (is_shown [] [] [] nothing_is_taken);
+  told = inr (record {
+    first = none;
+    nothing = refl;
+    together = length ops;
+    mid = chars_shown items files;
+    rest = [];
+    begin = sym (append-nil (insertion_of (length (chars_shown items files))));
+    others = after_all ops (chars_shown items files) (is_shown ops items files taken);
+  });
+}
+
+pub is_insertion : (len : ℕ) (note : List Change) → (0 < len → note ≡ record { kind = Insert; beg = 0; end = len } ∷ [])
+    → (len ≡ 0 → note ≡ []) → note ≡ insertion_of len
+is_insertion zero note some none = none refl
+is_insertion (suc n) note some none = some (omega arith)
+
 -- the changes lead from what was shown to what is shown
-pub all_lead : (ops more : List Operation) (changes : List Change) (was now : List Char)
+all_lead : (ops more : List Operation) (changes : List Change) (was now : List Char)
     → AreChangesOfAll ops more changes was now → Leads SameChar changes was now
 all_lead ops [] changes was now (none, same) =
     subst (λ (l : List Change). Leads SameChar l was now) (sym none) same
 all_lead ops (op ∷ more) changes was now (here, rest, mid, parts, one, others) =
     subst (λ (l : List Change). Leads SameChar l was now) (sym parts)
     (leads-append SameChar here rest was mid now one.leads (all_lead (ops ++ op ∷ []) more rest mid now others))
+
+insertion_leads : (chars : List Char) → Leads SameChar (insertion_of (length chars)) [] chars
+insertion_leads [] = refl
+insertion_leads (c ∷ chars) = (
+  c ∷ chars,
+  record {
+    front = [];
+    gone = [];
+    come = c ∷ chars;
+    back = [];
+    before = refl;
+    after = sym (append-nil (c ∷ chars));
+    at = refl;
+    trades = (refl, omega arith);
+  },
+  refl,
+)
+
+told_so_lead : (asked : ℕ) (ops : List Operation) (changes : List Change) (was now : List Char)
+    → AreChangesAfter asked ops changes was now ⊎ AreToldTogether asked ops changes was now → Leads SameChar changes was now
+told_so_lead asked ops changes was now (inl after) = all_lead (take asked ops) (drop asked ops) changes was now after.told
+told_so_lead asked ops changes was now (inr t) =
+    subst (λ (l : List Char). Leads SameChar changes l now) (sym t.nothing)
+    (subst (λ (l : List Change). Leads SameChar l [] now) (sym t.begin)
+    (leads-append SameChar (insertion_of (length t.mid)) t.rest [] t.mid now (insertion_leads t.mid)
+    (all_lead (take t.together ops) (drop t.together ops) t.rest t.mid now t.others.told)))
+
+pub since_leads : (asked : ℕ) (ops : List Operation) (changes : List Change) (now : List Char)
+    → (since : AreChangesSince asked ops changes now) → Leads SameChar changes since.was now
+since_leads asked ops changes now since = told_so_lead asked ops changes since.was now since.told

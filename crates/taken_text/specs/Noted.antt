@@ -1,5 +1,5 @@
 -- What a note of changes tells of what is shown, operation by operation.
-use Rattle.std.specs.Prelude.{◌≡◌, ℕ, ◌≤◌, List, [], ◌∷◌, ◌++◌, length, take, drop, All, slice_range}
+use Rattle.std.specs.Prelude.{◌≡◌, ℕ, zero, suc, ◌≤◌, ◌⊎◌, List, [], ◌∷◌, ◌++◌, length, take, drop, All, slice_range}
 use Rattle.char_files.specs.declared.character.Char.{Char}
 use Rattle.operations.specs.NameSet.{IsAmong}
 use Rattle.operations.specs.Operation.{Operation, OpKind, insert, delete, restore, change_looks}
@@ -38,12 +38,34 @@ AreChangesOfAll ops (op ∷ more) changes was now =
     (here rest : List Change) × (mid : List Char) × (changes ≡ here ++ rest) × AreChangesOf ops op here was mid
     × AreChangesOfAll (ops ++ op ∷ []) more rest mid now
 
--- the changes tell what the operations after the first so many made of what these show
+-- the changes tell what the operations after the first n made of what these show
+pub record AreChangesAfter (n : ℕ) (ops : List Operation) (changes : List Change) (was now : List Char) : Type 0 where
+  pub within : n ≤ length ops
+  pub shown : IsShown (take n ops) was
+  pub told : AreChangesOfAll (take n ops) (drop n ops) changes was now
+
+-- one insertion of so many characters; none of no characters
+abbrev pub insertion_of : ℕ → List Change
+insertion_of zero = []
+insertion_of (suc n) = record { kind = Insert; beg = 0; end = suc n } ∷ []
+
+-- nothing was told of before, and the changes tell of the first operations together, as one insertion of all that they show,
+-- and then of the others
+pub record AreToldTogether (asked : ℕ) (ops : List Operation) (changes : List Change) (was now : List Char) : Type 0 where
+  pub first : asked ≡ 0
+  pub nothing : was ≡ []
+  pub together : ℕ
+  pub mid : List Char
+  pub rest : List Change
+  pub begin : changes ≡ insertion_of (length mid) ++ rest
+  pub others : AreChangesAfter together ops rest mid now
+
+-- The changes tell what the operations after the first so many made of what these show: of each of them, or, where there are
+-- none before them, of the first together.
 pub record AreChangesSince (asked : ℕ) (ops : List Operation) (changes : List Change) (now : List Char) : Type 0 where
-  pub within : asked ≤ length ops
   pub was : List Char
   pub shown : IsShown (take asked ops) was
-  pub told : AreChangesOfAll (take asked ops) (drop asked ops) changes was now
+  pub told : AreChangesAfter asked ops changes was now ⊎ AreToldTogether asked ops changes was now
 
 -- the note has gained changes that tell of this operation, and of nothing else
 pub record GainsChangesOf (ops : List Operation) (op : Operation) (old new : List Change) (was now : List Char) : Type 0 where

@@ -1,6 +1,7 @@
 //! A text as the operations that were taken in make it.
 #![tactic(auto)]
 
+mod joining;
 mod letters;
 mod named;
 mod rows;

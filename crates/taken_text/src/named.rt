@@ -10,6 +10,7 @@ ghost use Rattle.tree_order.specs.Shown.{is_visible};
 ghost use Rattle.tree_order.specs.Tree.{IsChar};
 ghost use Rattle.taken_text.specs.Named.{has_visibility, names_with};
 
+use crate::joining::{joined, push_joined};
 use crate::taken_text::TakenText;
 use char_files::Name;
 use looks::Refusal;
@@ -66,14 +67,15 @@ impl TakenText {
         while at < end {
             let (shown, len) = self.first_alike(NameRange::new(range.site(), at, end - at));
             if shown == visible {
-                found.push(NameRange::new(range.site(), at, len))?;
+                push_joined(found, NameRange::new(range.site(), at, len))?;
             }
             at += len;
         }
         Ok(())
     }
 
-    /// Whether a character of these names is shown, or is hidden. One step a piece, each found by one entry of a table.
+    /// Whether a character of these names is shown, or is hidden. One step a piece of each range, each found by one entry of a
+    /// table; it takes no memory.
     pub fn has_any(&self, names: &[NameRange], visible: bool) -> bool
         requires { (c : CharName) → IsAmong names.now c → IsChar self.now.operations c }
         ensures { result ≡ list_any (has_visibility self.now.operations visible) (names_in names.now) }
@@ -97,8 +99,9 @@ impl TakenText {
             → MAX_RANGES < length (names_with self.now visible names.now) }
         ensures errors { IfErr result (λ e. (e ≡ Refusal.Scattered) ⊎ (e ≡ Refusal.OutOfMemory)) }
     {
+        let ranges = joined(self.alloc, names)?;
         let mut found = Vec::new(self.alloc);
-        for range in names {
+        for range in &ranges {
             self.gather_from(*range, visible, &mut found)?;
         }
         NameSet::of_all(found)

@@ -7,12 +7,12 @@ ghost use Rattle.tree_order.specs.Insertion.{IsInsertAt};
 ghost use Rattle.tree_order.specs.Shown.{IsPlace};
 ghost use Rattle.tree_order.specs.Tree.{IsChar};
 ghost use Rattle.set_laws.specs.Verdict.{HasVerdict, IsNew, ready};
-ghost use Rattle.taken_text.specs.Noted.{AreChangesSince, GainsChangesOf};
+ghost use Rattle.taken_text.specs.Noted.{AreChangesSince, GainsChangesOf, insertion_of};
 ghost use Rattle.taken_text.specs.Taken.{IsDefined, IsTaken, chars_shown, shown_of};
 
 use crate::shown::Shown;
 use char_files::{Char, CharFiles, Name};
-use list_changes::Change;
+use list_changes::{Change, ChangeKind};
 use looks::Refusal;
 use op_log::Log;
 use operations::{Kind, Op};
@@ -120,6 +120,22 @@ fn apply(
     }
 }
 
+// One insertion of so many characters, where there is one. Refused `OutOfMemory` alone.
+fn insertion_of(alloc: Global, len: u64) -> Result<Vec<Change>, Refusal>
+    ensures ok { IfOk result (λ note. note.items ≡ insertion_of len) }
+    ensures errors { RefusedForMemoryAlone result }
+{
+    let mut note = Vec::new(alloc);
+    if len > 0 {
+        note.push(Change {
+            kind: ChangeKind::Insert,
+            beg: 0,
+            end: len,
+        })?;
+    }
+    Ok(note)
+}
+
 impl TakenText {
     /// Nothing taken in, and no characters. Refused `OutOfMemory` alone.
     pub fn new(alloc: Global) -> Result<TakenText, Refusal>
@@ -195,6 +211,19 @@ impl TakenText {
     {
         self.asked = self.log.len();
         mem::replace(&mut self.note, Vec::new(self.alloc))
+    }
+
+    /// Where more changes than so many are noted, and none was asked for before, one insertion of all that is shown is noted in
+    /// their place. Refused `OutOfMemory` alone, and then the note stays.
+    pub fn note_together(&mut self, most: usize) -> Result<(), Refusal>
+        ensures same { self.new ≡ self.old }
+        ensures errors { RefusedForMemoryAlone result }
+    {
+        if self.asked > 0 || self.note.len() <= most {
+            return Ok(());
+        }
+        self.note = insertion_of(self.alloc, self.pieces.shown_len())?;
+        Ok(())
     }
 
     /// Takes in an operation that is ready: it stands after those that were taken in, and the characters are

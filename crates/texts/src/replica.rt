@@ -228,4 +228,13 @@ impl Replica {
     {
         self.taken.changes()
     }
+
+    /// Where more changes than so many are kept, and none was asked for before, one insertion of all that is shown is kept in
+    /// their place. Refused `OutOfMemory` alone, and then they stay.
+    pub fn note_together(&mut self, most: usize) -> Result<(), Refusal>
+        ensures same { self.new ≡ self.old }
+        ensures errors { RefusedForMemoryAlone result }
+    {
+        self.taken.note_together(most)
+    }
 }

@@ -1,16 +1,17 @@
 //! How the characters of a set of names are changed: piece by piece, between splits at each range's ends.
 
-ghost use Rattle.std.specs.Prelude.{◌≡◌, ℕ, ◌+◌, ◌-◌, ◌*◌, ◌<◌, ◌≤◌, true, false, [], ◌∷◌, length, map, OnOk};
+ghost use Rattle.std.specs.Prelude.{◌≡◌, ℕ, ◌+◌, ◌-◌, ◌*◌, ◌<◌, ◌≤◌, true, false, [], ◌∷◌, length, map, min, OnOk};
 ghost use Rattle.std.specs.Prelude.{◌++◌, ◌^◌, OnErr, IsTrue, vec_len, vec_capacity};
 ghost use Rattle.looks.specs.Refusal.{RefusedForMemoryAlone};
 ghost use Rattle.operations.specs.NameSet.{IsIn, IsSet};
 ghost use Rattle.operations.specs.declared.name_set.TheConstants.{MAX_RANGES};
+ghost use Rattle.char_files.specs.declared.TheConstants.{MAX_FILE};
 ghost use Rattle.tree_order.specs.Registers.{if_named, switched, relooked};
 ghost use Rattle.piece_list.specs.Changing.{changed_piece, changed_char, AreHere, IsEdge, IsNextEdge, AreTheSame};
 ghost use Rattle.piece_list.specs.Changing.{AreBelow, AreSplitOnce, key_of};
 ghost use Rattle.piece_list.specs.Held.{KeepFirsts};
 ghost use Rattle.piece_list.specs.Noted.{Notes, IsNoted, AreNoted, IsReplaceOf, ShowsOther, ShowsTheSame, appearances};
-ghost use Rattle.piece_list.specs.Noted.{kind_of, name_count};
+ghost use Rattle.piece_list.specs.Noted.{entry_room, kind_of, name_count};
 ghost use Rattle.piece_list.specs.Laws.{IsPieceBelow};
 ghost use Rattle.piece_list.specs.Piece.{Piece};
 ghost use Rattle.piece_list.specs.Pieces.{range_of};
@@ -86,7 +87,7 @@ impl Pieces {
         ensures room { self.new.room ≡ self.old.room }
         ensures values { self.new.values ≡ self.old.values }
         ensures noted { AreNoted setting.now (record { site = name.site; at = name.off; len = result - name.off } ∷ [])
-            1 note.old note.new self.old.items self.new.items }
+            1 0 note.old note.new self.old.items self.new.items }
     {
         match self.tags.get(name) {
             Some(tag) => {
@@ -117,7 +118,7 @@ impl Pieces {
         ensures same { AreTheSame self.old.items self.new.items }
         ensures room { self.new.room ≡ self.old.room }
         ensures values { self.new.values ≡ self.old.values }
-        ensures noted { AreNoted setting.now (range ∷ []) range.len note.old note.new self.old.items self.new.items }
+        ensures noted { AreNoted setting.now (range ∷ []) range.len 0 note.old note.new self.old.items self.new.items }
     {
         let end = range.at() + range.len();
         let mut at = range.at();
@@ -141,7 +142,7 @@ impl Pieces {
         ensures few { length self.new.items ≤ length self.old.items + 2 * length ranges.now }
         ensures firsts { KeepFirsts self.old.items self.new.items }
         ensures values { self.new.values ≡ self.old.values }
-        ensures noted { AreNoted setting.now ranges.now (name_count ranges.now)
+        ensures noted { AreNoted setting.now ranges.now (name_count ranges.now) (2 * length ranges.now)
             note.old note.new self.old.items self.new.items }
     {
         for range in ranges {
@@ -155,7 +156,8 @@ impl Pieces {
 // How many names the ranges have, few enough for a message.
 fn count_names(ranges: &[NameRange]) -> usize
     requires { length ranges.now ≤ MAX_RANGES }
-    ensures { result ≡ name_count ranges.now }
+    ensures count { result ≡ name_count ranges.now }
+    ensures few { result ≤ MAX_FILE * length ranges.now }
 {
     let mut count = 0;
     for range in ranges {
@@ -165,8 +167,17 @@ fn count_names(ranges: &[NameRange]) -> usize
 }
 
 impl PieceList {
+    // Room in a note for one entry more than it may gain where these names are hidden or shown: one a piece, and no more than
+    // names; two pieces more may come by each range.
+    fn entry_room(&self, ranges: &[NameRange]) -> usize
+        requires { length ranges.now ≤ MAX_RANGES }
+        ensures { result ≡ min (name_count ranges.now) (length self.now.items) + 2 * length ranges.now + 1 }
+    {
+        count_names(ranges).min(self.pieces.len()) + 2 * ranges.len() + 1
+    }
+
     // Changes the characters of these names. All memory is taken before the first change. The note tells of it if it
-    // has room for an entry a name: an empty one takes no memory.
+    // has room for one entry more than it may gain: an empty one takes no memory.
     fn change(
         &mut self,
         names: &NameSet,
@@ -182,12 +193,13 @@ impl PieceList {
         ensures few { length self.new.items ≤ length self.old.items + 2 * length names.now }
         ensures firsts { KeepFirsts self.old.items self.new.items }
         ensures steps { self.new.steps ≡ self.old.steps }
-        ensures noted { vec_len note.old + name_count names.now ≤ vec_capacity note.old → OnOk result
+        ensures noted { vec_len note.old + entry_room setting.now names.now self.old.items ≤ vec_capacity note.old → OnOk result
             (IsNoted setting.now names.now note.old.items note.new.items self.old.items self.new.items) }
     {
         let ranges = names.ranges();
-        self.pieces.enter(setting)?;
         self.pieces.reserve(2 * ranges.len())?;
+        // Last, since an entry isn't taken out where memory is refused afterwards.
+        self.pieces.enter(setting)?;
         self.pieces.change_ranges(ranges, setting, note);
         Ok(())
     }
@@ -277,7 +289,7 @@ impl PieceList {
         ensures noted { OnOk result (Notes (IsOfKind Delete)
             note.old.items note.new.items (appearances self.old.items) (appearances self.new.items)) }
     {
-        note.reserve(count_names(names.ranges()))?;
+        note.reserve(self.entry_room(names.ranges()))?;
         self.change(names, &Setting::Switch { hidden: true, key }, note)
     }
 
@@ -302,7 +314,7 @@ impl PieceList {
         ensures noted { OnOk result (Notes (IsOfKind Insert)
             note.old.items note.new.items (appearances self.old.items) (appearances self.new.items)) }
     {
-        note.reserve(count_names(names.ranges()))?;
+        note.reserve(self.entry_room(names.ranges()))?;
         self.change(names, &Setting::Switch { hidden: false, key }, note)
     }
 
@@ -330,7 +342,7 @@ impl PieceList {
             note.old.items note.new.items (appearances self.old.items) (appearances self.new.items)) }
     {
         let looks = looks.copy();
-        note.reserve(count_names(names.ranges()))?;
+        note.reserve(count_names(names.ranges()) + 1)?;
         self.change(names, &Setting::Relook { sel, looks, key }, note)
     }
 }

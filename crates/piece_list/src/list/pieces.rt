@@ -59,6 +59,13 @@ impl Pieces {
         })
     }
 
+    // How many there are.
+    pub(super) fn len(&self) -> usize
+        ensures { result ≡ length self.now.items }
+    {
+        self.index.len()
+    }
+
     // Makes room for so many more pieces.
     pub(super) fn reserve(&mut self, n: usize) -> Result<(), Refusal>
         ensures ok { OnOk result (n ≤ self.new.room) }

@@ -6,9 +6,29 @@ use looks::Refusal;
 // What stands where no piece holds a byte.
 const NO_TAG: u32 = u32::MAX;
 
+// How many entries are written one by one.
+const FEW: usize = 32;
+
 // Beside each byte of a site's file, the number of the piece that holds it, in four bytes.
 struct SiteTags {
     tags: Vec<u32>,
+}
+
+// Writes this tag in all entries: in a few one by one, and then what is written is copied to as many again, a block of memory at a time.
+fn spread(tags: &mut [u32], tag: u32) {
+    if tags.len() <= FEW {
+        tags.fill(tag);
+        return;
+    }
+    let half = tags.len() / 2;
+    let (front, back) = tags.split_at_mut(tags.len() - half);
+    spread(front, tag);
+    back.copy_from_slice(&front[..half]);
+}
+
+// Writes this tag in the entries from an offset on.
+fn overwrite(tags: &mut Vec<u32>, off: usize, len: usize, tag: u32) {
+    spread(&mut tags[off..off + len], tag);
 }
 
 impl SiteTags {
@@ -29,9 +49,7 @@ impl SiteTags {
 
     // Enters a piece.
     fn fill(&mut self, off: u32, len: u32, tag: u64) {
-        for at in off as usize..off as usize + len as usize {
-            self.tags[at] = tag as u32;
-        }
+        overwrite(&mut self.tags, off as usize, len as usize, tag as u32);
     }
 }
 

@@ -195,6 +195,11 @@ impl RankIndex {
         )
     }
 
+    /// How many members there are.
+    pub fn len(&self) -> usize {
+        self.homes.len()
+    }
+
     /// The sum of all weights.
     pub fn total(&self) -> u64 {
         self.total

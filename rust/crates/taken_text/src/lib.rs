@@ -2,6 +2,7 @@
 //! A text as the operations that were taken in make it.
 #![forbid(unsafe_code)]
 
+mod joining;
 mod letters;
 mod named;
 mod rows;

@@ -2,7 +2,7 @@
 use crate::shown::Shown;
 use char_files::{Char, CharFiles, Name};
 use fallible::{Global, Vec};
-use list_changes::Change;
+use list_changes::{Change, ChangeKind};
 use looks::Refusal;
 use op_log::Log;
 use operations::{Kind, Op};
@@ -74,6 +74,19 @@ fn apply(
     }
 }
 
+// One insertion of so many characters, where there is one. Refused `OutOfMemory` alone.
+fn insertion_of(alloc: Global, len: u64) -> Result<Vec<Change>, Refusal> {
+    let mut note = Vec::new(alloc);
+    if len > 0 {
+        note.push(Change {
+            kind: ChangeKind::Insert,
+            beg: 0,
+            end: len,
+        })?;
+    }
+    Ok(note)
+}
+
 impl TakenText {
     /// Nothing taken in, and no characters. Refused `OutOfMemory` alone.
     pub fn new(alloc: Global) -> Result<TakenText, Refusal> {
@@ -125,6 +138,16 @@ impl TakenText {
     pub fn changes(&mut self) -> Vec<Change> {
         self.asked = self.log.len();
         mem::replace(&mut self.note, Vec::new(self.alloc))
+    }
+
+    /// Where more changes than so many are noted, and none was asked for before, one insertion of all that is shown is noted in
+    /// their place. Refused `OutOfMemory` alone, and then the note stays.
+    pub fn note_together(&mut self, most: usize) -> Result<(), Refusal> {
+        if self.asked > 0 || self.note.len() <= most {
+            return Ok(());
+        }
+        self.note = insertion_of(self.alloc, self.pieces.shown_len())?;
+        Ok(())
     }
 
     /// Takes in an operation that is ready: it stands after those that were taken in, and the characters are

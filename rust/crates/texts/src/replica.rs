@@ -150,4 +150,10 @@ impl Replica {
     pub fn changes(&mut self) -> Vec<Change> {
         self.taken.changes()
     }
+
+    /// Where more changes than so many are kept, and none was asked for before, one insertion of all that is shown is kept in
+    /// their place. Refused `OutOfMemory` alone, and then they stay.
+    pub fn note_together(&mut self, most: usize) -> Result<(), Refusal> {
+        self.taken.note_together(most)
+    }
 }

@@ -89,8 +89,14 @@ fn count_names(ranges: &[NameRange]) -> usize {
 }
 
 impl PieceList {
+    // Room in a note for one entry more than it may gain where these names are hidden or shown: one a piece, and no more than
+    // names; two pieces more may come by each range.
+    fn entry_room(&self, ranges: &[NameRange]) -> usize {
+        count_names(ranges).min(self.pieces.len()) + 2 * ranges.len() + 1
+    }
+
     // Changes the characters of these names. All memory is taken before the first change. The note tells of it if it
-    // has room for an entry a name: an empty one takes no memory.
+    // has room for one entry more than it may gain: an empty one takes no memory.
     fn change(
         &mut self,
         names: &NameSet,
@@ -98,8 +104,9 @@ impl PieceList {
         note: &mut Vec<Change>,
     ) -> Result<(), Refusal> {
         let ranges = names.ranges();
-        self.pieces.enter(setting)?;
         self.pieces.reserve(2 * ranges.len())?;
+        // Last, since an entry isn't taken out where memory is refused afterwards.
+        self.pieces.enter(setting)?;
         self.pieces.change_ranges(ranges, setting, note);
         Ok(())
     }
@@ -159,7 +166,7 @@ impl PieceList {
         key: Key,
         note: &mut Vec<Change>,
     ) -> Result<(), Refusal> {
-        note.reserve(count_names(names.ranges()))?;
+        note.reserve(self.entry_room(names.ranges()))?;
         self.change(names, &Setting::Switch { hidden: true, key }, note)
     }
 
@@ -175,7 +182,7 @@ impl PieceList {
         key: Key,
         note: &mut Vec<Change>,
     ) -> Result<(), Refusal> {
-        note.reserve(count_names(names.ranges()))?;
+        note.reserve(self.entry_room(names.ranges()))?;
         self.change(names, &Setting::Switch { hidden: false, key }, note)
     }
 
@@ -194,7 +201,7 @@ impl PieceList {
         note: &mut Vec<Change>,
     ) -> Result<(), Refusal> {
         let looks = looks.copy();
-        note.reserve(count_names(names.ranges()))?;
+        note.reserve(count_names(names.ranges()) + 1)?;
         self.change(names, &Setting::Relook { sel, looks, key }, note)
     }
 }

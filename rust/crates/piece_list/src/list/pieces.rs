@@ -29,6 +29,11 @@ impl Pieces {
         })
     }
 
+    // How many there are.
+    pub(super) fn len(&self) -> usize {
+        self.index.len()
+    }
+
     // Makes room for so many more pieces.
     pub(super) fn reserve(&mut self, n: usize) -> Result<(), Refusal> {
         self.ring.reserve(n)?;

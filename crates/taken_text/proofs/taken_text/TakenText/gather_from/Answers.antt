@@ -3,9 +3,9 @@ use Rattle.char_files.specs.CharName.{CharName}
 use Rattle.operations.specs.NameSet.{Range, IsIn, names_in, names_of}
 use Rattle.tree_order.specs.Shown.{is_visible}
 use Rattle.taken_text.specs.Named.{has_visibility}
-use Rattle.taken_text.proofs.Alike.{kept_here, kept_later, names_more, none_left, range, same_len}
+use Rattle.taken_text.proofs.Alike.{kept_here, kept_later, none_left, range, same_len}
 use Rattle.taken_text.proofs.taken_text.TakenText.gather_from.Goals as goal
-use Rattle.taken_text.proofs.taken_text.TakenText.gather_from.Goals.{After-first_alike-shown, then-shown-visible+in_ok-push, else-shown-visible}
+use Rattle.taken_text.proofs.taken_text.TakenText.gather_from.Goals.{After-first_alike-shown, then-shown-visible+in_ok-push_joined, else-shown-visible}
 
 pub loop-at-init : goal.loop-at-init
 loop-at-init c = record {
@@ -52,12 +52,12 @@ loop-at-preserved c =
       low = omega (arith, c.loop-at.invariant.low);
       high = omega (arith, c.loop-at.invariant.high, c.first_alike-shown.ensures.within, ap (λ (r : Range). r.len) c.new.ensures);
       left = elim c.if-shown-visible.branch [
-        | then-shown-visible+in_ok-push w ↦
+        | then-shown-visible+in_ok-push_joined w ↦
             let r : Range = w.new-then-shown-visible.result in
             let is : r ≡ range c.args.range.site c.loop-at.at n =
             w.new-then-shown-visible.ensures ∙ ap (λ (site : ℕ). range site c.loop-at.at n) w.site-then-shown-visible.ensures in
-            ap (λ (ranges : List Range). names_in ranges ++ filter test later) (ap (λ v. v.items) w.found-is ∙ w.in_ok-push.ensures.items)
-            ∙ ap (λ (names : List CharName). names ++ filter test later) (names_more before r)
+            ap (λ (names : List CharName). names ++ filter test later)
+            (ap (λ v. names_in v.items) w.found-is ∙ w.in_ok-push_joined.ensures.ok)
             ∙ append_assoc (names_in before) (names_of r) (filter test later)
             ∙ ap (λ (names : List CharName). names_in before ++ names) (
             ap (λ (s : Range). names_of s ++ filter test later) is

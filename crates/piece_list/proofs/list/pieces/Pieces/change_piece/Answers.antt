@@ -19,7 +19,7 @@ use Rattle.piece_list.proofs.Edges.{is_entered}
 use Rattle.piece_list.proofs.Found.{none_is_not}
 use Rattle.piece_list.proofs.Noted.{noted_turn, noted_still}
 use Rattle.piece_list.proofs.Positions.{Items, own}
-use Rattle.piece_list.proofs.Entries.{Note}
+use Rattle.piece_list.proofs.Spent.{Note, spent_still, spent_turn}
 use Rattle.piece_list.proofs.Turned.{IsTurned, is_turned}
 use Rattle.piece_list.proofs.Weighed.{Weights}
 use Rattle.piece_list.proofs.list.pieces.Pieces.change_piece.Goals as goal
@@ -131,7 +131,7 @@ returns-clause-noted c =
     let v : Piece = was at in
     let w : Piece = now at in
     let Is : List Range → Items → Type 0 = λ (names : List Range) (l : Items).
-    AreNoted c.args.setting.now names 1 c.args.note.now c.if-shows_other.note items l in
+    AreNoted c.args.setting.now names 1 0 c.args.note.now c.if-shows_other.note items l in
     let told : Is (range_of v ∷ []) (with_value c.in-Some.tag w items) =
     elim c.if-shows_other.branch [
       | then-shows_other o ↦
@@ -146,11 +146,15 @@ returns-clause-noted c =
                 (ap (λ n. n.items) o.note-is ∙ insert
                 ∙ ap (λ (kind : ChangeKind). c.args.note.now.items ++ entry kind c.len-len.result ∷ []) o.kind.ensures
                 ∙ ap (λ (n : ℕ). c.args.note.now.items ++ entry (kind_of c.args.setting.now) n ∷ []) (len at));
+            grows = omega (arith, ap vec_len o.note-is, o.enter.ensures.len);
             few = omega (arith, ap vec_len o.note-is, o.enter.ensures.len);
+            spent = spent_turn items c.in-Some.tag v w c.self.invariant.numbered c.args.setting.now c.args.note.now
+                c.if-shows_other.note t.member (c.change-shows_other.ensures.changed.3 o.if-shows_other.true).1
+                (omega (arith, ap vec_len o.note-is, o.enter.ensures.len));
             capacity = omega (arith, ap vec_capacity o.note-is, o.enter.ensures.capacity);
           }
       | else-shows_other o ↦
-          subst (λ (note : Note). AreNoted c.args.setting.now (range_of v ∷ []) 1 c.args.note.now note items
+          subst (λ (note : Note). AreNoted c.args.setting.now (range_of v ∷ []) 1 0 c.args.note.now note items
           (with_value c.in-Some.tag w items)) (sym o.note-is)
           (record {
             told = λ room.
@@ -160,7 +164,10 @@ returns-clause-noted c =
                 refl (range_of v ∷ []) c.args.note.now.items t.member
                 (c.change-shows_other.ensures.changed.4 asked
                 (λ other. true_is_not c.change-shows_other.result other o.if-shows_other.false));
+            grows = omega arith;
             few = omega arith;
+            spent = spent_still items c.in-Some.tag v w c.self.invariant.numbered c.args.setting.now c.args.note.now
+                t.member refl;
             capacity = omega arith;
           })
     ] in

@@ -32,7 +32,7 @@ loop-at-init c =
       same = record { many = refl; edges = λ s off edge. edge; firsts = λ tag d is. is };
       room = refl;
       values = refl;
-      noted = entries_none c.args.setting.now (c.args.range ∷ []) (c.at-at.result - from) c.args.note.now items;
+      noted = entries_none c.args.setting.now (c.args.range ∷ []) (c.at-at.result - from) 0 c.args.note.now items;
     }
 
 pub change_piece-at-requires-clause-here : goal.change_piece-at-requires-clause-here
@@ -104,7 +104,7 @@ loop-at-preserved c =
       noted = entries_on c.args.setting.now c.args.range name to c.args.note.now c.loop-at.note
           c.change_piece-at.new.note was between now site (omega (arith, off, c.loop-at.invariant.low)) on
           (omega (arith, c.loop-at.invariant.end, high))
-          (subst (λ (o : ℕ). AreNoted c.args.setting.now (c.args.range ∷ []) (o - c.args.range.at) c.args.note.now
+          (subst (λ (o : ℕ). AreNoted c.args.setting.now (c.args.range ∷ []) (o - c.args.range.at) 0 c.args.note.now
           c.loop-at.note was between) (sym off) c.loop-at.invariant.noted)
           c.change_piece-at.ensures.noted;
     }

@@ -19,7 +19,7 @@ invariant-loop-at l = record {
   same : AreTheSame l.initial.self.items l.self.items;
   room : l.self.room ≡ l.initial.self.room;
   values : l.self.values ≡ l.initial.self.values;
-  noted : AreNoted l.setting (l.range ∷ []) (l.at - l.range.at) l.initial.note l.note l.initial.self.items
+  noted : AreNoted l.setting (l.range ∷ []) (l.at - l.range.at) 0 l.initial.note l.note l.initial.self.items
       l.self.items;
 }
 

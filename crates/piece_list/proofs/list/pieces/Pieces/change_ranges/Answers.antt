@@ -19,7 +19,7 @@ loop-range-init c = record {
   firsts = λ tag d is. is;
   changed = sym (unchanged (changed_char c.args.setting.now) (keeps_name c.args.setting.now) [] (λ d. refl)
       (spelled c.args.self.now.items));
-  noted = entries_none c.args.setting.now c.args.ranges.now 0 c.args.note.now c.args.self.now.items;
+  noted = entries_none c.args.setting.now c.args.ranges.now 0 0 c.args.note.now c.args.self.now.items;
 }
 
 pub change_range-requires-clause-here : goal.change_range-requires-clause-here
@@ -81,5 +81,9 @@ loop-range-preserved c =
       noted = entries_more c.args.setting.now c.args.ranges.now c.loop-range.range-index r c.args.note.now
           c.loop-range.note c.change_range.new.note c.args.self.now.items c.loop-range.self.items
           c.split_across-in-loop-range.new.self.items c.change_range.new.self.items c.loop-range-test.true c.range-item.is
-          spells c.loop-range.invariant.noted c.change_range.ensures.noted;
+          spells (λ hidden. omega (
+            arith,
+            c.split_across-in-loop-range.ensures.split.unlike_more hidden,
+            c.split_across.ensures.split.unlike_more hidden,
+          )) c.loop-range.invariant.noted c.change_range.ensures.noted;
     }

@@ -14,6 +14,6 @@ invariant-loop-range l = record {
   firsts : KeepFirsts l.initial.self.items l.self.items;
   changed : spelled l.self.items
       ≡ map (if_named (take l.range-index l.ranges) (changed_char l.setting)) (spelled l.initial.self.items);
-  noted : AreNoted l.setting l.ranges (name_count (take l.range-index l.ranges)) l.initial.note l.note
+  noted : AreNoted l.setting l.ranges (name_count (take l.range-index l.ranges)) (2 * l.range-index) l.initial.note l.note
       l.initial.self.items l.self.items;
 }
