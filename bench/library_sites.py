@@ -8,7 +8,7 @@ from collections.abc import Callable
 TOP = pathlib.Path(__file__).resolve().parent.parent
 PASTE = 4000
 READINGS = 10
-# The program is told so many messages at once.
+# How many messages the program is given at once.
 TOLD = 1000
 
 

@@ -6,6 +6,7 @@ import dataclasses
 import os
 import pathlib
 import re
+import shutil
 import signal
 import subprocess
 import sys
@@ -14,7 +15,9 @@ import time
 from collections.abc import Sequence
 from typing import TextIO
 
+TOP = pathlib.Path(__file__).resolve().parent.parent
 PR_SET_CHILD_SUBREAPER = 36
+PR_SET_THP_DISABLE = 41
 COUNTED = re.compile(rb"Collected : (\d+)")
 STARTED = """
     folder=$1; shift
@@ -66,6 +69,11 @@ def run(command: Sequence[str], script: bytes, busy: bool = False) -> Run:
     return Run(answers, seconds, used.ru_maxrss * 1024)
 
 
+def without_large_pages() -> None:
+    """Has the system give all that is started from now on memory in small pages alone, so that it counts as it is used."""
+    ctypes.CDLL(None).prctl(PR_SET_THP_DISABLE, 1, 0, 0, 0)
+
+
 def instructions(command: Sequence[str], script: bytes) -> int:
     """How many the command takes for a script, by valgrind."""
     words = ["valgrind", "--tool=callgrind", "--callgrind-out-file=/dev/null", *command]
@@ -73,3 +81,13 @@ def instructions(command: Sequence[str], script: bytes) -> int:
     if not (found := COUNTED.search(ended.stderr)):
         sys.exit("valgrind counted nothing")
     return int(found[1])
+
+
+def ordinary() -> list[str] | None:
+    """The program as ordinary Rust, which is built where that is needed; none without cargo, which is said."""
+    if shutil.which("cargo") is None:
+        print("there is no cargo, so nothing is counted\n0 passed, 0 failed")
+        return None
+    environment = {**os.environ, "VIALSHOAL_BUILD": "rust"}
+    subprocess.run([TOP / "bin" / "site_cli"], stdin=subprocess.DEVNULL, env=environment, check=True)
+    return [str(TOP / "out" / "rust" / "site_cli")]

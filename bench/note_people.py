@@ -45,7 +45,7 @@ QUIET, QUIET_SECONDS, LEAST_SECONDS = 0.3, 2.0, 6.0
 # What goes on as long as others type does so for so long.
 DOES_SECONDS = 45.0
 COUNTED_KEYS = 3
-# What was typed by hand was typed by so many people, so many letters each in their turn.
+# What was typed by hand: how many people typed it, and how many letters each typed in a turn.
 PEOPLE, AT_A_TIME = 4, 30
 KEY = bytes(range(32))
 
@@ -122,7 +122,7 @@ def typed_by(key: bytes, site: int, keys: int, people: int) -> list[tuple[bytes,
 
 
 def typed_in_turn(key: bytes, keys: int) -> Iterator[tuple[bytes, bytes]]:
-    """The entries of some people who typed so many letters by hand, in the order of their typing."""
+    """The entries of some people who typed this many letters by hand, in the order of their typing."""
     with ProcessPoolExecutor() as processes:
         made = [*processes.map(partial(typed_by, key, keys=keys // PEOPLE, people=PEOPLE), range(1, PEOPLE + 1))]
     yield from (of_one[0] for of_one in made)
@@ -224,7 +224,7 @@ def waited(editor: Editor, is_so: Callable[[], object], most: float) -> bool:
 
 def as_it_arrives(room: Room, editor: Editor, many: int, most: float = ARRIVING_SECONDS,
                   least: float = LEAST_SECONDS) -> tuple[float, float, int]:
-    """Types until all that has come is in the file, which has so many entries then, and taken in: the seconds of the slowest key, the
+    """Types until all that has come is in the file, which has this many entries then, and taken in: the seconds of the slowest key, the
     processor time in all, and the bytes read."""
     engine, keys, begin = room.engine(), Keys(editor), time.monotonic()
     before, read = processor(engine), bytes_read(engine)

@@ -44,7 +44,7 @@ def by_hand(folder: pathlib.Path, keys: int) -> Sizes:
 
 
 def of_letters(folder: pathlib.Path, many: int) -> Sizes:
-    """A note of so many letters that were typed in one go."""
+    """A note of this many letters, typed in one go."""
     room = Room(folder)
     hostile = room.hostile()
     hostile.send(full(hostile, many))
@@ -60,7 +60,7 @@ def _sizes(room: Room, letters: int) -> Sizes:
 
 
 def _opened(room: Room, name: str, letters: int, keys: int = 0, **more: str) -> tuple[Opened, list[float], str]:
-    """What it takes somebody to open a note of so many letters; the seconds of some keys, and why these are refused."""
+    """What it takes somebody to open a note of this many letters; the seconds of some keys, and why these are refused."""
     editors.PATIENCE = int(MOST_SECONDS)
     begin = time.monotonic()
     editor, when = room.editor(name, **more), dict[str, float]()

@@ -18,7 +18,7 @@ Key = Optional[str]
 WORDS, SENTENCES, RIGHT = range(1, 10), range(4, 21), 60
 # How many edits a site makes before each takes in what the other made meanwhile.
 FEW = range(1, 9)
-# Where site 2 types into what site 1 writes, one edit in so many is its, and goes up to so many characters before the caret.
+# Where site 2 types into what site 1 writes: one edit in how many is its, and how far before the caret it goes at most.
 INTO = 20
 
 
@@ -156,7 +156,7 @@ class Part:
         return self.before + self.marks.count(1, self.caret, place) - self.marks.count(1, place, self.caret)
 
     def place(self, pos: int) -> int:
-        """After how many characters the trace's first so many are."""
+        """Where the character of the trace's own that has this position among its own is in the text."""
         place = pos
         while self.others and (found := pos + self.others_before(place)) > place:
             place = found
@@ -169,7 +169,7 @@ class Part:
         return f"type 1 {earlier + place} {letter}"
 
     def edit(self, move: Move, earlier: int = 0) -> str:
-        """What does a move of the trace. So many characters more come before the part."""
+        """Makes an edit of a move of the trace, with this many more characters before the part."""
         done, pos, letter = move
         if done == TYPE:
             place = self.place(pos)
@@ -188,7 +188,7 @@ class Part:
 
 
 def typed_alone(name: str, edits: int, seed: str) -> Script:
-    """So many edits of site 1, of which no other site takes any."""
+    """A number of edits of site 1, of which no other site takes any."""
     script, part = Script(), Part()
     for move in itertools.islice(TRACES[name](random.Random(f"{name} {seed}"), 0), edits):
         script.send(part.edit(move))
@@ -197,7 +197,7 @@ def typed_alone(name: str, edits: int, seed: str) -> Script:
 
 
 def merged(name: str, edits: int, seed: str) -> Script:
-    """Both sites make so many edits apart, and merge: site 1 before a bar that they share, and site 2 after it. So no two
+    """Both sites make this many edits apart, and merge: site 1 before a bar that they share, and site 2 after it. So no two
     of them type at one place, and whatever rule orders such characters, it gives this text."""
     rng = random.Random(f"{name} apart {seed}")
     script = Script()
@@ -212,7 +212,7 @@ def merged(name: str, edits: int, seed: str) -> Script:
 
 
 def gone_on(name: str, edits: int, seed: str, before: Script, into: bool = False) -> Script:
-    """The script before, and after it so many edits of site 1, each taken by site 2 at once; or of both, where site 2 types into
+    """The script before, and after it a number of edits of site 1, each taken by site 2 at once; or of both, where site 2 types into
     what site 1 writes."""
     rng, other = random.Random(f"{name} {seed}"), random.Random(f"{name} into {seed}")
     script = Script([*before.lines], before.sent, before.taken)
@@ -227,7 +227,7 @@ def gone_on(name: str, edits: int, seed: str, before: Script, into: bool = False
 
 
 def at_once(name: str, edits: int, seed: str, into: bool = False) -> Script:
-    """So many edits of both sites: each makes a few, and then takes those that the other one made meanwhile. Site 1 writes before a
+    """A number of edits of both sites: each makes a few, and then takes those that the other one made meanwhile. Site 1 writes before a
     bar that they share, and site 2 after it; it may also type into what site 1 has written, which takes that directly."""
     rng, other = random.Random(f"{name} at once {seed}"), random.Random(f"{name} into {seed}")
     script = Script()

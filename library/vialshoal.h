@@ -104,7 +104,7 @@ typedef struct vialshoal_name {
     uint32_t offset;
 } vialshoal_name;
 
-/* The names of neighbouring characters: so many of a site, from an offset on. */
+/* The names of neighbouring characters: a site, an offset, and how many from there on. */
 typedef struct vialshoal_name_range {
     uint16_t site;
     uint32_t offset;

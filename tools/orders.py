@@ -13,7 +13,7 @@ WRITERS = range(1, 5)
 # Of these one is handed messages as they come near their turns, and then merges; two all of them, near their turns and far from these.
 HALF, NEAR, FAR = READERS = range(5, 8)
 EDITS = 300
-# Near its turn a message comes at most so many places from it, so that no room is full.
+# How far from its turn a message comes at most, so that no room is full.
 WINDOW = 50
 FULL = "refused 6"
 
@@ -37,7 +37,7 @@ def write(run: Run, draw: random.Random) -> None:
 
 
 def order(count: int, window: int, draw: random.Random) -> list[int]:
-    """The numbers of so many messages, some of them twice, each stretch of so many shuffled."""
+    """The numbers of the messages, some of them twice, with each stretch shuffled."""
     numbers = [number for number in range(1, count + 1) for _ in range(draw.choice((1, 1, 1, 2)))]
     stretches = [numbers[at : at + window] for at in range(0, len(numbers), window)]
     return [number for each in stretches for number in draw.sample(each, len(each))]

@@ -38,7 +38,7 @@ class Run:
         return line.rstrip("\n")
 
     def ask(self, line: str, lines: int | None = None) -> list[str]:
-        """What a line is answered: so many lines, or all up to one that can be the last alone."""
+        """What a line is answered: a number of lines, or all up to one that can only be the last."""
         self.asked.append(line)
         assert self.process.stdin
         self.process.stdin.write(line + "\n")
@@ -71,7 +71,7 @@ class Run:
 
 @contextmanager
 def running(command: str, sites: int, words: Sequence[str] = ()) -> Iterator[Run]:
-    """The program, with so many sites from 1 on."""
+    """The program, with this many sites from 1 on."""
     call = [command, "--first", "1", "--count", str(sites), *words]
     with subprocess.Popen(call, stdin=subprocess.PIPE, stdout=subprocess.PIPE, text=True) as process:
         try:

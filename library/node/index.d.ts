@@ -40,7 +40,7 @@ export interface Name {
     offset: number;
 }
 
-/** The names of neighbouring characters: so many of a site, from an offset on. */
+/** The names of neighbouring characters: a site, an offset, and how many from there on. */
 export interface NameRange {
     site: number;
     offset: number;

@@ -113,7 +113,7 @@ class Library {
         });
     }
 
-    // The same of rows of so many numbers.
+    // The same of rows, each of `width` numbers.
     rows(numbers, width, use) {
         const count = Math.floor(numbers.length / width), length = width * count;
         return this.#within(this.given, 4 * length, (at) => {
@@ -122,7 +122,7 @@ class Library {
         });
     }
 
-    // What `read` makes of what `put` puts into a room for so many items of this size; or the number that refuses it.
+    // What `read` makes of what `put` puts into a room for this many items of this size; or the number that refuses it.
     filled(size, put, read) {
         let number = put(this.room, Math.floor(ROOM / size));
         const need = this.wide(this.answer);

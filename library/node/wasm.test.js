@@ -27,7 +27,7 @@ function numberAt(at) {
     return [128 * high + low - 128, end];
 }
 
-// How many pages the module's memory has at first, and the module with a memory of so many, and of so many at most.
+// How many pages the module's memory has at first, and the module with a memory of other numbers, at first and at most.
 function memory() {
     for (let at = 8, size; ; at += size) {
         const beg = at;

@@ -1,4 +1,4 @@
-"""The wheel has the C library in it, and no code for one Python alone. Its platform is read off the library."""
+"""The wheel has the C library in it, and no code for one Python alone. Its platform is found in the library."""
 import os
 import re
 import subprocess

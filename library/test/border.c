@@ -537,7 +537,7 @@ static void meets_by_since(uint32_t edits) {
     IS(vialshoal_free(&a) == 0 && vialshoal_free(&b) == 0);
 }
 
-/* Unpacks a chunk that has so many operations, none of which is here or has to wait; and again, when all are here. */
+/* Unpacks a chunk that has this many operations, none of which is here or has to wait; and again, when all are here. */
 static void unpacks(vialshoal_text *text, const uint8_t *chunk, size_t length, uint64_t operations) {
     vialshoal_unpacking unpacking;
     IS(vialshoal_unpack(text, chunk, length, &unpacking) == 0 && unpacking.taken == operations);

@@ -32,7 +32,7 @@ NO_FILE, NOT_WRITTEN = 21, 22
 
 @dataclass(frozen=True)
 class Script:
-    """Lines for so many sites, the first of this number, and whether their answers are right."""
+    """Lines for this many sites, the first of this number, and whether their answers are right."""
 
     name: str
     first: int

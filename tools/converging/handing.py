@@ -12,9 +12,9 @@ from tools.converging.writing import TEXT, Burst
 from tools.packed.chunks import Placed, chunks, placed
 from tools.packed.messages import Operation
 
-# How many operations are handed in together, and how often so many.
+# How many operations are handed in together, and how often.
 TOGETHER = {1: 8, 10: 8, 50: 8, 200: 4, 1000: 2, 4000: 1}
-# One in so many of these also comes too early, by up to so many; or again, later by up to so many.
+# One in this many of these also comes too early, by up to this many; or again, later by up to this many.
 EARLY, BY = 12, 5
 AGAIN, LATER = 25, 30
 # After how many turns another site is liked, as a mean.

@@ -18,11 +18,11 @@ OTHER_LOOKS = (b"\x01A\x00\x00", b"\x08Mono.Fnt\x07\x7f", b"\x01A\x01\x80")
 VALUES = (b"\x01\x01A", b"\x01\x08Mono.Fnt", b"\x02\x0f", b"\x02\x02", b"\x04\xff", b"\x06\x01\x01", b"\x07\x01B\x03\x00")
 # How far behind the newest character of a site another is that is named, as a mean; often it is one that others like to name, too.
 NEAR, LIKED = (50, 50, 200, 1000, 100_000), (1, 16, 64, 64)
-# How many letters are typed in a row, as a rule; and, one time in so many.
+# How many letters are typed in a row, as a rule; and, one time in this many.
 IN_A_ROW, SELDOM, LONG = (1, 2, 3, 5, 10, 30), 10_000, (5_000, 5_000, 5_000, 70_000)
 # How far behind the newest character of a site another types into what that types.
 INTO = 12
-# Before one burst in so many there is a meeting; how many bursts this stays so, as a mean.
+# Before one burst in this many there is a meeting; for how many bursts that stays so, as a mean.
 APART, STAYS = (3, 20, 100, 400), 2000
 
 
@@ -185,7 +185,7 @@ class Writer:
 
 
 def written(count: int, sites: int, seed: str) -> Iterator[Burst]:
-    """So many operations of so many sites. They meet often for a while, and seldom for another while."""
+    """Operations of some sites, which meet often for a while, and seldom for another while."""
     rng = random.Random(f"converging {seed}")
     numbers = range(1, 1 + sites)
     writers = [Writer(site, numbers, rng) for site in numbers]

@@ -16,7 +16,7 @@ from tools.refusals.scripts import Script, events
 from tools.refusals.tally import Difference
 from tools.running import Ended, Files, Stream, files_below, run
 
-# With so many files that aren't whole no further one is made.
+# The number of files that aren't whole with which no further one is made.
 MOST_BESIDE = 1000
 OUTSIDE = b"another's"
 

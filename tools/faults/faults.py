@@ -13,7 +13,7 @@ NOTHING_TAKEN = Fault("no byte taken", answer=0)
 KILLED = Fault("killed before it", kills=True)
 # The calls of a write after whose failure the new file is removed.
 OF_A_WRITE = {"write", "fsync", "fdatasync", "rename", "renameat", "renameat2", "link", "linkat"}
-# Of so many equal calls one after the other the first, the last and the one in the middle are tried.
+# Of more equal calls than this, one after the other, the first, the last and the one in the middle are tried.
 MOST_EQUAL = 6
 
 

@@ -20,7 +20,7 @@ def insert(site: int, at: int, length: int) -> bytes:
 
 
 def site_file(inserts: int) -> bytes:
-    """The file of site 1 that has so many of its longest Inserts."""
+    """The file of site 1 that has this many of its longest Inserts."""
     messages = [insert(1, LONGEST_INSERT * k, LONGEST_INSERT) for k in range(inserts)]
     listed = b"".join(len(it).to_bytes(2, "big") + it for it in messages)
     return SITE_FILE_TAG + bytes([0, 1, 0, 1]) + inserts.to_bytes(4, "big") + listed
@@ -34,7 +34,7 @@ def packed_file(inserts: int) -> bytes:
 
 
 def left(count: int) -> Files:
-    """So many files that killed writes have left."""
+    """Files that killed writes have left, in this number."""
     return {f"{BESIDE}{number}": b"OTS1" for number in range(count)}
 
 

@@ -17,7 +17,7 @@ PYTHON = "/usr/bin/python3"
 
 
 def wheel(release: Release, sources: Path, binaries: Binaries, room: Path, to: Path) -> Path:
-    """Makes the wheel, whose setup.py reads off the library on which systems it runs."""
+    """Makes the wheel, whose setup.py finds in the library on which systems it runs."""
     folder, made = room / "python", room / "wheels"
     shutil.copytree(sources / "library" / "python", folder)
     shutil.move(binaries.shared(room), folder / "vialshoal")

@@ -30,7 +30,7 @@ from tools.running import Files, folder_in_memory
 SEEDS = range(1, 41)
 # How many other files are made of one, where not said.
 OTHERS = 100
-# So many files can be good in one script, and one text is left.
+# How many files can be good in one script, with one text left.
 AT_ONCE = SITES * TEXTS - 1
 # How many files are made for one text that is handed chunks.
 FILES_A_TEXT = 4
@@ -60,7 +60,7 @@ def compare(kept: Kept, tally: Tally) -> None:
 
 
 def other_bytes(history: bytes, rng: random.Random, most: int) -> Iterator[bytes]:
-    """Beginnings, and the history with a byte that is another, is put in, or is left out; at so many places."""
+    """Beginnings, and the history with a byte that is another, is put in, or is left out; at this many places."""
     for at in rng.sample(range(len(history)), min(len(history), most)):
         byte = history[at]
         code = bytes([rng.choice([*CODES, *NO_CODES, 0x61, 0x80])])
@@ -88,7 +88,7 @@ def needless(messages: Sequence[bytes]) -> Iterator[bytes]:
 
 
 def others(kept: Kept, rng: random.Random, most: int) -> list[bytes]:
-    """The history itself, and so many of those that are made of it."""
+    """The history itself, and some of those that are made of it."""
     made = [*other_bytes(kept.packed[HEAD:], rng, most), *other_orders(kept.messages), *needless(kept.messages)]
     return [kept.packed[HEAD:], *rng.sample(made, min(len(made), most))]
 

@@ -32,7 +32,7 @@ class Cursor:
         return self.take(1)[0]
 
     def big(self, count: int) -> int:
-        """An unsigned big-endian number of so many bytes."""
+        """An unsigned big-endian number of `count` bytes."""
         return int.from_bytes(self.take(count), "big")
 
     def passes(self, byte: int) -> bool:

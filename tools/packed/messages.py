@@ -30,7 +30,7 @@ Cause = Union[Name, None]
 
 
 class Range(NamedTuple):
-    """So many characters of a site from this offset on."""
+    """Neighbouring characters of a site: the first one's offset, and how many there are."""
 
     site: int
     at: int

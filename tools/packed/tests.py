@@ -333,7 +333,9 @@ class Files(Packed):
 
 
 def main() -> int:
-    modules = ["tools.packed.tests", "tools.packed.chunk_tests", "tools.converging.tests", "tools.rust.tests", "tools.build_tests"]
+    tested = ["packed.tests", "packed.chunk_tests", "converging.tests", "rust.tests", "build_tests"]
+    tested += ["counts_tests", "doors_tests", "mutants_tests"]
+    modules = [f"tools.{name}" for name in tested]
     result = unittest.TextTestRunner().run(unittest.defaultTestLoader.loadTestsFromNames(modules))
     failed = len({str(test) for test, _ in [*result.failures, *result.errors]})
     print(f"{result.testsRun - failed} passed, {failed} failed")

@@ -161,7 +161,7 @@ class Handing:
 
 
 def handed(kept: Kept, most: int, rng: random.Random) -> Iterator[Site]:
-    """So many sites' texts that are handed what a site has, or as many as there are in one script."""
+    """The texts of some sites that are handed what a site has, at most as many as one script has."""
     slots = [(site, text) for site in range(1, 1 + SITES) for text in range(1, 1 + TEXTS)]
     for number, text in rng.sample(slots, min(most, len(slots)) if kept.messages else 0):
         site = Site(number, text)
@@ -183,7 +183,7 @@ def hold(sites: Iterable[Site], runs: Program, tally: Tally) -> None:
 
 
 def unpack(kept: Kept, most: int, runs: Program, rng: random.Random, tally: Tally) -> None:
-    """Hands what a site has to so many others."""
+    """Hands what a site has to some others."""
     hold(handed(kept, most, rng), runs, tally)
 
 

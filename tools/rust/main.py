@@ -67,7 +67,7 @@ def main(words: Sequence[str]) -> int:
     parser.add_argument(
         "--compare", action="store_true", help="compare the program that Rust builds with the proved one"
     )
-    parser.add_argument("--events", type=int, default=0, metavar="N", help="with --compare: play so many random events")
+    parser.add_argument("--events", type=int, default=0, metavar="N", help="with --compare: play N random events")
     parser.add_argument(
         "--seed", type=int, default=1, metavar="N", help="with --compare: the number of the first script of them"
     )

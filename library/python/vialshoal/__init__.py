@@ -126,7 +126,7 @@ class Name:
 
 @dataclass(frozen=True, order=True)
 class NameRange:
-    """The names of neighbouring characters: so many of a site, from an offset on."""
+    """The names of neighbouring characters: a site, an offset, and how many from there on."""
 
     site: int
     offset: int
@@ -262,7 +262,7 @@ class Shown(Generic[AnyStr]):
         return points.byte(pos)
 
     def _pos(self, byte: int) -> int:
-        """The position after so many bytes, or after the code point that these end within."""
+        """The position after this many bytes, or after the code point that these end within."""
         return byte if self._points is None else self._followed(self._points).point(byte)
 
     def _followed(self, points: CodePoints) -> CodePoints:

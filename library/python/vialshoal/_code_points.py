@@ -46,7 +46,7 @@ class Step(enum.Enum):
     PUT = 3
 
 
-# What is done to so many bytes, from a text's begin on; those that it doesn't reach stay.
+# What is done to how many bytes, from a text's begin on; those that it doesn't reach stay.
 Delta = list[tuple[Step, int]]
 # A change: its kind, and its range, in the text after an insertion, else in the text before.
 Triple = tuple[int, int, int]
@@ -152,7 +152,7 @@ class CodePoints:
         return max(min(bisect_right(before, at), len(self._blocks)) - 1, 0)
 
     def byte(self, point: int) -> int:
-        """How many bytes so many code points have."""
+        """How many bytes this many code points have."""
         if not self._blocks:
             return 0
         at = self._block(self._points, point)
@@ -162,7 +162,7 @@ class CodePoints:
         return self._bytes[at] + point
 
     def point(self, byte: int) -> int:
-        """How many code points begin within so many bytes."""
+        """How many code points begin within this many bytes."""
         if not self._blocks:
             return 0
         at = self._block(self._bytes, byte)
