@@ -40,6 +40,8 @@ class Numbers:
         self._another_after = 0.0
         # The numbers that were given up, or copied with the note, and that no other editor has.
         self._held: set[Who] = set()
+        # What was made under them, is kept since others have it, and was let go for the log to be given it.
+        self._let_go: set[bytes] = set()
         self.own = self.locked() or self.claimed()
 
     def lock_again(self, disk: Disk) -> None:
@@ -161,9 +163,10 @@ class Numbers:
         known = holdings.followed().intersection(made) | in_log
         gone = self._file.mended(lambda: self._file.disk.entries.withdraw(set(made) - known, known))
         holdings.withdraw(gone)
-        if known > in_log:
-            # It was held back until now.
-            replicator.read_from_front()
+        if new := known - in_log - self._let_go:
+            # It was held back until now. A log that goes on lacking it is given it as whatever else it loses.
+            self._let_go |= new
+            replicator.let_go()
         return bool(gone)
 
     def take_another_when_full(self, length: int) -> bool:
