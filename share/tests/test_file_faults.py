@@ -216,6 +216,20 @@ class GivenUp(Case):
                              "both edits to be there")
                     self.assertEqual(sorted(self.assert_meet(first, second).split()), sorted(b"one two three F S".split()))
 
+    def test_what_is_typed_while_no_other_number_can_be_claimed(self) -> None:
+        self.begun()
+        first = self.opened(self.anna)
+        written(first, "F ")
+        with mock.patch("share.sync.rebasing.REBASE_AGAIN_SECONDS", 0.3):
+            with mock.patch.object(OwnTables, "add_client", side_effect=Unkept("full")) as tried:
+                second = self.opened(self.copied())
+                written(second, "S ")
+                wait_for(lambda: (first.take_in(), tried.called)[1], "another number to be tried")
+                # Nothing of hers is lost, but nothing more is sent under a number under which somebody else writes.
+                type_at_the_end(first, "last ")
+            wait_for(lambda: (second.take_in(), first.take_in(), b"last" in second.text)[2], "what was typed to come")
+        self.assertEqual(sorted(self.assert_meet(first, second).split()), sorted(b"one two three F S last".split()))
+
     def test_what_the_log_brings_back_isnt_made_anew(self) -> None:
         self.begun()
         with contextlib.closing(self.anna.disk()) as disk:
