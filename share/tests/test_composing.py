@@ -220,6 +220,11 @@ class Composed(Pages):
                 self.second.shows("akab\ncd")
                 self.setUp()
 
+    def test_something_is_pasted(self) -> None:
+        compose(self.first, "k", "ka")
+        self.first.paste("pasted\n")
+        self.show("akapasted\nb\ncd")
+
     def test_signs_that_stand_for_a_character(self) -> None:
         for text, at in ("x\ty", 2), ("x\t", 2), ("a\r", 2):
             self.first.run(f"{MIRROR}.setValue(arguments[0])", text)

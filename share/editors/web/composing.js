@@ -27,6 +27,8 @@ export class Composing {
     this.#on("input", (event) => { if (!event.isComposing) this.#over(); });
     this.#on("keydown", (event) => { if (!event.isComposing && event.keyCode !== TAKEN) this.#over(); });
     cm.on("blur", () => this.#over());
+    // CodeMirror would draw what they change before it reads.
+    for (const kind of ["paste", "cut", "drop"]) cm.on(kind, () => this.end());
   }
 
   /** @param {string} kind @param {(event: any) => void} does */
