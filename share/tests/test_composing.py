@@ -234,7 +234,8 @@ class Composed(Pages):
             self.first.run(LATER)
             self.addCleanup(self.first.run, NOW)
             self.second.run(f"{MIRROR}.replaceRange('before ', {{ line: 0, ch: 0 }})")
-            self.second.shows(f"before {text[:at]}ka{text[at:]}")
+            for window in self.first, self.second:
+                window.shows(f"before {text[:at]}ka{text[at:]}")
             self.first.run(NOW)
 
 
