@@ -90,6 +90,8 @@ class Composed(Pages):
         self.second.shows("ab\ncd")
         self.first.run(f"{MIRROR}.focus()")
         self.first.to(1)
+        # CodeMirror ends what is composed 20 ms after the focus came.
+        self.first.driver.execute_async_script("setTimeout(arguments[0], 50)")
 
     def tearDown(self) -> None:
         self.assert_kept(self.data, self.first, self.second)
