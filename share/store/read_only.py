@@ -6,18 +6,20 @@ import pathlib
 import sqlite3
 import struct
 import zlib
-from collections.abc import Callable, Iterable, Iterator
+from collections.abc import Callable, Iterable, Iterator, Sequence
 from functools import partial
+from itertools import islice
 from typing import Any, NamedTuple, TypeVar
 
 from share.admission.judge import Judge
-from share.admission.ledger import Row
+from share.admission.ledger import Chained, Row
 from share.admission.runs import runs
 from share.format.entry import Bad, Entry, Form, digest
 from share.format.keystrokes import Keystrokes
-from share.log.folder import inode_of
+from share.log.folder import inode_of, undisturbed
 from share.log.sqlite_file import FAULTS, Busy, Malformed, SqliteFile
 from share.program.site import Site
+from share.store.chained import KeptEntry, put_together
 from share.store.entries import GREATEST_PLACE
 from share.store.guarded import Damaged
 from share.store.locks import noted_beside, place_noted
@@ -27,7 +29,9 @@ from share.store.own import COPIED
 from share.text.errors import NEWER, Trouble, entries
 
 Read = TypeVar("Read")
-RAW, KEPT_COLUMNS = "coalesce(CAST(raw AS BLOB), x'')", ", hash, body, sum"
+# What is read of each entry: its place, and its bytes; or all that is kept of it, for who doesn't ask who made it.
+RAW = "coalesce(CAST(raw AS BLOB), x'')"
+KEPT_COLUMNS = f"hash, {RAW}, body, sum, 0"
 ENTRY_ROWS = """SELECT place, {} FROM entry WHERE place {} ? AND hash NOT IN (SELECT hash FROM withdrawn) ORDER BY place {}"""
 OWN_CLIENTS = "SELECT site, author FROM client WHERE retired != ?"
 LAST_PLACE = 2**63 - 1
@@ -36,8 +40,6 @@ MOST_FAULTS = 3
 # How many entries are read before what counts of them is let through.
 JUDGED_AT_ONCE = 2_000
 
-# The bytes of an entry as a file has them, its hash, its body unsealed, and a sum of that. What the disk damaged may have other types.
-Kept = tuple[Any, ...]
 # What says what a file of a note has lost.
 Lacking = Callable[[About, SqliteFile], list[str]]
 
@@ -65,13 +67,17 @@ class Judged(NamedTuple):
     def add(self, rows: Iterable[Row]) -> None:
         """Adds entries, and lets through what can be."""
         for run in runs(self.judge.unknown(rows)):
-            if len(run) > 1 and self.judge.extend(run):
-                continue
-            for row in run:
-                self.judge.add(row.entry, row.place, row.made, row.types_on)
-                if not row.entry.size and row.entry.hash not in self.judge:
-                    self.others.add(row.entry.hash)
+            self.add_run(run)
         self.judge.let_through()
+
+    def add_run(self, run: Sequence[Row]) -> None:
+        """Adds entries that aren't known, of which each follows the one before it."""
+        if len(run) > 1 and self.judge.extend(run):
+            return
+        for row in run:
+            self.judge.add(row.entry, row.place, row.made, row.types_on)
+            if not row.entry.size and row.entry.hash not in self.judge:
+                self.others.add(row.entry.hash)
 
 
 class Faults:
@@ -192,7 +198,7 @@ def _lost(path: pathlib.Path, noted: bytes, about_it: About, file: SqliteFile) -
 
 def _found(file: SqliteFile, lacks: Lacking) -> FoundEntries:
     about_it, broken = about_of(file), list[str]()
-    right, faults = entries_of(about_it, [raw for raw, in _rows_of(file, RAW, broken)], "the file")
+    right, faults = entries_of(about_it, [raw for _, raw in _rows_of(file, RAW, broken)], "the file")
     return FoundEntries(about_it, right, broken + faults + lacks(about_it, file))
 
 
@@ -200,25 +206,24 @@ def _judged(file: SqliteFile, lacks: Lacking) -> Judged:
     about_it, broken, wrong = about_of(file), list[str](), Faults("the file")
     form, keystrokes = about_it.form(), Keystrokes()
     found = Judged(about_it, Judge(form=form), [], set())
-    page = list[Row]()
-    for row in _rows_of(file, RAW + KEPT_COLUMNS, broken):
-        try:
-            page.append(_as_kept(form, keystrokes, row))
-        except Bad as why:
-            wrong.add(why)
-        if len(page) == JUDGED_AT_ONCE:
-            found.add(page)
-            page.clear()
-    found.add(page)
+    rows = _rows_of(file, KEPT_COLUMNS, broken)
+    while portion := [*islice(rows, JUDGED_AT_ONCE)]:
+        for one in put_together(form, keystrokes, portion):
+            if isinstance(one, Chained):
+                found.add_run(one)
+            else:
+                found.add(_as_kept(form, keystrokes, one, wrong))
+        found.judge.let_through()
     return found._replace(faults=broken + wrong.words() + lacks(about_it, file))
 
 
-def _rows_of(file: SqliteFile, columns: str, broken: list[str]) -> Iterator[Kept]:
-    """All entries that can be read, from the front; where the file is damaged, which is told, also from the other end."""
+def _rows_of(file: SqliteFile, columns: str, broken: list[str]) -> Iterator[Any]:
+    """The places and columns of all entries that can be read, from the front; where the file is damaged, which is told, also from the other
+    end. What the disk damaged may have other types."""
     last = 0
     try:
         for row in file.execute(ENTRY_ROWS.format(columns, ">", "ASC"), (0,)):
-            yield row[1:]
+            yield row
             last = row[0]
     except sqlite3.DatabaseError as why:
         broken.append(f"The file is damaged ({why}); some of it may be lost.")
@@ -226,20 +231,29 @@ def _rows_of(file: SqliteFile, columns: str, broken: list[str]) -> Iterator[Kept
             for row in file.execute(ENTRY_ROWS.format(columns, "<", "DESC"), (LAST_PLACE,)):
                 if row[0] <= last:
                     break
-                yield row[1:]
+                yield row
 
 
-def _as_kept(form: Form, keystrokes: Keystrokes, row: Kept) -> Row:
+def _as_kept(form: Form, keystrokes: Keystrokes, portion: Sequence[KeptEntry], wrong: Faults) -> Iterator[Row]:
+    """The entries of some rows, but those that are none."""
+    for row in portion:
+        try:
+            yield _opened_row(form, keystrokes, row)
+        except Bad as why:
+            wrong.add(why)
+
+
+def _opened_row(form: Form, keystrokes: Keystrokes, row: KeptEntry) -> Row:
     """The entry of a row. One that isn't as it was kept is looked at as a stranger's is; Bad where it is none."""
-    raw, of, body, check = row
+    place, of, raw, body, check, _ = row
     try:
-        if digest(raw) == of and zlib.crc32(body or b"") == check:
+        if digest(raw) == of and zlib.crc32(b"" if body is None else body) == check:
             entry = form.reopened(raw, form.body(raw) if body is None else body, of)
-            return Row(0, entry, False, keystrokes.type_on(entry))
+            return Row(place, entry, False, keystrokes.type_on(entry))
     except (TypeError, ValueError, struct.error):
         # The disk damaged it.
         pass
-    return Row(0, form.open(raw), False)
+    return Row(place, form.open(raw), False)
 
 
 def _with_file(path: pathlib.Path, read: Callable[[SqliteFile], Read]) -> Read:
@@ -249,7 +263,7 @@ def _with_file(path: pathlib.Path, read: Callable[[SqliteFile], Read]) -> Read:
         with contextlib.suppress(Busy):
             return _read(path, path, read)
     try:
-        with copied(path) as copy:
+        with _copied(path) as copy:
             return _read(path, copy, read)
     except (Busy, OSError) as why:
         raise Trouble(f"{path} can't be read ({why}).") from why
@@ -258,14 +272,34 @@ def _with_file(path: pathlib.Path, read: Callable[[SqliteFile], Read]) -> Read:
 def _read(path: pathlib.Path, copy: pathlib.Path, read: Callable[[SqliteFile], Read]) -> Read:
     """What is read of a file by a copy of it, or by itself."""
     try:
-        with FAULTS, contextlib.closing(SqliteFile(copy, writes=False, bounded=True)) as file:
-            if file.application() != NOTE_APPLICATION:
-                raise Trouble(f"{path} isn't a note's file.")
+        with FAULTS, contextlib.closing(_note_in(path, copy)) as file:
             return read(file)
     except Malformed as why:
         raise Trouble(f"{path} is damaged, or isn't a note's file ({why}).") from why
     except Damaged as why:
         raise Trouble(f"{path} is damaged ({why}).") from why
+
+
+@contextlib.contextmanager
+def _copied(path: pathlib.Path) -> Iterator[pathlib.Path]:
+    """A copy of a file with what is beside it, of which none was set aside meanwhile."""
+    with contextlib.ExitStack() as stack:
+        with undisturbed(path.parent):
+            copy = stack.enter_context(copied(path))
+        yield copy
+
+
+def _note_in(path: pathlib.Path, copy: pathlib.Path) -> SqliteFile:
+    """A note's file, or a copy of it, open with what is beside it: the first reading finds that by its name."""
+    with undisturbed(copy.parent):
+        file = SqliteFile(copy, writes=False, bounded=True)
+        try:
+            if file.application() != NOTE_APPLICATION:
+                raise Trouble(f"{path} isn't a note's file.")
+        except BaseException:
+            file.close()
+            raise
+        return file
 
 
 @contextlib.contextmanager

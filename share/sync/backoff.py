@@ -67,6 +67,12 @@ class Turns:
         """Whether what was made here has its turn now."""
         return self._own is not None and time.monotonic() >= self._own
 
+    def failed(self) -> None:
+        """Says that it couldn't be rebased now: its turn comes later, each time ever later."""
+        self._wait = min(2 * self._wait, MOST_REBASE_SECONDS)
+        self._free = time.monotonic() + self._wait
+        self._own, self._others = (turn and max(turn, self._free) for turn in (self._own, self._others))
+
     def seconds(self) -> int:
         """The seconds until what was lost is rebased; 0 where nothing was."""
         ends = [end for end in (self._own, self._others) if end is not None]

@@ -95,15 +95,18 @@ class Carried:
             self._mark(places, WAS_READ)
             self._given.difference_update(places)
 
-    def end(self) -> list[int]:
-        """All that the log had as `begin` was called was read; the places that it had before and has no more."""
+    def missing(self) -> list[int]:
+        """The places that the log had as `begin` was called, and that weren't read there since."""
         with self._lock:
-            missing = [place for place, mark in enumerate(self._marks) if mark & IN_LOG == WAS_HAD]
+            return [place for place, mark in enumerate(self._marks) if mark & IN_LOG == WAS_HAD]
+
+    def end(self) -> None:
+        """All that the log had as `begin` was called was read; it isn't known to have any more what is missing."""
+        with self._lock:
             self._marks, self.lettings = self._marks.translate(_AFTER_END), self.lettings + 1
             self._unsent = self._marks.count(OWN_EDIT)
             self._first = 1
             self.whole += 1
-        return missing
 
     def gave(self, places: Iterable[int]) -> None:
         """The log was given these places, and has said that it has them."""

@@ -84,8 +84,11 @@ class Fetcher:
 
     def _end_reading(self, disk: Disk, carried: Carried) -> None:
         """All that the log had as its reading began was read. The giver gives it all that it lacks."""
+        # Where that can't be counted now the reading ends once it can, and the loss is told.
+        missing = disk.entries.many_at(carried.missing())
         self._goal = None
-        if missing := disk.entries.many_at(carried.end()):
+        carried.end()
+        if missing:
             self._tell_of_loss(missing)
         if self.readings:
             now = time.monotonic()

@@ -49,6 +49,8 @@ class Hider:
         try:
             told = self._hide(names, is_due)
         except BaseException as why:
+            # What can't be done isn't tried again in each turn.
+            self._rebaser.wait()
             self._replica.site.go_back(before)
             if not isinstance(why, Unkept):
                 raise

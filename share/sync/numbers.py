@@ -40,18 +40,21 @@ class Numbers:
         self._another_after = 0.0
         # The numbers that were given up, or copied with the note, and that no other editor has.
         self._held: set[Who] = set()
+        # What was made under them, is kept since others have it, and was let go for the log to be given it.
+        self._let_go: set[bytes] = set()
         self.own = self.locked() or self.claimed()
 
     def lock_again(self, disk: Disk) -> None:
         """Locks this editor's number in a file that has taken the other one's place."""
         self.is_taken = not disk.lock(self.own.site)
 
-    def claimed(self) -> Client:
-        """A new number; where all are claimed one under which nothing can be typed."""
+    def claimed(self, retired: Sequence[Client] = ()) -> Client:
+        """A new number, as others are given up; where all are claimed one under which nothing can be typed."""
         try:
-            return self.claim()
+            return self.claim(retired=retired)
         except Trouble as why:
             self.why_none = str(why)
+            self._retire(retired)
             return Client(READING, self._form.new_author(), retired=True)
 
     def locked(self, suits: Callable[[Client], bool] = lambda one: True) -> Client | None:
@@ -59,7 +62,7 @@ class Numbers:
         while found := next((one for one in self._usable() if suits(one) and self._file.disk.lock(one.site)), None):
             # Who had it may have written more, or given it up, since the file was read.
             self._file.read()
-            self._holdings.reread_anew(self._file.disk)
+            self._file.read_own()
             for one in self._usable():
                 if who(one) == who(found) and suits(one):
                     return one
@@ -73,8 +76,8 @@ class Numbers:
                   and who(one) not in holdings.newer and holdings.judge.holder(one.site) == one.author.name]
         return sorted(usable, key=lambda one: not one.stood)
 
-    def claim(self, locks: bool = True) -> Client:
-        """A number that nobody has claimed as far as is known here. It is locked before other editors of this
+    def claim(self, locks: bool = True, retired: Sequence[Client] = ()) -> Client:
+        """A number that nobody has claimed as far as is known here, as others are given up. It is locked before other editors of this
         person can see it, but where it is for one of them."""
         taken = self._holdings.judge.claimed()
         free = [number for number in range(1, GREATEST_SITE + 1) if number not in taken]
@@ -86,9 +89,10 @@ class Numbers:
         # Where there is no log nobody else can claim it.
         client = Client(site, self._form.new_author(), stood=not self._has_log)
         claim = self._form.claim(client.site, client.author)
-        self._file.mended(lambda: self._file.disk.keep([claim], True, client=client))
+        self._file.mended(lambda: self._file.disk.keep([claim], True, client=client, retired=retired))
         self._holdings.clients[who(client)] = client
         self._holdings.add([claim])
+        self._holdings.gave_up(retired)
         trace(Traced.NUMBER_CLAIMED, site=site)
         return client
 
@@ -132,7 +136,7 @@ class Numbers:
             # Who had one may have written more under it, or given it up, since the file was read.
             held |= {*map(who, broken)}
             self._file.read()
-            self._holdings.reread_anew(self._file.disk)
+            self._file.read_own()
 
     def lost(self, own: bool) -> list[ToRebase]:
         """What was lost of what was made here, or of what others made with a key that is here, under numbers that no other
@@ -143,14 +147,19 @@ class Numbers:
     def give_up(self, clients: Sequence[Client]) -> list[Client]:
         """Gives numbers up; those that weren't before."""
         retired = [one for one in clients if not one.retired]
-        if retired:
-            self._file.mended(lambda: self._file.disk.keep([], True, retired=retired))
-            self._holdings.gave_up(retired)
+        if self.is_taken or who(self.own) in map(who, clients):
+            # In one step: what is typed under a number that was given up would never be sent.
+            self.own, self.is_taken, self.is_full = self.claimed(retired), False, False
+        else:
+            self._retire(retired)
         for one in retired:
             trace(Traced.NUMBER_GIVEN_UP, site=one.site)
-        if self.is_taken or who(self.own) in map(who, clients):
-            self.own, self.is_taken, self.is_full = self.claimed(), False, False
         return retired
+
+    def _retire(self, clients: Sequence[Client]) -> None:
+        if clients:
+            self._file.mended(lambda: self._file.disk.keep([], True, retired=clients))
+            self._holdings.gave_up(clients)
 
     def withdraw(self, clients: Sequence[Client], replicator: Replicator) -> bool:
         """Takes back what was made under numbers and that nobody else has; whether there was any. What others have and the log
@@ -161,9 +170,10 @@ class Numbers:
         known = holdings.followed().intersection(made) | in_log
         gone = self._file.mended(lambda: self._file.disk.entries.withdraw(set(made) - known, known))
         holdings.withdraw(gone)
-        if known > in_log:
-            # It was held back until now.
-            replicator.read_from_front()
+        if new := known - in_log - self._let_go:
+            # It was held back until now. A log that goes on lacking it is given it as whatever else it loses.
+            self._let_go |= new
+            replicator.let_go()
         return bool(gone)
 
     def take_another_when_full(self, length: int) -> bool:

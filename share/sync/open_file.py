@@ -94,6 +94,10 @@ class OpenFile:
             self.disk.entries.damaged, self.lacks = 0, True
         return new
 
+    def read_own(self) -> None:
+        """Reads again which numbers were given up, and what was rebased."""
+        self.mended(lambda: self._holdings.reread_anew(self.disk))
+
     def look(self, at_end: bool = False) -> bool:
         """Raises Damaged where the file isn't what is in memory; whether that was seen at once. What is read next, as after an edit,
         needn't be looked at again."""

@@ -22,7 +22,7 @@ from share.program.undo import looks_of
 from share.store.own import Anew
 from share.sync.standing import said_of_copies
 from share.sync.state import Holdings, ToRebase, who
-from share.text.errors import Trouble
+from share.text.errors import Refused
 from share.text.looks import DEFAULT, Dressed, dressed
 from share.text.names import Name, Names, united, without
 
@@ -260,7 +260,7 @@ def _at_the_end(lost: Sequence[Operation], site: Site) -> list[Done]:
 
 def _all_of(old: Operation, edited: Edited) -> list[Done]:
     if edited.refused:
-        raise Trouble(f"An edit couldn't be made anew (refused {edited.refused}). Save the note as a file.")
+        raise Refused(edited.refused)
     return [Done(old, message) for message in edited.messages]
 
 

@@ -6,19 +6,20 @@ from contextlib import suppress
 
 from share.format.entry import Form
 from share.format.history import Messages
+from share.format.operation import Operation
 from share.program.trace import Traced, trace
 from share.store.guarded import Unkept
 from share.store.own import Client, Overtaken
 from share.sync.backoff import Turns, told_of_edits, told_of_numbers
 from share.sync.edits import OwnEdits
-from share.sync.numbers import Numbers
+from share.sync.numbers import FULL, Numbers
 from share.sync.open_file import OpenFile
 from share.sync.rebase import Rebased, at_once, length_of, rebase, with_claims
 from share.sync.replica import Replica
 from share.sync.replicator import Replicator
-from share.sync.state import Holdings
+from share.sync.state import Holdings, ToRebase
 from share.sync.status import Notices
-from share.text.errors import counted
+from share.text.errors import Refused, Trouble, counted
 
 # The pause before what couldn't be rebased is tried again.
 REBASE_AGAIN_SECONDS = 5
@@ -32,6 +33,8 @@ class Rebaser:
         self._file, self._holdings, self._form, self._numbers = file, holdings, form, numbers
         self._replica, self._edits, self._replicator, self._notices = replica, edits, replicator, notices
         self._turns, self._again = Turns(), 0.0
+        # What was told last of what couldn't be rebased.
+        self._trouble: str | None = None
 
     def may_write(self) -> bool:
         """Whether what couldn't be written lately may be tried again."""
@@ -41,10 +44,17 @@ class Rebaser:
         """Tries again later what can't be written now."""
         self._numbers.is_settled, self._again = False, time.monotonic() + REBASE_AGAIN_SECONDS
 
-    def later(self, why: Unkept) -> None:
+    def later(self, why: Exception) -> None:
         """Tries again later what couldn't be rebased, which is told."""
-        self._notices.trouble = f"Edits couldn't be made anew yet ({why}). Make room on the disk."
+        self._trouble = (f"Edits couldn't be made anew yet ({why}). Make room on the disk." if isinstance(why, Unkept)
+                         else f"Edits couldn't be made anew yet. {why}")
+        self._notices.trouble = self._trouble
         self.wait()
+
+    def _is_done(self) -> None:
+        """Nothing is to be tried again."""
+        if self._notices.trouble == self._trouble:
+            self._notices.trouble = None
 
     def settle(self, anew: Messages | None, has_read: bool) -> bool:
         """Gives up the numbers of this person that can't be gone on with, and rebases what doesn't count, when its turn
@@ -88,42 +98,69 @@ class Rebaser:
             given_up = numbers.give_up(broken)
             if numbers.own.site != number:
                 self._edits.goes_on()
-            self._turns.found(bool(numbers.lost(own=True)), bool(numbers.lost(own=False)))
+            own, others = bool(numbers.lost(own=True)), bool(numbers.lost(own=False))
+            self._turns.found(own, others)
+            if not (own or others):
+                self._is_done()
             return given_up
         except Unkept as why:
             self.later(why)
             return []
+        except BaseException:
+            # They are looked at again.
+            self.wait()
+            raise
 
     def _rebase(self, broken: Sequence[Client]) -> None:
-        """Rebases, under this number, what was made under others and doesn't count, and whose turn it is."""
-        holdings, own = self._holdings, self._turns.is_own_due()
+        """Rebases, under this number, what was made under others and doesn't count, and whose turn it is. Where that can't be all is as if
+        nothing had been made, and it is tried again later: what is lost is found again by what counts."""
+        own = self._turns.is_own_due()
         lost, is_all = at_once(self._numbers.lost(own))
-        rows = [*holdings.rows.each()]
         messages = [*dict.fromkeys(message for one in lost for message in one.messages)]
+        try:
+            made = self._keep_rebased(lost, messages, own)
+        except Overtaken:
+            # Another editor of this person was quicker.
+            self._numbers.is_settled = False
+            self._file.read_own()
+            self._replica.begin_anew(self._holdings.judge.let_through_in_order())
+        except (Unkept, Trouble, Refused) as why:
+            self._rebase_later(why)
+            self._say_that_it_waits(broken)
+        except Exception:
+            self._turns.failed()
+            raise
+        else:
+            trace(Traced.REBASED, messages=len(messages), made=made, own=own)
+            self._say_what_was_made(broken, len(messages), own, is_all)
+
+    def _keep_rebased(self, lost: Sequence[ToRebase], messages: Sequence[Operation], own: bool) -> int:
+        """Does again what remains of lost messages, and keeps it; how many messages that makes."""
+        holdings = self._holdings
+        rows = [*holdings.rows.each()]
         self._edits.make_room(length_of(messages))
         done = rebase(rows, messages, holdings.judge, self._replica.site,
                       () if own else with_claims(rows, lost)) if lost else []
         rebased = Rebased(holdings, lost, done, self._edits.last)
-        try:
-            self._edits.keep([one.new for one in done if one.new], rebased.anew() if own else (),
-                             lambda last: rebased.copies(self._form, last), rebased.hidings())
-        except (Unkept, Overtaken) as why:
-            self._rebase_later(why)
-            return
-        trace(Traced.REBASED, messages=len(messages), made=len(done), own=own)
-        if is_all:
-            self._turns.made(own)
-        many = len(messages)
-        self._say_of(broken, told_of_edits(many if own else 0, 0 if own else many))
+        self._edits.keep([one.new for one in done if one.new], rebased.anew() if own else (),
+                         lambda last: rebased.copies(self._form, last), rebased.hidings())
+        return len(done)
 
     def _rebase_later(self, why: Exception) -> None:
-        """As if nothing had been made; it is tried again later."""
-        if isinstance(why, Unkept):
-            self.later(why)
-        else:
-            self._numbers.is_settled = False
-            self._holdings.reread_anew(self._file.disk)
+        """As if nothing had been made; it is tried again later, and ever later where no room on the disk is all that it lacks."""
+        if not isinstance(why, Unkept):
+            self._turns.failed()
+        if isinstance(why, Refused) and why.number in FULL:
+            self._numbers.is_full = True
+        self.later(why)
         self._replica.begin_anew(self._holdings.judge.let_through_in_order())
+
+    def _say_what_was_made(self, broken: Sequence[Client], many: int, own: bool, is_all: bool) -> None:
+        """Notes and tells what was rebased."""
+        self._is_done()
+        if is_all:
+            self._turns.made(own)
+        self._say_of(broken, told_of_edits(many if own else 0, 0 if own else many))
 
     def _say_that_it_waits(self, broken: Sequence[Client]) -> None:
         """Says that numbers were given up, and when what was lost is rebased, where something was."""

@@ -185,6 +185,11 @@ class Replicator:
         """Reads the log from its front, and gives it what it lacks. Any thread may call it."""
         self._known.read_from_front()
 
+    def let_go(self) -> None:
+        """Gives the log what was held back, where the file says by now that it may be given."""
+        self._known.now.lets_go()
+        self._giver.has_work()
+
     def close(self, seconds: float) -> None:
         """Stops, when all is sent or this time has passed. Once stopped it sends nothing more."""
         end = time.monotonic() + seconds

@@ -171,7 +171,7 @@ class Session:
             self._replica.is_stale = True
             self._rebaser.wait()
             return []
-        except Trouble:
+        except BaseException:
             # What was counted hasn't been taken in.
             self._replica.is_stale = True
             raise

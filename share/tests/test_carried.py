@@ -13,6 +13,8 @@ from share.format.entry import Entry
 from share.log.base import InLog
 from share.log.redis import RedisLog
 from share.log.sqlite import SqliteLog
+from share.store.entries import Entries
+from share.store.guarded import Damaged, Unkept
 from share.sync.carried import Carried
 from share.tests.note import Note
 from share.tests.support import Case, Person, change, damage, raws_of, type_at_the_end, wait_for, written
@@ -47,7 +49,8 @@ class Marks(unittest.TestCase):
                         self.assertEqual(carried.came_to_end(frozenset(some)), len(lost))
                         given -= lost
                     case 4:
-                        self.assertEqual(set(carried.end()), had - read - given)
+                        self.assertEqual(set(carried.missing()), had - read - given)
+                        carried.end()
                         had = set()
                 there = read | given | had
                 self.assertEqual({place for place in range(61) if carried.has(place)}, there)
@@ -153,6 +156,22 @@ class Lost(Case):
             self.assert_log_is_full()
         note.take_in()
         self.assertRegex(note.notice, "The log has lost 1 entry that it had. It is filled again from here")
+
+    def test_a_loss_that_can_not_be_counted_at_once_is_told(self) -> None:
+        note, many_at, faults = self.opened(self.anna, url=str(self.path)), Entries.many_at, [Unkept("busy"), Damaged("away")]
+        written(note, "one ")
+        wait_for(lambda: not note.session._replicator._known.now.given(), "what was given to be read")
+
+        def counted(entries: Entries, places: Sequence[int]) -> int:
+            if places and faults:
+                raise faults.pop()
+            return many_at(entries, places)
+
+        with mock.patch.object(Entries, "many_at", counted):
+            change(self.path, "DELETE FROM entry WHERE hash = ?", note.session.last().hash)
+            wait_for(lambda: (note.take_in(), "The log has lost 1 entry that it had" in note.notice)[1], "the loss to be told")
+        self.assertFalse(faults)
+        self.assert_log_is_full()
 
     def test_a_log_that_keeps_losing_an_entry_gets_the_others(self) -> None:
         note, append, lost = self.opened(self.anna, url=str(self.path)), SqliteLog.append, list[bytes]()

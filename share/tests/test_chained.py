@@ -18,9 +18,11 @@ from share.format.keystrokes import Keystrokes
 from share.format.operation import GREATEST_STAMP, MOST_OF_A_SITE
 from share.format.sealed import Sealed
 from share.store import chained
+from share.store.chained import put_together
 from share.store.entries import Entries
 from share.store.note_file import About, Disk, make_note
 from share.store.own import Client
+from share.store.read_only import Judged, judged
 from share.sync.handover import Handover
 from share.sync.state import Holdings
 from share.tests import test_keystrokes
@@ -64,8 +66,26 @@ class Found:
         return Chained(*words)
 
 
+def printed(path: pathlib.Path, is_quick: bool) -> tuple[Judged, int]:
+    """The same for who prints it, and how often some were put together."""
+    made = list[Chained]()
+
+    def counted(*words: Any) -> Chained:
+        made.append(Chained(*words))
+        return made[-1]
+
+    with (mock.patch("share.store.read_only.JUDGED_AT_ONCE", PORTION), mock.patch.object(chained, "Chained", side_effect=counted),
+          mock.patch("share.store.read_only.put_together", put_together if is_quick else one_by_one)):
+        return judged(path), len(made)
+
+
 class Alike(Case):
     """Random notes with forks, gaps, others' entries under own numbers, copies and damage."""
+
+    def setUp(self) -> None:
+        super().setUp()
+        # How often some were put together for who prints.
+        self.put_together = 0
 
     def random_note(self, chance: random.Random, about: About) -> pathlib.Path:
         """The file of one; some of those who wrote it are its person."""
@@ -94,6 +114,7 @@ class Alike(Case):
 
     def assert_alike(self, path: pathlib.Path, chance: random.Random, is_right: bool) -> int:
         """That it is the same by both ways; how often some were put together."""
+        self.assert_printed_alike(path)
         other = path.with_suffix(".other")
         shutil.copy(path, other)
         quick, slow = (Found(one, is_quick, random.Random(chance.random())) for one, is_quick in ((path, True), (other, False)))
@@ -109,12 +130,19 @@ class Alike(Case):
         self.assertEqual(*({of for of, client in found.clients.items() if found.is_anothers(client)} for found in (one, two)))
         return quick.chained
 
+    def assert_printed_alike(self, path: pathlib.Path) -> None:
+        """That the same is printed by both ways, and what is wrong with it told."""
+        (quick, together), (slow, none) = printed(path, True), printed(path, False)
+        self.assertEqual((quick.faults, quick.others, none), (slow.faults, slow.others, 0))
+        test_keystrokes.Counts().assert_alike(quick.judge, slow.judge)
+        self.put_together += together
+
     def test_the_same_counts(self) -> None:
         chance, many = random.Random(8), 0
         for number in range(ROUNDS):
             about = About(number % 4 == 0, bytes(range(32 if number % 4 == 0 else 16)))
             many += self.assert_alike(self.random_note(chance, about), chance, True)
-        self.assertGreater(many, 2 * ROUNDS)
+        self.assertGreater(min(many, self.put_together), 2 * ROUNDS)
 
     def test_the_same_is_damaged(self) -> None:
         chance, many = random.Random(9), 0
@@ -128,7 +156,7 @@ class Alike(Case):
                         file.execute(f"UPDATE entry SET {chance.choice(DAMAGES)} WHERE place = ?", (place,))
                 file.execute("PRAGMA wal_checkpoint(TRUNCATE)")
             many += self.assert_alike(path, chance, False)
-        self.assertGreater(many, ROUNDS)
+        self.assertGreater(min(many, self.put_together), ROUNDS)
 
     def test_each_kind_of_damage_and_a_gap_among_many(self) -> None:
         for sealed in False, True:

@@ -17,7 +17,9 @@ from share.program.site import Edited, Site, Told
 from share.store.entries import Entries
 from share.store.guarded import Unkept
 from share.store.note_file import Disk, make_note
+from share.store.old import copied
 from share.store.own import Anew, Client, Overtaken, OwnTables
+from share.store.read_only import found_in
 from share.sync.open_file import OpenFile
 from share.sync.session import Session
 from share.tests import test_numbers
@@ -214,6 +216,20 @@ class GivenUp(Case):
                              "both edits to be there")
                     self.assertEqual(sorted(self.assert_meet(first, second).split()), sorted(b"one two three F S".split()))
 
+    def test_what_is_typed_while_no_other_number_can_be_claimed(self) -> None:
+        self.begun()
+        first = self.opened(self.anna)
+        written(first, "F ")
+        with mock.patch("share.sync.rebasing.REBASE_AGAIN_SECONDS", 0.3):
+            with mock.patch.object(OwnTables, "add_client", side_effect=Unkept("full")) as tried:
+                second = self.opened(self.copied())
+                written(second, "S ")
+                wait_for(lambda: (first.take_in(), tried.called)[1], "another number to be tried")
+                # Nothing of hers is lost, but nothing more is sent under a number under which somebody else writes.
+                type_at_the_end(first, "last ")
+            wait_for(lambda: (second.take_in(), first.take_in(), b"last" in second.text)[2], "what was typed to come")
+        self.assertEqual(sorted(self.assert_meet(first, second).split()), sorted(b"one two three F S last".split()))
+
     def test_what_the_log_brings_back_isnt_made_anew(self) -> None:
         self.begun()
         with contextlib.closing(self.anna.disk()) as disk:
@@ -296,12 +312,53 @@ class Replaced(Case):
             self.assertEqual((disk.is_in_place(), disk.entries.size()), (False, many))
         self.assertNotEqual(inode_of(path), inode)
 
+    def test_none_takes_the_place_of_one_that_is_being_printed(self) -> None:
+        note = self.opened(self.person())
+        written(note, "words ")
+        path, many = self.person().path(), note.session._file.disk.entries.size()
+        replaces = threading.Thread(target=lambda: make_note(path, note.session._about, damaged=inode_of(path)))
+
+        def opened(*words: Any, **more: Any) -> SqliteFile:
+            file = SqliteFile(*words, **more)
+            replaces.start()
+            replaces.join(1)
+            return file
+
+        with mock.patch("share.store.read_only.SqliteFile", opened):
+            found = found_in(path)
+        replaces.join()
+        self.assertEqual((len(found.entries), found.faults), (many, []))
+
+    def test_none_takes_the_place_of_one_that_is_being_copied(self) -> None:
+        person = self.person()
+        note = self.opened(person)
+        written(note, "words ")
+        note.session.close()
+        path = person.path()
+        with contextlib.closing(person.disk()) as disk:
+            about = disk.about
+        replaces = threading.Thread(target=lambda: make_note(path, about, damaged=inode_of(path)))
+
+        def copied_while(*words: Any) -> Any:
+            replaces.start()
+            replaces.join(1)
+            return copied(*words)
+
+        with mock.patch("share.store.read_only.copied", copied_while):
+            text = person.text()
+        replaces.join()
+        self.assertEqual(text, b"words ")
+
     def test_who_stopped_as_it_took_a_place_keeps_nobody_from_opening(self) -> None:
         note = self.opened(self.person())
         written(note, "words ")
         path = note.session._file.disk.path
         with held(path.parent), mock.patch("share.log.folder.MOST_DISTURBED_SECONDS", 0.1), contextlib.closing(Disk(path)) as disk:
             self.assertGreater(disk.entries.size(), 0)
+            self.assertEqual(self.person().text(), b"words ")
+            note.session.close()
+            disk.close()
+            self.assertEqual(self.person().text(), b"words ")
 
     def test_who_opens_it_meanwhile_has_written_nothing(self) -> None:
         note = self.opened(self.person())

@@ -109,6 +109,28 @@ ELEMENTS = """[...document.querySelectorAll('#formatted *')].map((one) => [one.t
 # Each is formatted or given up in bounded time, and none keeps the page from its user.
 DEEP = [">" * 20_000 + " x", "- " * 5_000 + "x", "[" * 50_000, "![" * 30_000, "*a " * 15_000 + "a* " * 15_000, "`" + "``a`" * 10_000,
         "<" * 50_000, "**a " * 20_000, "&" * 50_000, "|a" * 10_000 + "\n" + "|-" * 10_000 + "\n" + "|a\n" * 1_000, "a\n  " * 60_000]
+# A reader of Markdown on a slow machine, which takes six seconds, and says what it has done meanwhile or nothing.
+SLOW_READER = """((isHeard) => {
+  window.before ??= window.Worker;
+  window.Worker = class {
+    constructor() { setTimeout(() => this.onmessage({ data: null })); }
+    postMessage() {
+      if (isHeard) [1, 2, 3].forEach((part) => setTimeout(() => this.onmessage({ data: part / 4 }), 1500 * part));
+      setTimeout(() => this.onmessage({ data: [["it was slow"]] }), 6000);
+    }
+    terminate() { this.onmessage = () => {}; }
+  };
+})(arguments[0])"""
+# Keeps the numbers that the reader says.
+HEARD = """(() => {
+  window.before ??= window.Worker;
+  window.Worker = class extends window.before {
+    constructor(...words) {
+      super(...words);
+      this.addEventListener("message", ({ data }) => { if (typeof data === "number") window.heard.push(data); });
+    }
+  };
+})()"""
 
 
 def setUpModule() -> None:
@@ -444,6 +466,35 @@ class Using(Pages):
             first.wait_for(f"{FORMATTED} || {FORMATTED.replace('0', '1')}", f"number {number}", "too long to be")
         first.run(f"{MIRROR}.setValue('')")
         first.press("format")
+
+    def test_a_slow_reading_that_goes_on_is_waited_for(self) -> None:
+        first = self.first
+        self.put("*a word* ")
+        first.run(SLOW_READER, True)
+        self.addCleanup(first.run, "(window.Worker = window.before)")
+        first.press("format")
+        first.wait_for(f"{FORMATTED} || {FORMATTED.replace('0', '1')}", "it was slow", "too long to be")
+        self.assertEqual(first.run("document.getElementById('formatted').textContent"), "it was slow")
+        first.press("format")
+        first.run(SLOW_READER, False)
+        first.press("format")
+        first.wait_for(FORMATTED, "too long to be")
+        first.press("format")
+
+    def test_a_long_reading_says_that_it_goes_on(self) -> None:
+        first = self.first
+        first.run(HEARD)
+        self.addCleanup(first.run, "(window.Worker = window.before)")
+        texts = "*a* [b](c)\n\n" * 2_000, "*a* [b](c) " * 2_000, "> - *a*\n" * 2_000, "a\n" * 4_000, ""
+        for number, text in enumerate(texts):
+            first.run("(window.heard = [])")
+            self.put(f"{text}the end of {number}")
+            first.press("format")
+            first.wait_for(FORMATTED, f"the end of {number}")
+            heard = first.run("window.heard")
+            self.assertEqual(heard, sorted(heard))
+            self.assertTrue(8 * bool(text) <= len(heard) <= 20, (text[:20], heard))
+            first.press("format")
 
     def test_it_looks_well_on_a_desk_and_a_phone_by_day_and_by_night(self) -> None:
         first = self.first

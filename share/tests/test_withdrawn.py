@@ -7,8 +7,13 @@ import pathlib
 import shutil
 import sqlite3
 import unittest
+from collections.abc import Sequence
 from unittest import mock
 
+from share.format.entry import digest
+from share.log.sqlite import SqliteLog
+from share.sync.known import Known
+from share.sync.numbers import Numbers
 from share.tests.naive import entry_of
 from share.tests.note import Note
 from share.tests.support import Case, type_at_the_end, wait_for, written
@@ -60,8 +65,8 @@ class CopiedUnsent(Case):
         self.sends("three ")
         self.assert_each_is_made_once("begun one two three ")
 
-    def test_what_the_log_has_is_not_made_anew_for_an_entry_that_lost(self) -> None:
-        self.sends("")
+    def add_one_that_lost(self) -> None:
+        """Has the log get an entry in the place of the first of what waited, in which that holds."""
         with contextlib.closing(self.anna.disk()) as disk, contextlib.closing(self.anna.log()) as log:
             held = {row.entry.hash: row.entry for row in disk.entries.rows()}
             (author,) = [one.author for one in disk.own.clients() if one.site == held[self.waited[0]].site]
@@ -70,14 +75,46 @@ class CopiedUnsent(Case):
             numbered = (message._replace(data=b"%d" % number) for number in itertools.count())
             lost = (entry_of(disk.form, held[first.before], [one], author, first.on) for one in numbered)
             log.append([next(one for one in lost if one.hash > first.hash).raw])
+
+    def test_what_the_log_has_is_not_made_anew_for_an_entry_that_lost(self) -> None:
+        self.sends("")
+        self.add_one_that_lost()
         with mock.patch("share.sync.backoff.OTHERS_SECONDS", 1_000):
             self.assert_each_is_made_once("begun one two ")
 
-    def test_what_somebody_typed_on_after_is_given_to_a_log_that_lost_it(self) -> None:
-        self.sends("three ")
+    def lose(self) -> None:
+        """Has the log lose what waited."""
         with contextlib.closing(sqlite3.connect(self.path)) as log, log:
             self.assertEqual(log.executemany("DELETE FROM entry WHERE hash = ?", ((of,) for of in self.waited)).rowcount, 2)
+
+    def test_what_somebody_typed_on_after_is_given_to_a_log_that_lost_it(self) -> None:
+        self.sends("three ")
+        self.lose()
         self.assert_each_is_made_once("begun one two three ")
+
+    def test_a_log_that_goes_on_lacking_it_is_not_read_again_each_time(self) -> None:
+        self.sends("three ")
+        self.add_one_that_lost()
+        self.lose()
+        append, tries = SqliteLog.append, list[bool]()
+
+        def appended(log: SqliteLog, raws: Sequence[bytes]) -> None:
+            tries.append(any(digest(raw) in self.waited for raw in raws))
+            append(log, [raw for raw in raws if digest(raw) not in self.waited])
+
+        with mock.patch.object(SqliteLog, "append", appended), mock.patch("share.sync.backoff.OTHERS_SECONDS", 1_000):
+            note = self.opened(self.copy, link=self.link)
+            wait_for(lambda: (note.take_in(), any(tries))[1], "it to be given")
+            numbers, replicator = note.session._numbers, note.session._replicator
+            read, times = mock.Mock(), 5
+            with (mock.patch.object(Known, "read_from_front", read),
+                  mock.patch.object(Numbers, "withdraw", autospec=True, side_effect=Numbers.withdraw) as withdraw):
+                for _ in range(times):
+                    wait_for(lambda: not any(map(replicator.has, self.waited)), "it to be seen that the log lacks it")
+                    numbers.is_settled = False
+                    note.take_in()
+            self.assertEqual((withdraw.call_count, read.call_count), (times, 0))
+        wait_for(lambda: (note.take_in(), not note.session.status().unsent)[1], "all to be sent")
 
 
 if __name__ == "__main__":

@@ -36,7 +36,8 @@ export function isHeard(cm, label) {
 /** Tells, when others have stopped typing, which lines they changed. */
 export class Changes {
   #cm;
-  #marks = [];
+  // The changed lines themselves: a mark in the text would have its line drawn anew as it goes, and what is composed there be lost.
+  #lines = [];
   #timer;
 
   constructor(cm) {
@@ -45,15 +46,14 @@ export class Changes {
 
   /** Others changed a place. */
   at(place) {
-    if (this.#marks.length < MOST_READ) this.#marks.push(this.#cm.setBookmark(place));
+    if (this.#lines.length < MOST_READ) this.#lines.push(this.#cm.getLineHandle(place.line));
     clearTimeout(this.#timer);
     this.#timer = setTimeout(() => this.#tell(), REST_MS);
   }
 
   #tell() {
-    const lines = this.#marks.map((mark) => mark.find()?.line).filter((line) => line !== undefined);
-    for (const mark of this.#marks) mark.clear();
-    this.#marks = [];
+    const lines = this.#lines.map((line) => this.#cm.getLineNumber(line)).filter((line) => line !== null);
+    this.#lines = [];
     const [first, last] = [Math.min(...lines), Math.max(...lines)];
     if (!lines.length) return;
     if (first === last) tell(`Others changed line ${first + 1}: ${this.#cm.getLine(first).slice(0, MOST_READ)}`);

@@ -1,4 +1,5 @@
-// The note's text in the page: how it looks, who is where in it, and how what is typed is read back from the browser.
+// The note's text in the page: how it looks, and who is where in it.
+import { Composing } from "./composing.js";
 import { Edited } from "./edited.js";
 import { SIGN_KEYS } from "./graphemes.js";
 import { Others } from "./others.js";
@@ -11,7 +12,6 @@ const SPECIAL = /[\0-\x1f\x7f-\xa0\xad\u061c\u200b\u200e\u200f\u2028\u2029\ufeff
 const AGAIN_MS = 50;
 // A text that has more lines isn't in the page as a whole.
 const MOST_LINES = 1000;
-const SIGN = "[cm-text]";
 const NO_BREAK = "\u00a0";
 const dot = CodeMirror.defaults.specialCharPlaceholder;
 /**
@@ -37,19 +37,13 @@ export class Editor extends Edited {
   // The marks of what has looks, and those of them that are bold.
   #dressed = [];
   #bold = new Set();
-  // The elements that stand for one character each, by what they show.
-  #signs = new WeakMap();
 
   /** `told` is told what `Edited` tells. */
   constructor(place, told) {
     super(CodeMirror(place, { ...OPTIONS, autofocus: true, readOnly: true, extraKeys: { ...SIGN_KEYS } }), told);
     this.#others = new Others(this.cm, this.places);
-    this.cm.on("renderLine", (_, __, line) => line.querySelectorAll(SIGN).forEach((sign) => this.#signs.set(sign, sign.textContent)));
+    this.composing = new Composing(this.cm);
     this.cm.on("changes", () => this.#fit());
-    this.cm.on("blur", () => this.#endComposing());
-    const field = this.cm.getInputField();
-    field.addEventListener("input", (event) => { if (!(/** @type {InputEvent} */ (event)).isComposing) this.#freeText(field); });
-    field.addEventListener("compositionend", () => this.#freeText(field));
     // CodeMirror would type one half of a character that has two, where a key types it; the browser types all of it.
     this.cm.on("keypress", (_, event) => {
       if (event.charCode >= 0xd800 && (event.charCode < 0xe000 || event.charCode > 0xffff)) event.codemirrorIgnore = true;
@@ -60,7 +54,7 @@ export class Editor extends Edited {
 
   /** Draws the text anew, when nothing is composed in it. */
   #refresh() {
-    if (this.isComposing) setTimeout(() => this.#refresh(), AGAIN_MS);
+    if (this.composing.isOn) setTimeout(() => this.#refresh(), AGAIN_MS);
     else this.cm.refresh();
   }
 
@@ -126,31 +120,6 @@ export class Editor extends Edited {
       for (const mark of before) mark.clear();
       return list.map(({ begin, end, ...how }) => this.cm.markText(this.places.at(begin), this.places.at(end), how));
     });
-  }
-
-  /** Whether the browser has text that isn't read back yet, as of an input method: what would come in now could take it away. */
-  get isComposing() {
-    const { input } = /** @type {any} */ (this.cm).display;
-    return Boolean(input.composing) || input.readDOMTimeout !== null;
-  }
-
-  /** Puts what the browser has put into an element that stands for one character beside that, since CodeMirror reads there. */
-  #freeText(field) {
-    for (const sign of field.querySelectorAll(SIGN)) {
-      const [shown, now] = [this.#signs.get(sign), sign.textContent];
-      if (shown === undefined || shown === now) continue;
-      sign.textContent = shown;
-      if (now.startsWith(shown)) sign.after(now.slice(shown.length));
-      else sign.before(now.endsWith(shown) ? now.slice(0, now.length - shown.length) : now);
-    }
-  }
-
-  /** Reads back what an input method has left, of which no end may have been told. */
-  #endComposing() {
-    const { input } = /** @type {any} */ (this.cm).display;
-    if (!input.composing) return;
-    input.composing = null;
-    input.readFromDOMSoon();
   }
 
   /** Shows these cursors of others, and no others. */

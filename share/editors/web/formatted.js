@@ -12,7 +12,7 @@ const ALIGNED = new Set(["left", "right", "center"]);
 const MOST_DEPTH = 100;
 const MOST_NODES = 50_000;
 const MOST_CHARACTERS = 1_000_000;
-// How long nothing is typed before the text is formatted anew, and how long that may take.
+// How long nothing is typed before the text is formatted anew, and how long each part of that may take.
 const REST_MS = 150;
 const PATIENCE_MS = 4000;
 
@@ -173,11 +173,23 @@ export class Formatted {
   #go() {
     if (!this.#isReady || this.#isBusy || !this.#isDue) return;
     [this.#isDue, this.#isBusy] = [false, true];
-    this.#patience = setTimeout(() => this.#fails("This text takes too long to be formatted."), PATIENCE_MS);
-    this.#reader.postMessage(this.#text().slice(0, MOST_CHARACTERS));
+    this.#wait();
+    // One step more than are shown says that there is a rest.
+    this.#reader.postMessage({ text: this.#text().slice(0, MOST_CHARACTERS), most: MOST_NODES + 1 });
   }
 
+  /** Waits for what the reader does next, as long as that may take. */
+  #wait() {
+    clearTimeout(this.#patience);
+    this.#patience = setTimeout(() => this.#fails("This text takes too long to be formatted."), PATIENCE_MS);
+  }
+
+  /** The reader is ready, has done a part of the work, or all of it. */
   #came(steps) {
+    if (typeof steps === "number") {
+      this.#wait();
+      return;
+    }
     clearTimeout(this.#patience);
     this.#isBusy = false;
     this.#isReady = true;

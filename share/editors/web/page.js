@@ -29,8 +29,8 @@ class Page {
   #connection = new Connection({
     came: (line) => this.#came(line),
     ended: (code, reason) => this.#ended(code, reason),
-    isBusy: () => this.editor.isComposing,
-    waits: (many) => { if (many % WAITING === 0) this.#send({ do: "seen", version: this.#client?.version ?? 0 }); },
+    isBusy: () => this.editor.composing.isOn,
+    waits: (many) => this.#waits(many),
   });
   // Who talks to the engine; none while there is no connection. And who did so last.
   #client;
@@ -51,7 +51,7 @@ class Page {
     this.changes = new Changes(cm);
     this.keys = new Keys(cm, () => this.#client);
     this.past = new Past((request) => this.#ask(request), (site) => this.#colours.get(site), () => this.editor.show());
-    this.finding = new Finding(cm, () => this.keys.release());
+    this.finding = new Finding(cm, () => this.#settle());
     this.formatted = new Formatted(() => this.editor.text);
     this.writers = new Writers(this.editor, (begin, end) => this.#whoWrote(begin, end), (site) => this.#colours.get(site));
     this.notes = new Notes((words) => this.#ask({ do: "notes", words }));
@@ -70,7 +70,7 @@ class Page {
       element(command).addEventListener("click", () => this.#does(command));
     }
     element("colour").addEventListener("change", ({ target }) => {
-      this.keys.release();
+      this.#settle();
       this.#look({ colour: Number(target.value) });
       target.selectedIndex = 0;
       cm.focus();
@@ -78,7 +78,10 @@ class Page {
     element("history").addEventListener("click", () => this.past.show());
     element("notes").addEventListener("click", () => this.notes.show());
     element("format").addEventListener("click", () => this.formatted.toggle());
-    element("writers").addEventListener("click", () => this.writers.toggle());
+    element("writers").addEventListener("click", () => {
+      this.#settle();
+      this.writers.toggle();
+    });
     element("name").addEventListener("change", () => this.#rename());
     window.addEventListener("beforeunload", (event) => { if (this.#isUnanswered()) event.preventDefault(); });
     cm.on("paste", paste);
@@ -107,8 +110,14 @@ class Page {
     commands.save = () => {};
   }
 
-  #does(command) {
+  /** Does what waits: keys that are kept, and what the browser has and the text hasn't. */
+  #settle() {
     this.keys.release();
+    this.editor.composing.end();
+  }
+
+  #does(command) {
+    this.#settle();
     this.editor.cm.focus();
     this.editor.cm.execCommand(command);
   }
@@ -147,6 +156,12 @@ class Page {
     this.#connection.send(line);
   }
 
+  /** Lines wait for what is composed. */
+  #waits(many) {
+    if (many % WAITING === 0) this.#send({ do: "seen", version: this.#client?.version ?? 0 });
+    this.editor.composing.hurry();
+  }
+
   #came(line) {
     if (line.notice === "welcome") this.#open(line);
     else if (line.notice === "opening") this.#state(`reading, ${Math.floor((100 * line.done) / (line.of || 1))} %`);
@@ -180,7 +195,7 @@ class Page {
   }
 
   #ended(code, reason) {
-    this.keys.release();
+    this.#settle();
     this.#client?.end();
     this.#client = undefined;
     this.editor.types = false;
@@ -198,7 +213,7 @@ class Page {
   /** Opens the note anew, under another name, as soon as all is answered. */
   #rename() {
     sessionStorage.setItem("name", element("name").value);
-    this.keys.release();
+    this.#settle();
     this.editor.types = false;
     this.#isRenamed = this.#client !== undefined;
     this.#ask({ do: "close" });

@@ -1,0 +1,277 @@
+"""Input methods in the page in Chromium: however a composition ends, what was composed is there once, and what others typed comes in."""
+from __future__ import annotations
+
+import os
+import pathlib
+import shutil
+import signal
+import tempfile
+import unittest
+from typing import Any
+
+from share.tests.pages import Pages, Server, kept
+from share.tests.support import engine_of, wait_for
+
+try:
+    from selenium.webdriver.common.action_chains import ActionChains
+    from selenium.webdriver.common.keys import Keys
+
+    from share.tests.browser import CHROMIUM, DRIVER, MIRROR, Browser, Window
+    IS_HERE = bool(CHROMIUM and DRIVER)
+except ModuleNotFoundError:
+    IS_HERE = False
+
+BROWSER: Browser
+FIELD = f"{MIRROR}.getInputField()"
+TOLD = "document.getElementById('told').textContent === words[0]"
+# The browser that says of no composition that it has ended.
+NO_END = """(window.noEnd = (event) => event.stopImmediatePropagation(),
+  addEventListener("compositionend", noEnd, true))"""
+WITH_END = "removeEventListener('compositionend', noEnd, true)"
+# The clock that the page sees goes on by a minute.
+LATER = "(window.clock ??= performance.now.bind(performance), performance.now = () => clock() + 60000)"
+NOW = "(performance.now = () => clock())"
+# A browser that tells a composition from its midst on, and ends it by the words that it had.
+FROM_ITS_MIDST = """((field, words) => {
+  const tell = (kind) => field.dispatchEvent(new CompositionEvent(kind, { data: words, bubbles: true }));
+  tell("compositionupdate");
+  document.execCommand("insertText", false, words);
+  tell("compositionend");
+})(FIELD, arguments[0])""".replace("FIELD", FIELD)
+# Its user goes away from the text and to a button at once.
+AWAY_TO = """((button) => {
+  document.activeElement.blur();
+  document.getElementById(button).click();
+})(arguments[0])"""
+
+
+def setUpModule() -> None:
+    """Starts one Chromium for all."""
+    global BROWSER
+    BROWSER = Browser()
+    unittest.addModuleCleanup(BROWSER.close)
+
+
+def compose(window: Window, *parts: str) -> None:
+    """An input method composes, part by part; an empty one takes all back."""
+    for part in parts:
+        window.command("Input.imeSetComposition", text=part, selectionStart=len(part), selectionEnd=len(part))
+
+
+def click_on_line(window: Window, number: int) -> None:
+    """Clicks on a line of the text, behind its end."""
+    line = window.driver.find_elements("css selector", "#text .CodeMirror-line")[number]
+    actions: Any = ActionChains
+    actions(window.driver).move_to_element(line).click().perform()
+
+
+class Composed(Pages):
+    """Two windows of one person; in the first one an input method composes within `ab`, beside text of the second."""
+
+    data: pathlib.Path
+    server: Server
+    first: Window
+    second: Window
+
+    @classmethod
+    def setUpClass(cls) -> None:
+        super().setUpClass()
+        cls.data = pathlib.Path(tempfile.mkdtemp(prefix="share-"))
+        cls.addClassCleanup(shutil.rmtree, cls.data, ignore_errors=True)
+        cls.server = Server(cls.data, "--no-browser")
+        cls.addClassCleanup(cls.server.close)
+        cls.first, cls.second = BROWSER.open(cls.server.path), BROWSER.open(cls.server.path)
+        cls.addClassCleanup(cls.second.close)
+        cls.addClassCleanup(cls.first.close)
+
+    def setUp(self) -> None:
+        super().setUp()
+        self.first.run(f"{MIRROR}.setValue('ab\\ncd')")
+        self.second.shows("ab\ncd")
+        self.first.run(f"{MIRROR}.focus()")
+        self.first.to(1)
+        # CodeMirror ends what is composed 20 ms after the focus came.
+        self.first.driver.execute_async_script("setTimeout(arguments[0], 50)")
+
+    def tearDown(self) -> None:
+        self.assert_kept(self.data, self.first, self.second)
+        self.assert_no_faults(self.first, self.second)
+
+    def compose_beside_others(self, *parts: str) -> None:
+        """The first window composes, and others' text waits for it."""
+        compose(self.first, *parts)
+        self.second.run(f"{MIRROR}.replaceRange('before ', {{ line: 0, ch: 0 }})")
+        wait_for(lambda: kept(self.data).startswith("before "), "the other's text")
+        self.assertEqual(self.first.text(), "ab\ncd")
+
+    def show(self, text: str) -> None:
+        """Both show a text, and what is typed then."""
+        for window in self.first, self.second:
+            window.shows(text)
+        self.first.run(f"{MIRROR}.focus()")
+        self.first.type(Keys.CONTROL, Keys.END, Keys.NULL, "!")
+        self.second.shows(f"{text}!")
+
+    def test_what_is_taken_back_leaves_nothing(self) -> None:
+        self.compose_beside_others("k", "ka")
+        compose(self.first, "")
+        self.show("before ab\ncd")
+
+    def test_what_is_typed_after_it_was_taken_back_is_there(self) -> None:
+        compose(self.first, "k", "ka", "")
+        self.first.type("xy")
+        self.second.shows("axyb\ncd")
+
+    def test_escape_ends_it(self) -> None:
+        self.compose_beside_others("k", "ka")
+        self.first.type(Keys.ESCAPE)
+        self.show("before akab\ncd")
+
+    def test_the_focus_goes(self) -> None:
+        for goes in ("document.activeElement.blur()", "document.getElementById('name').focus()",
+                     "(document.getElementById('text').hidden = true)"):
+            with self.subTest(goes):
+                self.compose_beside_others("k", "ka")
+                self.first.run(goes)
+                self.second.shows("before akab\ncd")
+                self.first.run("(document.getElementById('text').hidden = false)")
+                self.show("before akab\ncd")
+                self.setUp()
+
+    def test_a_click_elsewhere(self) -> None:
+        self.compose_beside_others("k", "ka")
+        self.first.element("header").click()
+        self.show("before akab\ncd")
+
+    def test_a_click_elsewhere_in_the_text(self) -> None:
+        self.compose_beside_others("k", "ka")
+        click_on_line(self.first, 1)
+        self.show("before akab\ncd")
+
+    def test_one_after_the_other(self) -> None:
+        self.compose_beside_others("k", "ka")
+        self.first.command("Input.insertText", text="\u6f22")
+        compose(self.first, "j", "ji", "")
+        self.show("before a\u6f22b\ncd")
+
+    def test_one_that_is_told_from_its_midst(self) -> None:
+        self.first.run(FROM_ITS_MIDST, "\u6f22")
+        self.second.run(f"{MIRROR}.replaceRange('before ', {{ line: 0, ch: 0 }})")
+        self.show("before a\u6f22b\ncd")
+
+    def test_no_end_is_told(self) -> None:
+        self.first.run(NO_END)
+        self.addCleanup(self.first.run, WITH_END)
+        # The next key isn't the input method's.
+        self.compose_beside_others("k", "ka")
+        self.first.command("Input.insertText", text="\u6f22")
+        self.first.type(Keys.SHIFT)
+        self.show("before a\u6f22b\ncd")
+
+    def test_no_end_is_told_and_nothing_comes_after_it(self) -> None:
+        self.first.run(NO_END)
+        self.addCleanup(self.first.run, WITH_END)
+        for parts, text in (("k", "ka", "\u6f22"), "before a\u6f22b\ncd"), (("k", "ka", ""), "before ab\ncd"):
+            self.compose_beside_others(*parts[:2])
+            if parts[2]:
+                self.first.command("Input.insertText", text=parts[2])
+            else:
+                compose(self.first, "")
+            self.first.run(LATER)
+            self.addCleanup(self.first.run, NOW)
+            self.show(text)
+            self.first.run(NOW)
+            self.setUp()
+
+    def test_one_that_rests_for_long_is_ended_as_it_stands(self) -> None:
+        self.compose_beside_others("k", "ka")
+        self.first.run(LATER)
+        self.addCleanup(self.first.run, NOW)
+        self.first.shows("before akab\ncd")
+        # The input method goes on behind it.
+        compose(self.first, "n")
+        self.first.command("Input.insertText", text="\u6f22")
+        self.show("before aka\u6f22b\ncd")
+
+    def test_it_goes_on_while_there_are_signs_of_it(self) -> None:
+        self.first.run(LATER)
+        self.addCleanup(self.first.run, NOW)
+        self.compose_beside_others("k", "ka", "kan")
+        self.first.driver.execute_async_script("setTimeout(arguments[0], 500)")
+        self.assertEqual(self.first.text(), "ab\ncd")
+        self.first.command("Input.insertText", text="\u6f22")
+        self.show("before a\u6f22b\ncd")
+
+    def test_what_is_told_of_others_text_leaves_it_there(self) -> None:
+        self.second.run(f"{MIRROR}.replaceRange('before ', {{ line: 0, ch: 0 }})")
+        self.first.shows("before ab\ncd")
+        compose(self.first, "k", "ka")
+        self.first.wait_for(TOLD, "Others changed line 1: before ab")
+        self.second.run(f"{MIRROR}.replaceRange('too ', {{ line: 0, ch: 0 }})")
+        self.first.command("Input.insertText", text="\u6f22")
+        self.show("too before a\u6f22b\ncd")
+
+    def test_a_button_is_pressed_at_once(self) -> None:
+        for button, back in ("find", "found"), ("writers", "writers"), ("bold", ""), ("undo", "redo"):
+            with self.subTest(button):
+                compose(self.first, "k", "ka")
+                self.first.run(AWAY_TO, button)
+                if back:
+                    self.first.press(back)
+                self.first.shows("akab\ncd")
+                self.second.shows("akab\ncd")
+                self.setUp()
+
+    def test_something_is_pasted(self) -> None:
+        compose(self.first, "k", "ka")
+        self.first.paste("pasted\n")
+        self.show("akapasted\nb\ncd")
+
+    def test_signs_that_stand_for_a_character(self) -> None:
+        for text, at in ("x\ty", 2), ("x\t", 2), ("a\r", 2):
+            self.first.run(f"{MIRROR}.setValue(arguments[0])", text)
+            self.second.shows(text)
+            self.first.to(at)
+            compose(self.first, "k", "ka")
+            self.first.run(LATER)
+            self.addCleanup(self.first.run, NOW)
+            self.second.run(f"{MIRROR}.replaceRange('before ', {{ line: 0, ch: 0 }})")
+            for window in self.first, self.second:
+                window.shows(f"before {text[:at]}ka{text[at:]}")
+            self.first.run(NOW)
+
+
+class CutOff(Pages):
+    """One window, with a server of its own."""
+
+    def test_what_was_composed_as_the_engine_ended_is_kept_beside(self) -> None:
+        data = self.folder / "data"
+        server = Server(data, "--no-browser")
+        self.addCleanup(server.close)
+        window = BROWSER.open(server.path)
+        self.addCleanup(window.close)
+        self.addCleanup(window.run, "window.onbeforeunload = null")
+        window.type("answered")
+        wait_for(lambda: kept(data) == "answered", "the text to be kept")
+        compose(window, " o", " or not")
+        os.kill(engine_of(data), signal.SIGKILL)
+        window.wait_for("document.querySelector('#words p button')")
+        window.shows("answered")
+        window.element("#words p button").click()
+        self.assertEqual(window.run("document.querySelector('#past-text .CodeMirror').CodeMirror.getValue()"), "answered or not")
+        window.press("back")
+        window.type("again")
+        self.assert_kept(data, window)
+        self.assert_no_faults(window)
+
+
+def load_tests(loader: unittest.TestLoader, tests: unittest.TestSuite, _: object) -> unittest.TestSuite:
+    """The tests, where there is a browser."""
+    if IS_HERE:
+        return tests
+    print("Chromium, its driver or python3-selenium isn't installed: tests of input methods in a browser are skipped.", flush=True)
+    return loader.suiteClass([])
+
+
+if __name__ == "__main__":
+    unittest.main()
