@@ -5,7 +5,7 @@ from enum import IntEnum
 from typing import NamedTuple
 
 from share.format.chunk import NoChunk, unpacked, unpacked_one_by_one
-from share.format.entry import GREATEST_SITE, LONGEST_SAID, NO_HASH, Bad, Copied
+from share.format.entry import GREATEST_SITE, LONGEST_SAID, NO_HASH, Bad, Copied, digest
 from share.format.operation import Operation
 from share.format.presence import clean_name
 from share.format.second.claim import ZERO_BITS, number_of_rank, rank_of
@@ -57,6 +57,11 @@ class Record(NamedTuple):
     hashes: tuple[bytes, ...] = ()
     # What names each message of a base, where the opening was there to say it.
     links: tuple[bytes, ...] = ()
+
+    @property
+    def hash(self) -> bytes:
+        """That of its bytes, by which a store knows it; nothing that is said hangs on it."""
+        return digest(self.raw)
 
     @property
     def note(self) -> bytes:
