@@ -4,7 +4,7 @@ from itertools import chain, islice
 from typing import NamedTuple, Protocol
 
 from share.admission.ledger import Who
-from share.format.entry import NO_HASH, Copy, Entry
+from share.format.entry import NO_HASH, Copied, Copy, Entry
 from share.format.operation import Operation
 
 # The most messages that are looked at which stand for others by the word of somebody else than their author; and the most of what is
@@ -56,15 +56,14 @@ class Copies:
         self.sites: dict[int, int] = {}
         self.lasts: set[bytes] = set()
 
-    def add(self, entry: Entry) -> None:
-        """Takes over what an entry says."""
-        copied = entry.copied
+    def add(self, site: int, author: bytes, before: bytes, copied: Copied) -> None:
+        """Takes over what an author says under a number, of the messages up to one that is named, or of each."""
         last = max((by + size - 1 for _, by, size in copied.stretches if by), default=0)
         self.sites[copied.by_site] = max(self.sites.get(copied.by_site, 0), last)
         self.lasts.add(copied.last)
         whose = copied.site, copied.author
-        known = self._by_authors if (entry.site, entry.author) == whose else self._by_others
-        said = [_Stretch(seq, size, Copy(copied.by, copied.by_site, by), entry.before, copied.last) for seq, by, size in copied.stretches]
+        known = self._by_authors if (site, author) == whose else self._by_others
+        said = [_Stretch(seq, size, Copy(copied.by, copied.by_site, by), before, copied.last) for seq, by, size in copied.stretches]
         known.setdefault(whose, []).extend(said)
         self._by_copier.setdefault((copied.by_site, copied.by), []).extend((whose, one) for one in said if one.by.seq)
 

@@ -82,16 +82,16 @@ class Sayings(Hashes):
 
     # What comes.
 
-    def add(self, entry: WithMessages, hashes: Sequence[bytes], ons: Sequence[bytes]) -> int | None:
-        """Adds those of an entry's messages that aren't here; the first of them, without which none of the others has its place; None
-        where all are here."""
+    def add(self, entry: WithMessages, hashes: Sequence[bytes], ons: Sequence[bytes]) -> list[int]:
+        """Adds those of an entry's messages that aren't here, and gives their numbers; without the first of them none of the others has
+        its place."""
         client = self._client(Whose(entry.author, entry.site, entry.text))
         before = self._entered(entry.before) if entry.before != NO_HASH else None
-        numbers, found, at = [*map(self._entered, hashes)], None, 0
+        numbers, found, at = [*map(self._entered, hashes)], list[int](), 0
         for run in entry.operations:
             for begin, end in self._lacking(numbers, ons, at, at + run.size):
                 self._put(numbers[begin:end], client, run.part(begin - at, end - at), numbers[begin - 1] if begin else before, ons[begin])
-                found = numbers[begin] if found is None else found
+                found += numbers[begin:end]
             at += run.size
         return found
 
@@ -231,6 +231,11 @@ class Sayings(Hashes):
     def missing(self, most: int) -> list[bytes]:
         """The hashes of some messages that are missing, after which others came."""
         return [self.hash(number) for number, _ in zip(self._waiting, range(most))]
+
+    def message(self, number: int) -> Operation:
+        """A message that is here."""
+        run, seq = self._runs[self._in_runs[number]], self._seqs[number]
+        return run.part(seq - run.seq, seq + 1 - run.seq)
 
     def run(self, numbers: MutableSequence[int], begin: int, end: int) -> Operation:
         """The first run of messages that go on one from the other, from one place up to another; the first of them all has place 0."""
