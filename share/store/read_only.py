@@ -20,7 +20,7 @@ from share.program.site import Site
 from share.store.entries import GREATEST_PLACE
 from share.store.guarded import Damaged
 from share.store.locks import noted_beside, place_noted
-from share.store.note_file import NOTE_APPLICATION, About, about_of, noted_of, unsent_of
+from share.store.note_file import NOTE_APPLICATIONS, About, about_of, noted_of, unsent_of
 from share.store.old import copied
 from share.store.own import COPIED
 from share.text.errors import NEWER, Trouble, entries
@@ -259,7 +259,7 @@ def _read(path: pathlib.Path, copy: pathlib.Path, read: Callable[[SqliteFile], R
     """What is read of a file by a copy of it, or by itself."""
     try:
         with FAULTS, contextlib.closing(SqliteFile(copy, writes=False, bounded=True)) as file:
-            if file.application() != NOTE_APPLICATION:
+            if file.application() not in NOTE_APPLICATIONS.values():
                 raise Trouble(f"{path} isn't a note's file.")
             return read(file)
     except Malformed as why:

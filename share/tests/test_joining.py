@@ -13,6 +13,7 @@ from share.format.operation import Operation
 from share.log.opening import open_log
 from share.program.process import Program
 from share.store import notes
+from share.store.founding import begun
 from share.sync.session import Session
 from share.tests.naive import entry_of, taking
 from share.tests.note import Note
@@ -63,7 +64,7 @@ class Joining(Case):
 
     def fill(self, url: str, rounds: list[list[Operation]], backwards: bool = False) -> str:
         """Makes a log with the messages of rounds; the link of its note."""
-        about = notes.about_new(url)
+        about = begun(url).about
         form = about.form()
         raws = in_entries(form, rounds)
         with contextlib.closing(open_log(url, form.note)) as log:

@@ -45,6 +45,14 @@ class RecordForm(Form):
         super().__init__(identity_of_public(public))
         self.keys, self.public, self.zero_bits = keys, public, zero_bits
 
+    @staticmethod
+    @abstractmethod
+    def author_of_any_note() -> Author:
+        """An author whom nobody else can be, in a note that needn't be known yet."""
+
+    def new_author(self) -> Author:
+        return self.author_of_any_note()
+
     @property
     @abstractmethod
     def itself(self) -> Author:
@@ -157,7 +165,8 @@ class PlainRecords(RecordForm):
         keys = NoteKeys(key)
         super().__init__(keys, keys.plain, zero_bits)
 
-    def new_author(self) -> Author:
+    @staticmethod
+    def author_of_any_note() -> Author:
         return Author(secrets.token_bytes(POINT_BYTES), b"")
 
     @property
@@ -194,7 +203,9 @@ class SealedRecords(RecordForm):
         self._seal, self._on = AESGCM(keys.seal), AESGCM(keys.presence)
         super().__init__(keys, public_of(keys.append), zero_bits)
 
-    def new_author(self) -> Author:
+    @staticmethod
+    def author_of_any_note() -> Author:
+        check_library()
         secret = secrets.token_bytes(POINT_BYTES)
         return Author(public_of(secret), secret)
 
