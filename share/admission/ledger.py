@@ -14,7 +14,7 @@ from typing import NamedTuple, overload
 from share.admission.hashes import HASH_BYTES, MARK_MASK, NUMBER_BITS, Hashes
 from share.format.entry import (CHUNKS, NO_HASH, SAY_WHAT_THEY_BUILD_ON, Entry, FirstEntry, FirstForm, Form, Kind, operations_of,
                                 operations_one_by_one)
-from share.format.operation import Operation
+from share.format.operation import TEXT, Operation
 
 # A site and an author.
 Who = tuple[int, bytes]
@@ -283,6 +283,8 @@ class Branch:
     where others take their place that is another branch."""
 
     __slots__ = ("ledger", "site", "numbers", "lasts", "types_on")
+    # A note of the first form has one text.
+    text = TEXT
 
     def __init__(self, ledger: Ledger, site: int):
         self.ledger, self.site = ledger, site
@@ -309,6 +311,18 @@ class Branch:
         branch = Branch(self.ledger, self.site)
         branch.numbers, branch.lasts, branch.types_on = self.numbers[:at], self.lasts[:at], self.types_on[:at]
         return branch
+
+    def shared(self, other: "Branch") -> int:
+        """How many of the first messages are the same as those of another one."""
+        # Each entry has the hash of the one before it, so that what is the same is so up to one place.
+        low, high = 0, min(len(self), len(other))
+        while low < high:
+            middle = (low + high + 1) // 2
+            if self.ledger.hash(self.numbers[middle - 1]) == other.ledger.hash(other.numbers[middle - 1]):
+                low = middle
+            else:
+                high = middle - 1
+        return self.lasts[low - 1] if low else 0
 
     def at(self, number: int) -> int | None:
         """Where the entry of a number is; None where it isn't here."""

@@ -48,7 +48,7 @@ class Path:
         low, high = 0, min(most, len(self), len(other))
         while low < high:
             middle = (low + high) // 2
-            if self.numbers[middle] == other.numbers[middle]:
+            if self.hash(middle) == other.hash(middle):
                 low = middle + 1
             else:
                 high = middle

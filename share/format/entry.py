@@ -135,6 +135,7 @@ class Copy(NamedTuple):
     author: bytes
     site: int
     seq: int
+    text: int = TEXT
 
 
 class Copied(NamedTuple):
@@ -241,8 +242,15 @@ class Entry(Protocol):
     def name(self) -> bytes:
         """What names it to what follows it."""
 
+    @property
+    def names(self) -> tuple[bytes, ...]:
+        """What names it, or each of its messages."""
+
     def name_of(self, seq: int) -> bytes:
         """What names its message of a seq."""
+
+    def seq_of(self, name: bytes) -> int:
+        """The seq of the last message that a name of it means."""
 
     @property
     def chunk(self) -> bytes:
@@ -293,9 +301,18 @@ class FirstEntry(NamedTuple):
         """What names it to what follows it."""
         return self.hash
 
+    @property
+    def names(self) -> tuple[bytes, ...]:
+        """What names it."""
+        return (self.hash,)
+
     def name_of(self, seq: int) -> bytes:
         """What names its messages: all of them alike."""
         return self.hash
+
+    def seq_of(self, name: bytes) -> int:
+        """The seq of the last message that a name of it means: its last one."""
+        return self.last
 
     @property
     def body(self) -> bytes:
@@ -356,6 +373,8 @@ class Form(ABC):
     # The kinds of entries that have messages that somebody made under a number, and of claims, by the byte that says so.
     kinds_of_messages: tuple[int, ...]
     kind_of_claims: int
+    # The numbers that texts have.
+    texts: Sequence[int]
     # Whether messages are named by hashes of their own, and not by that of their entry.
     names_messages: bool
     # Whether a number costs a search.
@@ -449,6 +468,7 @@ class FirstForm(Form):
     author_bytes: int
     site_at, before_at = 18, HEAD.size - len(NO_HASH)
     names_messages = is_searched = False
+    texts = (TEXT,)
     kinds_of_messages, kind_of_claims = tuple(map(int, (*CHUNKS, *ONE_BY_ONE))), int(Kind.CLAIM)
 
     def body(self, raw: bytes) -> bytes:

@@ -3,7 +3,7 @@ or made."""
 from contextlib import closing
 from typing import NamedTuple
 
-from share.admission.judge import Judge
+from share.admission.judges import judge_of
 from share.format.history import Messages
 from share.format.second.key_link import AnyLink
 from share.program import replay, retyping
@@ -54,11 +54,11 @@ def found_of(name: str, url: str | None, link: AnyLink | None, password: str | N
         here = read_only.judged(path)
     elif link:
         about = About(link.form == "sealed", link.secret, link.url, link.form_number)
-        here = Judged(about, Judge(form=about.form()), [], set())
+        here = Judged(about, judge_of(about.form()), [], set())
     elif kept := notes.of_before(name, url, password):
         about = begun(None).about
         rows = in_rows(about.form(), kept.messages)
-        return Judged(about, Judge(row.entry for row in rows), list(kept.left_out), set())
+        return Judged(about, judge_of(about.form(), (row.entry for row in rows)), list(kept.left_out), set())
     else:
         raise Trouble(f"There is no note {name} here. To print one that isn't here, give its link.")
     notes.check_agreement(here.about, name, url, link)

@@ -21,13 +21,13 @@ from share.log.sqlite_file import SIDE_FILES, Busy, Malformed, SqliteFile, besid
 from share.store.entries import ADD_ENTRY, ENTRIES_SCHEMA, Entries, entry_values, never_offered
 from share.store.guarded import Damaged, GuardedFile, Unkept
 from share.store.locks import Locks
-from share.store.own import ADD_ANEW, ADD_CLIENT, OWN_SCHEMA, Anew, Client, OwnTables
+from share.store.own import ADD_CLIENT, OWN_SCHEMA, OWN_SCHEMA_OF_TEXTS, Anew, Client, OwnTables, add_anew, anew_values
 from share.text.errors import entries as many_entries
 
 # Tells a note's file from other files of SQLite, in its header, by the form of the note: who doesn't know the second form reads nothing of it.
 FIRST, SECOND = 1, 2
 NOTE_APPLICATIONS = {FIRST: 0x56534E32, SECOND: 0x56534E33}
-NOTE_SCHEMA = f"CREATE TABLE about (name TEXT PRIMARY KEY, value BLOB NOT NULL); {ENTRIES_SCHEMA} {OWN_SCHEMA}"
+NOTE_SCHEMA = f"CREATE TABLE about (name TEXT PRIMARY KEY, value BLOB NOT NULL); {ENTRIES_SCHEMA}"
 NOTE_TABLES = "about", "entry", "withdrawn", "client", "anew"
 IN_DOUBT = "in doubt"
 # How long the key is of a note that is sealed, or of the second form.
@@ -70,7 +70,7 @@ class Disk:
             self.form = self.about.form()
             self.inode = self._file.inode
             self.entries = Entries(self._file, self.form, self.about.sealed)
-            self.own = OwnTables(self._file)
+            self.own = OwnTables(self._file, self.about.form_number == SECOND)
             self._noted_of = noted_of(self.form, self.inode)
         except BaseException:
             self.close()
@@ -118,7 +118,7 @@ class Disk:
         return self._file.has_changed()
 
     def restore(self, rows: Mapping[bytes, Row], withdrawn: Iterable[bytes], hidings: Iterable[Copy] = (),
-                clients: Iterable[Client] = (), anew: Iterable[tuple[bytes, int, int]] = ()) -> None:
+                clients: Iterable[Client] = (), anew: Iterable[Copy] = ()) -> None:
         """Puts back what the file had, where it lacks it. A log may have been offered any of it."""
         with self._file.writing():
             self.own.restore(clients, anew, hidings)
@@ -255,12 +255,13 @@ def make_note(path: pathlib.Path, about: About, rows: Iterable[Row] = (), client
         with contextlib.closing(SqliteFile(new)) as file:
             file.execute("PRAGMA journal_mode = MEMORY")
             with file.transaction():
-                file.create(NOTE_SCHEMA, NOTE_APPLICATIONS[about.form_number])
+                has_texts = about.form_number == SECOND
+                file.create(f"{NOTE_SCHEMA} {OWN_SCHEMA_OF_TEXTS if has_texts else OWN_SCHEMA}", NOTE_APPLICATIONS[about.form_number])
                 file.executemany("INSERT INTO about VALUES (?, ?)", [
                     ("sealed", int(about.sealed)), ("secret", about.secret), ("url", about.url)]
                     + ([("form", about.form_number)] if about.form_number != FIRST else []))
                 file.executemany(f"INSERT {ADD_CLIENT}", (one.values() for one in clients))
-                file.executemany(f"INSERT {ADD_ANEW}", anew)
+                file.executemany(f"INSERT {add_anew(has_texts)}", anew_values(anew, has_texts))
                 file.executemany("INSERT INTO withdrawn (hash) VALUES (?)", ((one,) for one in withdrawn))
                 file.executemany(ADD_ENTRY, (entry_values(row.entry, row.made, offered, about.sealed) for row in rows))
             # Lets readers and a writer be at the file at once.

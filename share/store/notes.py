@@ -9,7 +9,7 @@ from dataclasses import replace
 from itertools import chain, count
 from typing import Literal, NamedTuple
 
-from share.admission.judge import Judge
+from share.admission.judges import judge_of
 from share.admission.ledger import Row
 from share.admission.left_out import LeftOut
 from share.format.entry import Entry
@@ -303,7 +303,7 @@ def _brought_back(name: str, about: About, entries: list[Entry], log: str | None
                 log = None if disk.about.url else log
                 gone = {of for _, of in disk.entries.withdrawn()}
                 disk.keep([entry for entry in entries if entry.hash not in gone], made=False)
-                judge = Judge(row.entry for row in disk.entries.rows() if row.entry.hash not in gone)
+                judge = judge_of(disk.form, (row.entry for row in disk.entries.rows() if row.entry.hash not in gone))
                 break
         except Damaged:
             continue

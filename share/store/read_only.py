@@ -10,7 +10,8 @@ from collections.abc import Callable, Iterable, Iterator
 from functools import partial
 from typing import Any, NamedTuple, TypeVar
 
-from share.admission.judge import Judge
+from share.admission.judges import judge_of
+from share.admission.judging import Judging
 from share.admission.ledger import Row
 from share.admission.runs import runs
 from share.format.entry import Bad, Entry, Form, OneByOne, digest
@@ -53,7 +54,7 @@ class Judged(NamedTuple):
     """What a note has, judged as it was read; what was wrong with it, in words; and the hashes of what the judge doesn't keep."""
 
     about: About
-    judge: Judge
+    judge: Judging
     faults: list[str]
     others: set[bytes]
 
@@ -144,13 +145,13 @@ def judged(path: pathlib.Path) -> Judged:
 
 def text_of(found: FoundEntries) -> NoteText:
     """What a note shows that has these entries."""
-    judge = Judge(found.entries)
+    judge = judge_of(found.about.form(), found.entries)
     messages = judge.count().messages
     with contextlib.closing(Site(1, messages)) as site:
         return NoteText(site.text(), missing(judge, found.faults))
 
 
-def missing(judge: Judge, faults: Iterable[str]) -> list[str]:
+def missing(judge: Judging, faults: Iterable[str]) -> list[str]:
     """What doesn't count of a note in whose file these faults were found, in words."""
     told = list(faults)
     if judge.has_newer():
@@ -199,7 +200,7 @@ def _judged(file: SqliteFile, lacks: Lacking) -> Judged:
     about_it, broken, wrong = about_of(file), list[str](), Faults("the file")
     form = about_it.form()
     looks = form.one_by_one()
-    found = Judged(about_it, Judge(form=form), [], set())
+    found = Judged(about_it, judge_of(form), [], set())
     page = list[Row]()
     for row in _rows_of(file, RAW + KEPT_COLUMNS, broken):
         try:

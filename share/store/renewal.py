@@ -9,7 +9,7 @@ from collections.abc import Iterable, Iterator, Mapping, Sequence, Set
 from contextlib import closing, suppress
 from typing import NamedTuple
 
-from share.admission.judge import Judge
+from share.admission.judging import Judging
 from share.format.history import Messages
 from share.format.operation import INSERT, Operation
 from share.format.presence import clean_name
@@ -80,7 +80,7 @@ def say_so(path: pathlib.Path, name: str, password: str | None) -> None:
                 log.append([said.raw])
 
 
-def renewed_by(judge: Judge, own: Set[tuple[int, bytes]]) -> Line | None:
+def renewed_by(judge: Judging, own: Set[tuple[int, bytes]]) -> Line | None:
     """Who says that a note was renewed, as editors are told it; None where nobody does."""
     for who, name in judge.renewed():
         called = clean_name(name.decode("utf-8", "replace"))

@@ -28,6 +28,7 @@ class OwnEdits:
 
     def __init__(self, file: OpenFile, holdings: Holdings, form: Form, numbers: Numbers, replica: Replica,
                  replicator: Replicator, notices: Notices):
+        self.text = replica.text
         self._file, self._holdings, self._form, self._numbers = file, holdings, form, numbers
         self._replica, self._replicator, self._notices = replica, replicator, notices
         # The last entry that was made here.
@@ -42,7 +43,7 @@ class OwnEdits:
     def goes_on(self) -> None:
         """Begins after the last entry of this editor's number, which may be none that anybody can claim."""
         own, judge = self._numbers.own, self._holdings.judge
-        self.last = judge.last(own.site) if judge.holder(own.site) else self._form.claim(own.site, own.author)
+        self.last = judge.last(own.site, self.text) if judge.holder(own.site) else self._form.claim(own.site, own.author)
 
     def make(self, edit: Callable[[Site], Edited], says: Says = lambda last: ()) -> Edited:
         """Makes an edit, and keeps its messages before anyone sees them, with what is said of them."""
@@ -73,7 +74,7 @@ class OwnEdits:
         def work(site: Site) -> Edited:
             gone = self._holdings.withdrawn()
             here = [row.entry for row in self._holdings.rows.each() if row.entry.hash not in gone]
-            typed = retyping.type_again(found, here, self._holdings.judge, site)
+            typed = retyping.type_again(self._form, found, here, self._holdings.judge, site)
             copies.extend(typed.copies)
             return typed.edited
 
@@ -117,10 +118,11 @@ class OwnEdits:
     def _in_entries(self, messages: Sequence[Operation]) -> list[Entry]:
         """Messages as entries that follow the last one."""
         judge, own = self._holdings.judge, self._numbers.own
-        made, before = list[Entry](), self.last
-        for part in packed_in_parts(messages, judge.length(own.site)):
-            before = self._form.entry(before, part, own.author, judge.built_on(part.operations))
+        made, before, done = list[Entry](), self.last, list[Operation]()
+        for part in packed_in_parts(messages, judge.length(own.site, self.text)):
+            before = self._form.entry(before, part, own.author, judge.built_on(part.operations, done))
             made.append(before)
+            done += part.operations
         return made
 
     def _keep_or_go_back(self, messages: Sequence[Operation], says: Says, before: int) -> None:

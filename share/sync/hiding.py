@@ -71,7 +71,7 @@ class Hider:
         of_others, went = site.delete(one for _, one in names.of_others) if of_others_too else (Edited([]), [])
         shown, come = site.restore(names.shown)
         if messages := hidden.messages + of_others.messages + shown.messages:
-            self._edits.keep(messages, hidings=[Copy(author.name, one.site, one.seq) for one in messages],
+            self._edits.keep(messages, hidings=[Copy(author.name, one.site, one.seq, one.text) for one in messages],
                              says=lambda last: said_of_hidden(self._form, author, of_others.messages, names.of_others, last))
             trace(Traced.HIDDEN, messages=len(hidden.messages), of_others=len(of_others.messages), shown=len(shown.messages))
         told = [one for part in (gone, went, come) if isinstance(part, list) for one in part]
@@ -98,10 +98,10 @@ def wanted(holdings: Holdings) -> Wanted:
     for copy, is_hidden in chain(of_all, recovered.made_by_others(judge)):
         # What was hidden here is shown again by who hid it.
         if (is_hidden or holdings.hidings) and judge.message_counts(*copy) and not _made_here(holdings, copy):
-            if names := judge.message(copy.site, copy.seq).new:
+            if names := judge.message(*copy[1:]).new:
                 of_others.append((copy, names)) if is_hidden else hidden_here.append(names)
     own = [message for copy in holdings.hidings if (message := _made_here(holdings, copy))]
-    said_so = (judge.message(one.site, one.seq) for one in recovered.hidings if judge.message_counts(*one))
+    said_so = (judge.message(*one[1:]) for one in recovered.hidings if judge.message_counts(*one))
     hidings = own + [message for message in said_so if message.kind == DELETE]
     shown = _hidden_by(hidings, united(shown)) + _hidden_by(own, united(hidden_here))
     return Wanted(united(hidden), _hidden_for_that_alone(holdings, hidings, united(shown)), of_others)
@@ -116,7 +116,8 @@ def said_of_hidden(form: Form, author: Author, made: Iterable[Operation], hidden
         of = next((copy for copy, one in copies if _in_both([one], names)), None)
         if of and message.kind == DELETE:
             stretches = ((of.seq, message.seq, 1),)
-            found.append(form.copies(Copied(of.author, of.site, author.name, last.site, stretches, last.hash), author, last.site))
+            found.append(form.copies(Copied(of.author, of.site, author.name, last.site, stretches, last.name), author, last.site,
+                                     text=message.text))
     return found
 
 
@@ -124,7 +125,7 @@ def _made_here(holdings: Holdings, copy: Copy) -> Operation | None:
     """A copy, where it counts. Another disk may have written under its number, too."""
     if not holdings.judge.message_counts(*copy):
         return None
-    of = holdings.judge.entry_of(copy.site, copy.seq)
+    of = holdings.judge.entry_of(*copy[1:])
     if of is None or not holdings.rows[of].made:
         return None
     entry = holdings.rows[of].entry

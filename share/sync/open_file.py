@@ -14,7 +14,7 @@ from share.program.intake import Pace
 from share.program.trace import Traced, trace
 from share.store.guarded import Changed, Damaged, Unkept
 from share.store.note_file import Disk, make_note
-from share.store.own import Anew
+from share.store.own import anew_of
 from share.store.read_only import found_in
 from share.sync.state import Holdings, who
 from share.sync.status import Notices
@@ -190,7 +190,7 @@ class OpenFile:
             return disk
         except Damaged:
             aside = make_note(path, self.disk.about, self._rows_and(path), holdings.clients.values(),
-                              [Anew(*one, 0, 0) for one in holdings.anew], holdings.withdrawn(), offered=True, damaged=inode)
+                              [anew_of(one) for one in holdings.anew], holdings.withdrawn(), offered=True, damaged=inode)
             self._notices.tell(f"The note's file was gone or damaged ({why}) and was written anew."
                                + (f" What was there is {aside}." if aside else ""))
             trace(Traced.FILE_WRITTEN_ANEW, entries=len(holdings.rows))

@@ -101,7 +101,7 @@ class Rebaser:
         rows = [*holdings.rows.each()]
         messages = [*dict.fromkeys(message for one in lost for message in one.messages)]
         self._edits.make_room(length_of(messages))
-        done = rebase(rows, messages, holdings.judge, self._replica.site,
+        done = rebase(self._form, rows, messages, holdings.judge, self._replica.site,
                       () if own else with_claims(rows, lost)) if lost else []
         rebased = Rebased(holdings, lost, done, self._edits.last)
         try:

@@ -4,7 +4,8 @@ from collections.abc import Collection, Iterable, Iterator, Mapping, Sequence
 from itertools import chain, takewhile
 from typing import NamedTuple
 
-from share.admission.judge import Counted, Judge
+from share.admission.judges import judge_of
+from share.admission.judging import Counted, Judging
 from share.admission.ledger import Row, Chained, Who
 from share.admission.left_out import LeftOut
 from share.admission.runs import runs
@@ -36,18 +37,20 @@ def who(one: Client | Entry) -> Who:
 
 
 class RowsInMemory(Mapping[bytes, Row]):
-    """The entries that are in memory, by their hashes: those that are judged, and those that were withdrawn."""
+    """The entries that are in memory, by their hashes and by what names their messages: those that are judged, and those that were
+    withdrawn."""
 
-    def __init__(self, judge: Judge, withdrawn: Mapping[bytes, Row]):
+    def __init__(self, judge: Judging, withdrawn: Mapping[bytes, Row]):
         self._judge, self._withdrawn = judge, withdrawn
+        self._named = {name: row for row in withdrawn.values() for name in row.entry.names}
 
     def __getitem__(self, of: bytes) -> Row:
-        if (row := self._withdrawn.get(of) or self._judge.row(of)) is None:
+        if (row := self._withdrawn.get(of) or self._judge.row(of) or self._named.get(of)) is None:
             raise KeyError(of)
         return row
 
     def __contains__(self, of: object) -> bool:
-        return isinstance(of, bytes) and (of in self._withdrawn or of in self._judge)
+        return isinstance(of, bytes) and (of in self._withdrawn or of in self._judge or of in self._named)
 
     def __iter__(self) -> Iterator[bytes]:
         return chain(self._withdrawn, self._judge.hashes())
@@ -66,8 +69,8 @@ class Holdings:
     def __init__(self, form: Form, handover: Handover) -> None:
         self._form, self._handover = form, handover
         self.clients: dict[Who, Client] = {}
-        # The author, site and seq of each message made here that another one stands for, and what stands for which.
-        self.anew: set[tuple[bytes, int, int]] = set()
+        # The messages made here that others stand for, and what stands for which.
+        self.anew: set[Copy] = set()
         self.standing = Standing()
         # What stands for which by the word of all.
         self.standing_for_all = Standing(MOST_SAID_BY_OTHERS)
@@ -76,7 +79,7 @@ class Holdings:
         # The author, site and seq of each message that hides copies here, or shows them again.
         self.hidings: set[Copy] = set()
         self._withdrawn: dict[bytes, Row] = {}
-        self.judge = Judge(form=form, room=MOST_UNCOUNTED_BYTES)
+        self.judge = judge_of(form, room=MOST_UNCOUNTED_BYTES)
         self.rows = RowsInMemory(self.judge, self._withdrawn)
         # Those of this person under whose number somebody else writes, too.
         self._shared: set[Who] = set()
@@ -152,7 +155,7 @@ class Holdings:
             self._backlog.add(before.dropped())
             self._again += self._backlog.take_all()
             self.has_more = self.has_more or bool(self._again)
-            self.judge = Judge(form=self._form, room=MOST_UNCOUNTED_BYTES)
+            self.judge = judge_of(self._form, room=MOST_UNCOUNTED_BYTES)
             for row in before.rows():
                 if row.entry.hash not in gone:
                     self.judge.add_new(row)
@@ -209,9 +212,9 @@ class Holdings:
             if (one.site, one.author) in self.clients:
                 stretches.setdefault((one.site, one.author), []).append(one)
         found = [self._lost_of(row) for of, ones in stretches.items() for row in self.judge.not_through(*of)
-                 if not row.made and not self.judge.is_loose(row.entry.hash)
-                 and any(one.first <= row.entry.last and row.entry.first <= one.last for one in ones)]
-        left = {(entry.hash, message.seq) for entry, messages in found for message in messages}
+                 if not row.made and not self.judge.is_loose(row.entry.name_of(row.entry.first))
+                 and any(one.text == row.entry.text and one.first <= row.entry.last and row.entry.first <= one.last for one in ones)]
+        left = {(entry.name_of(message.seq), message.seq) for entry, messages in found for message in messages}
         found = [ToRebase(entry, [message for message in messages
                                   if left.isdisjoint(self.standing.copies(entry, message.seq, self.rows))])
                  for entry, messages in found]
@@ -225,7 +228,7 @@ class Holdings:
     def _is_made_anew(self, row: Row, message: Operation) -> bool:
         """Whether a message was rebased here, or by another disk with its key, or typed again by somebody."""
         entry = row.entry
-        is_noted = row.made and (entry.author, message.site, message.seq) in self.anew
+        is_noted = row.made and Copy(entry.author, message.site, message.seq, message.text) in self.anew
         return (is_noted and not self.standing.is_void(entry, message.seq)
                 or self.standing.is_made_here(entry, message.seq)
                 or self.standing.is_stood_for(entry, message.seq, self.judge.entry_of, self.rows)
@@ -237,8 +240,9 @@ class Holdings:
         found = []
         for one in self.clients.values():
             if one.retired and self.judge.holder(one.site) == one.author.name:
-                done = [*takewhile(self._was_made_anew, self.judge.held_up(one.site))]
-                found += [(one, last) for last in done[-1:]]
+                for text in self._form.texts:
+                    done = [*takewhile(self._was_made_anew, self.judge.held_up(one.site, text))]
+                    found += [(one, last) for last in done[-1:]]
         return found
 
     def _was_made_anew(self, entry: Entry) -> bool:
@@ -276,12 +280,12 @@ class Holdings:
 
     def made_anew(self, anew: Sequence[Anew], hidings: Sequence[Copy]) -> None:
         """Takes over what was rebased, and which messages hide copies."""
-        self.anew |= {(one.author, one.site, one.seq) for one in anew}
+        self.anew |= {one.of for one in anew}
         self.hidings |= set(hidings)
 
-    def counts_up_to(self, author: bytes, site: int) -> int:
-        """How many messages of an author under a number count."""
-        return self.judge.front(site) if self.judge.holder(site) == author else 0
+    def counts_up_to(self, author: bytes, site: int, text: int) -> int:
+        """How many messages of an author under a number count in a text."""
+        return self.judge.front_of(author, site, text)
 
     def fronts_of_copies(self) -> list[int]:
         """What is to be looked at again where it changes: how far those count of which there are copies, and these."""
@@ -299,7 +303,8 @@ class Holdings:
     def _add(self, row: Row) -> None:
         entry, of = row.entry, who(row.entry)
         is_own = of in self.clients
-        self._withdrawn.pop(entry.hash, None)
+        if self._withdrawn.pop(entry.hash, None):
+            self.rows = RowsInMemory(self.judge, self._withdrawn)
         if is_own and not row.made and entry.kind.is_under_a_number:
             self._shared.add(of)
         self.judge.add_new(row)

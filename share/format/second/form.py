@@ -12,7 +12,7 @@ from share.format.presence import MOST_PRESENCE
 from share.format.second.append import challenged
 from share.format.second.claim import COUNTER_BYTES, ZERO_BITS
 from share.format.second.keys import IDENTITY_BYTES, RECORD_NONCE_BYTES, Founding, NoteKeys, identity_of_public
-from share.format.second.record import CLAIM_ZEROS, RECORD_HEAD, RECORD_KINDS, Record, RecordKind, body_of_messages, checked, record_of
+from share.format.second.record import CLAIM_ZEROS, GREATEST_TEXT, RECORD_HEAD, RECORD_KINDS, Record, RecordKind, body_of_messages, checked, record_of
 from share.format.second.signature import HAS_CRYPTOGRAPHY, POINT_BYTES, SIGNED_BYTES, check_library, is_signed, public_of, signed
 
 if HAS_CRYPTOGRAPHY:
@@ -40,6 +40,7 @@ class RecordForm(Form):
     head_bytes, site_at, before_at = RECORD_HEAD.size, 50, RECORD_HEAD.size - len(NO_HASH)
     kinds_of_messages, kind_of_claims = (int(RecordKind.MESSAGES),), int(RecordKind.CLAIM)
     names_messages = is_searched = True
+    texts = range(1, GREATEST_TEXT + 1)
 
     def __init__(self, keys: NoteKeys, public: bytes, zero_bits: int = ZERO_BITS):
         super().__init__(identity_of_public(public))

@@ -76,7 +76,16 @@ class Record(NamedTuple):
 
     def name_of(self, seq: int) -> bytes:
         """The hash of its message of a seq; of one of the base, what names that."""
-        return (self.hashes or self.links)[seq - self.first]
+        return self.names[seq - self.first]
+
+    @property
+    def names(self) -> tuple[bytes, ...]:
+        """What names each of its messages."""
+        return self.hashes or self.links
+
+    def seq_of(self, name: bytes) -> int:
+        """The seq of the message that a name means."""
+        return self.first + self.names.index(name)
 
     @property
     def on(self) -> bytes:
