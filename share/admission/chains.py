@@ -257,6 +257,10 @@ class Chains:
         at, last_at = branch.at(number), branch.at(end)
         return at is not None and last_at is not None and at <= last_at
 
+    def chained_up_to(self, some: Entry, last: bytes) -> int:
+        """The seq up to which an entry's messages are those of another one, or of one to which that is chained: all of them, or none."""
+        return some.last if self.is_chained(some.hash, last) else 0
+
     def _in_chain(self, last: bytes) -> bytes:
         """An entry, or where it is in no chain the one in a chain to which it is chained. The branches, which take time to find where
         much is in no chain, are found for that alone."""

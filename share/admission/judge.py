@@ -199,6 +199,10 @@ class Judge:
         """Whether an entry is the last of some, or one to which that is chained."""
         return self._chains.is_chained(of, last)
 
+    def chained_up_to(self, some: Entry, last: bytes) -> int:
+        """The seq up to which an entry's messages are those of another one, or of one to which that is chained: all of them, or none."""
+        return self._chains.chained_up_to(some, last)
+
     def is_loose(self, of: bytes) -> bool:
         """Whether an entry lacks one before it."""
         return of in self._chains.outside and self._chains.outside.is_loose(of)

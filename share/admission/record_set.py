@@ -20,7 +20,7 @@ from share.format.second.record import Record, RecordKind
 class RecordSet:
     """Records, and what counts of them."""
 
-    def __init__(self, entries: Iterable[Record] = (), *, form: RecordForm, room: int | None = None):
+    def __init__(self, *, form: RecordForm, room: int | None = None):
         self._form, self._room = form, room
         self._words = Words()
         self._messages = MessageJudge(form.keys.digest)
@@ -32,8 +32,6 @@ class RecordSet:
         self._founding: Founding | None = None
         # Those of the base that came before the opening.
         self._unlinked: list[int] = []
-        for entry in entries:
-            self.add(entry)
 
     def __contains__(self, of: bytes) -> bool:
         return self._number(of) is not None
@@ -86,6 +84,7 @@ class RecordSet:
         entry = row.entry
         if entry.kind is RecordKind.MESSAGES:
             self._records.add(row, self._messages.add(entry))
+            self._words.come(entry.text, entry.hashes)
         elif entry.kind is RecordKind.CLAIM:
             self._claim(entry, self._records.add(row))
         elif entry.kind is RecordKind.BASE:
