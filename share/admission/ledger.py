@@ -12,7 +12,8 @@ from operator import attrgetter
 from typing import NamedTuple, overload
 
 from share.admission.hashes import HASH_BYTES, MARK_MASK, NUMBER_BITS, Hashes
-from share.format.entry import CHUNKS, NO_HASH, SAY_WHAT_THEY_BUILD_ON, Entry, Form, Kind, operations_of, operations_one_by_one
+from share.format.entry import (CHUNKS, NO_HASH, SAY_WHAT_THEY_BUILD_ON, Entry, FirstEntry, FirstForm, Form, Kind, operations_of,
+                                operations_one_by_one)
 from share.format.operation import Operation
 
 # A site and an author.
@@ -77,6 +78,7 @@ class Ledger(Hashes):
 
     def __init__(self, form: Form | None = None):
         super().__init__()
+        assert form is None or isinstance(form, FirstForm)
         self._form = form
         # The sites and authors, and which of them each entry is of.
         self._clients: list[Who] = []
@@ -114,7 +116,7 @@ class Ledger(Hashes):
         self._enter(hashes, first)
         return numbers
 
-    def _add_columns(self, these: Chained, before: int, form: Form) -> range:
+    def _add_columns(self, these: Chained, before: int, form: FirstForm) -> range:
         """The same of entries in columns."""
         first, many = len(self), len(these)
         numbers = range(first, first + many)
@@ -261,7 +263,7 @@ class Ledger(Hashes):
         on, spelled = self.on(number), self.spelled(number)
         begin = self._begin(number)
         tail = bytes(self._kept[begin:begin + self._tail(number)])
-        entry = Entry(kind, site, self._firsts[number], self._sizes[number], before, author, on, spelled, tail, of)
+        entry = FirstEntry(kind, site, self._firsts[number], self._sizes[number], before, author, on, spelled, tail, of)
         return entry if self._form is None else entry._replace(raw=self._form.whole(entry, tail))
 
     def row(self, number: int) -> Row:

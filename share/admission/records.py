@@ -128,7 +128,8 @@ class Records(Hashes):
         first_seq, size = self._firsts[number], self._sizes[number]
         head = RECORD_HEAD.pack(self._form.number, kind, self._form.note, author, site, text, first_seq, size, before)
         raw = self._form.whole(head, body, kept[:tail])
-        return Record(kind, author, site, text, first_seq, size, before, body, raw, tuple(map(sayings.hash, messages)))
+        return Record(kind, author, site, text, first_seq, size, before, body, raw, self.hash(number),
+                      tuple(map(sayings.hash, messages)))
 
     def row(self, number: int) -> RecordRow:
         """A record with its place."""

@@ -16,7 +16,7 @@ from share.admission.ledger import Row
 from share.format.entry import NOTE_BYTES, Copy, Entry, Form, Plain, digest
 from share.log.folder import Inode, held, inode_of, make_folder
 from share.log.sqlite_file import SIDE_FILES, Busy, Malformed, SqliteFile, beside, set_aside
-from share.store.entries import ADD_ENTRY, ENTRIES_SCHEMA, NEVER_OFFERED, Entries, entry_values
+from share.store.entries import ADD_ENTRY, ENTRIES_SCHEMA, Entries, entry_values, never_offered
 from share.store.guarded import Damaged, GuardedFile, Unkept
 from share.store.locks import Locks
 from share.store.own import ADD_ANEW, ADD_CLIENT, OWN_SCHEMA, Anew, Client, OwnTables
@@ -178,7 +178,7 @@ class Disk:
     def unsent(self) -> int:
         """How many edits of this file's person aren't known to be in the log, as far as the file says."""
         with self._file.reading():
-            return unsent_of(self._file.sql)
+            return unsent_of(self._file.sql, self.form)
 
     def note_unsent(self, unsent: int, is_new: bool) -> None:
         """Notes, for who looks without the log, how many of the edits that it lacks it was offered: it may have been gone by then.
@@ -187,7 +187,7 @@ class Disk:
             noted = in_doubt_of(self._file.sql)
         if is_new or noted:
             with self._file.writing():
-                now = max(0, unsent - self._file.sql.one(NEVER_OFFERED))
+                now = max(0, unsent - self._file.sql.one(never_offered(self.form)))
                 self._file.sql.execute("INSERT OR REPLACE INTO about VALUES (?, ?)", (IN_DOUBT, now))
 
     def tidy(self, look: Callable[[], object]) -> None:
@@ -223,9 +223,9 @@ def about_of(file: SqliteFile) -> About:
     return About(bool(found["sealed"]), secret, url)
 
 
-def unsent_of(file: SqliteFile) -> int:
+def unsent_of(file: SqliteFile, form: Form) -> int:
     """How many edits of a file's person aren't known to be in a log, as far as the file says."""
-    return file.one(NEVER_OFFERED) + in_doubt_of(file)
+    return file.one(never_offered(form)) + in_doubt_of(file)
 
 
 def in_doubt_of(file: SqliteFile) -> int:

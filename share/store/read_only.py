@@ -13,8 +13,7 @@ from typing import Any, NamedTuple, TypeVar
 from share.admission.judge import Judge
 from share.admission.ledger import Row
 from share.admission.runs import runs
-from share.format.entry import Bad, Entry, Form, digest
-from share.format.keystrokes import Keystrokes
+from share.format.entry import Bad, Entry, Form, OneByOne, digest
 from share.log.folder import inode_of
 from share.log.sqlite_file import FAULTS, Busy, Malformed, SqliteFile
 from share.program.site import Site
@@ -181,7 +180,7 @@ def entries_of(about_it: About, raws: list[bytes], of: str) -> tuple[list[Entry]
 
 def _about_and_unsent(file: SqliteFile) -> tuple[About, int]:
     about_it = about_of(file)
-    return about_it, unsent_of(file) if about_it.url else 0
+    return about_it, unsent_of(file, about_it.form()) if about_it.url else 0
 
 
 def _lost(path: pathlib.Path, noted: bytes, about_it: About, file: SqliteFile) -> list[str]:
@@ -198,12 +197,13 @@ def _found(file: SqliteFile, lacks: Lacking) -> FoundEntries:
 
 def _judged(file: SqliteFile, lacks: Lacking) -> Judged:
     about_it, broken, wrong = about_of(file), list[str](), Faults("the file")
-    form, keystrokes = about_it.form(), Keystrokes()
+    form = about_it.form()
+    looks = form.one_by_one()
     found = Judged(about_it, Judge(form=form), [], set())
     page = list[Row]()
     for row in _rows_of(file, RAW + KEPT_COLUMNS, broken):
         try:
-            page.append(_as_kept(form, keystrokes, row))
+            page.append(_as_kept(form, looks, row))
         except Bad as why:
             wrong.add(why)
         if len(page) == JUDGED_AT_ONCE:
@@ -229,13 +229,13 @@ def _rows_of(file: SqliteFile, columns: str, broken: list[str]) -> Iterator[Kept
                 yield row[1:]
 
 
-def _as_kept(form: Form, keystrokes: Keystrokes, row: Kept) -> Row:
+def _as_kept(form: Form, looks: OneByOne, row: Kept) -> Row:
     """The entry of a row. One that isn't as it was kept is looked at as a stranger's is; Bad where it is none."""
     raw, of, body, check = row
     try:
         if digest(raw) == of and zlib.crc32(body or b"") == check:
             entry = form.reopened(raw, form.body(raw) if body is None else body, of)
-            return Row(0, entry, False, keystrokes.type_on(entry))
+            return Row(0, entry, False, looks.type_on(entry))
     except (TypeError, ValueError, struct.error):
         # The disk damaged it.
         pass

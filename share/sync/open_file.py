@@ -8,7 +8,6 @@ from typing import TypeVar
 
 from share.admission.judge import Counted
 from share.admission.ledger import Row
-from share.format.entry import Kind
 from share.format.history import Messages
 from share.log.folder import inode_of
 from share.program.intake import Pace
@@ -86,7 +85,7 @@ class OpenFile:
             self.unread = f"The note's file can't be read now ({why})."
             return []
         self.unread = None
-        if any(run[0].entry.kind is Kind.NEWER for run in new):
+        if any(run[0].entry.kind.is_newer for run in new):
             self._notices.tell_once(NEWER)
         if self.disk.entries.damaged:
             self._notices.tell(f"The disk has damaged {entries(self.disk.entries.damaged)} of the note's file. They are "

@@ -12,7 +12,7 @@ from typing import NamedTuple
 
 from share.admission.judge import Judge
 from share.admission.ledger import Row
-from share.format.entry import Copy, Entry, Form, Kind
+from share.format.entry import Copy, Entry, Form
 from share.format.operation import CHANGE_LOOKS, DELETE, RESTORE, Operation
 from share.program.alike import One
 from share.program.effects import Stretch
@@ -108,7 +108,7 @@ def with_claims(rows: Sequence[Row], lost: Sequence[ToRebase]) -> set[bytes]:
     """The hashes of lost entries, and of the claims of those who made them."""
     whos = {who(one.entry) for one in lost}
     return {one.entry.hash for one in lost} | {row.entry.hash for row in rows
-                                               if row.entry.kind is Kind.CLAIM and who(row.entry) in whos}
+                                               if row.entry.kind.is_claim and who(row.entry) in whos}
 
 
 class _Differing(NamedTuple):

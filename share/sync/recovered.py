@@ -9,7 +9,7 @@ from typing import NamedTuple
 
 from share.admission.judge import Judge
 from share.admission.ledger import Who
-from share.format.entry import NO_HASH, Copy, Entry, Kind
+from share.format.entry import NO_HASH, Copy, Entry
 
 # Somebody with the link could speak of copies without end: the most that is looked at of what is said of an author's messages, and of what
 # others typed.
@@ -57,7 +57,7 @@ class Recovered:
 
     def add(self, entry: Entry, own: bool) -> None:
         """Adds what an entry says; whether it was made here."""
-        if entry.kind is not Kind.COPIES:
+        if not entry.kind.says_copies:
             return
         copied = entry.copied
         whose = copied.site, copied.author

@@ -6,7 +6,7 @@ from contextlib import ExitStack, suppress
 
 from share.admission.judge import Counted
 from share.admission.ledger import Row, Who
-from share.format.entry import Entry, Kind
+from share.format.entry import Entry
 from share.format.history import Messages
 from share.format.link import is_network
 from share.log.opening import open_log
@@ -282,7 +282,7 @@ class Session:
 
     def _is_of_this_person(self, run: Sequence[Row]) -> bool:
         """Whether entries are claims, or of a number of this person, and weren't made by another editor, which looks at them itself."""
-        return not run[0].made and (run[0].entry.kind is Kind.CLAIM or who(run[0].entry) in self._holdings.clients)
+        return not run[0].made and (run[0].entry.kind.is_claim or who(run[0].entry) in self._holdings.clients)
 
     def _ask_for_what_is_missing(self) -> None:
         """Asks the others for what is missing, and has the log be read again for what the disk damaged."""

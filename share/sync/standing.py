@@ -10,7 +10,7 @@ from collections.abc import Callable, Collection, Iterator, Mapping, Sequence
 from typing import NamedTuple
 
 from share.admission.ledger import Row, Who
-from share.format.entry import NO_HASH, Copied, Copy, Entry, Form, Kind
+from share.format.entry import NO_HASH, Copied, Copy, Entry, Form
 from share.store.own import Client
 
 # Which entry has the message of a site and a seq that counts.
@@ -81,7 +81,7 @@ class Standing:
     def add(self, row: Row, rows: RowsByHash) -> None:
         """Adds what an entry says, and what was said of it; `rows` has all that came."""
         entry = row.entry
-        if entry.kind is Kind.COPIES and entry.hash not in self._known:
+        if entry.kind.says_copies and entry.hash not in self._known:
             self._known.add(entry.hash)
             said = entry.copied
             # Only who made messages says what stands for them.

@@ -8,7 +8,7 @@ from share.admission.judge import Counted, Judge
 from share.admission.ledger import Row, Chained, Who
 from share.admission.left_out import LeftOut
 from share.admission.runs import runs
-from share.format.entry import NOT_UNDER_A_NUMBER, Copy, Entry, Form, Kind
+from share.format.entry import Copy, Entry, Form
 from share.format.operation import Operation
 from share.store.note_file import Disk
 from share.store.own import Anew, Client
@@ -300,12 +300,12 @@ class Holdings:
         entry, of = row.entry, who(row.entry)
         is_own = of in self.clients
         self._withdrawn.pop(entry.hash, None)
-        if is_own and not row.made and entry.kind not in NOT_UNDER_A_NUMBER:
+        if is_own and not row.made and entry.kind.is_under_a_number:
             self._shared.add(of)
         self.judge.add_new(row)
         if is_own:
             self.standing.add(row, self.rows)
-        self.standing_for_all.add(row._replace(made=True) if entry.kind is Kind.COPIES else row, self.rows)
+        self.standing_for_all.add(row._replace(made=True) if entry.kind.says_copies else row, self.rows)
         self.recovered.add(entry, row.made)
-        if row.made and entry.kind is Kind.NEWER:
+        if row.made and entry.kind.is_newer:
             self.newer.add(of)

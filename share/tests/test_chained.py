@@ -13,7 +13,7 @@ from unittest import mock
 from share.admission.judge import Judge
 from share.admission.ledger import Row, Chained
 from share.format.chunk import GREATEST_SEQ
-from share.format.entry import NO_HASH, Author, Bad, Copied, Entry, Kind, Plain
+from share.format.entry import NO_HASH, Author, Bad, Copied, Entry, FirstEntry, Kind, Plain
 from share.format.keystrokes import Keystrokes
 from share.format.operation import GREATEST_STAMP, MOST_OF_A_SITE
 from share.format.sealed import Sealed
@@ -86,7 +86,7 @@ class Alike(Case):
         make_note(path, about, rows, clients, withdrawn=withdrawn)
         return path
 
-    def copies(self, chance: random.Random, entries: Sequence[Entry]) -> Entry:
+    def copies(self, chance: random.Random, entries: Sequence[Entry]) -> FirstEntry:
         """What says that a message is a copy of another one."""
         old, new = chance.choice(entries), chance.choice(entries)
         said = Copied(old.author, old.site, new.author, new.site, ((max(1, old.first), new.first, 1),), chance.choice([NO_HASH, new.hash]))
