@@ -41,7 +41,7 @@ class MessagesInARow(Protocol):
 
 
 SomeMessages = TypeVar("SomeMessages", bound=MessagesInARow)
-LookedAt = TypeVar("LookedAt", bound=MessagesInARow, contravariant=True)
+AskedOf = TypeVar("AskedOf", bound=MessagesInARow, contravariant=True)
 
 
 class Fronts(Protocol):
@@ -51,13 +51,13 @@ class Fronts(Protocol):
         """How many messages of an author and site are let through that are the one that is named or before it; all where none is."""
 
 
-class Counting(Fronts, Protocol[LookedAt]):
+class Counting(Fronts, Protocol[AskedOf]):
     """What says which messages count."""
 
     def message(self, site: int, seq: int) -> Operation:
         """A message that is let through."""
 
-    def chained_up_to(self, some: LookedAt, last: bytes) -> int:
+    def chained_up_to(self, some: AskedOf, last: bytes) -> int:
         """The seq up to which messages are the one that is named or before it; 0 where none is."""
 
 

@@ -55,7 +55,7 @@ class Alike:
         found, waiting = {(of.copy, of.message): of}, [of]
         while waiting and len(found) < MOST_ALIKE and self._looks < MOST_LOOKED_AT:
             one = waiting.pop()
-            for last, copy, last_of_copy in self._judge.copies.beside(one.copy):
+            for last, copy, last_of_copy in self._judge.copies_in().beside(one.copy):
                 self._looks += 1
                 if last == NO_HASH or self._judge.message_in(last, one.copy.seq) == one.message:
                     other = self._like(of.message, copy, last_of_copy)

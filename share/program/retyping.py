@@ -14,7 +14,7 @@ from typing import NamedTuple
 from share.admission.chains import rank
 from share.admission.judge import Judge
 from share.admission.ledger import Who
-from share.admission.left_out import LeftOut, not_copied
+from share.admission.left_out import LeftOut
 from share.format.entry import Author, Copied, Copy, Entry, Form
 from share.format.operation import Operation
 from share.program.alike import Alike, One
@@ -75,19 +75,13 @@ def lost(judge: Judge, anew: Set[Made] = frozenset()) -> list[Lost]:
     for (site, author), seqs in stretches.items():
         wanted, known, branches = _merged(seqs), set[Operation](), dict[bytes, list[Operation]]()
         for entry in sorted(judge.not_counting(site, author), key=lambda entry: entry.first):
-            messages = [message for message in _not_copied(entry, judge) if _is_in(message.seq, wanted) and message not in known
+            messages = [message for message in judge.not_copied(entry) if _is_in(message.seq, wanted) and message not in known
                         and not judge.is_let_through(message)]
             if messages:
                 known.update(messages)
                 branches[entry.hash] = branches.pop(entry.before, []) + messages
         found += [Lost(site, author, messages, last) for last, messages in sorted(branches.items(), key=lambda one: one[1][0].seq)]
     return found
-
-
-def _not_copied(entry: Entry, judge: Judge) -> list[Operation]:
-    """Those of an entry's messages for which no copy stands that counts. Those of another history may have the same seqs."""
-    seqs = {seq for one in not_copied(entry, 1, 0, judge.copies, judge) for seq in range(one.first, one.last + 1)}
-    return [message for message in entry.messages if message.seq in seqs]
 
 
 def _merged(stretches: Iterable[tuple[int, int]]) -> list[tuple[int, int]]:

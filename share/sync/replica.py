@@ -5,7 +5,7 @@ from collections.abc import Callable, Sequence
 from contextlib import closing, suppress
 
 from share.admission import ledger
-from share.admission.judge import Counted
+from share.admission.judging import Counted
 from share.format.history import Messages, Part
 from share.format.operation import Operation
 from share.program.difference import Shown, differences, shown_by

@@ -4,7 +4,7 @@ import time
 from collections.abc import Callable, Sequence, Set
 from contextlib import ExitStack, suppress
 
-from share.admission.judge import Counted
+from share.admission.judging import Counted
 from share.admission.ledger import Row, Who
 from share.format.entry import Entry
 from share.format.history import Messages

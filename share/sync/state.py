@@ -4,7 +4,8 @@ from collections.abc import Collection, Iterable, Iterator, Mapping, Sequence
 from itertools import chain, takewhile
 from typing import NamedTuple
 
-from share.admission.judge import Counted, Judge
+from share.admission.judge import Judge
+from share.admission.judging import Counted
 from share.admission.ledger import Row, Chained, Who
 from share.admission.left_out import LeftOut
 from share.admission.runs import runs
