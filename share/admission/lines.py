@@ -75,6 +75,15 @@ class MessageChain(Passing):
         self._ends = array("I")
 
     @property
+    def client(self) -> Whose:
+        """Whose it is, where it has messages."""
+        return self.branch.sayings.client(self.branch.numbers[0])
+
+    def message(self, seq: int) -> Operation:
+        """A message of it."""
+        return self.branch.sayings.message(self.branch.numbers[seq - 1])
+
+    @property
     def on(self) -> bytes:
         """What the message that is next builds on."""
         return self.branch.sayings.on(self.branch.numbers[self.front])

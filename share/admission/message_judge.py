@@ -83,6 +83,8 @@ class MessageJudge:
         self.claims: set[tuple[int, bytes]] = set()
         self._holders: dict[int, tuple[bytes, bytes]] = {}
         self.has_opening = self.has_begun = False
+        # Rises where somebody claims a number, and where it is begun to let messages through.
+        self.changes = 0
         for entry in entries:
             self.add(entry)
 
@@ -123,6 +125,7 @@ class MessageJudge:
     def _claim(self, site: int, author: bytes, rank: bytes) -> None:
         """Gives a number to who claims it, where nobody does by a lesser rank."""
         self.claims.add((site, author))
+        self.changes += 1
         before = self._holders.get(site)
         if before and before[0] <= rank:
             return
@@ -137,6 +140,7 @@ class MessageJudge:
         if self.has_begun or not self.base.is_whole:
             return
         self.has_begun = True
+        self.changes += 1
         for client, line in self.base.lines():
             self._text(client.text).put(client.site, line)
         for client in self.sayings.clients():
@@ -195,6 +199,13 @@ class MessageJudge:
         if self.holder(site) != author:
             return Reason.HOLDER if (site, author) in self.claims else Reason.UNCLAIMED
         return self.texts[text].reason(number, site)
+
+    def unclaimed(self) -> Iterator[Whose]:
+        """Of whom there are messages from the first one on, and no claim."""
+        for client in self.aside.clients():
+            if (client.site, client.author) not in self.claims and client.site not in self.base.sites and (
+                    self.sayings.least(client) is not None):
+                yield client
 
     def missing(self, most: int) -> list[bytes]:
         """The hashes of some messages that are missing, after which others came."""

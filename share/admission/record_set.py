@@ -5,22 +5,23 @@ records, and `words` what those without messages say.
 """
 from collections.abc import Iterable, Iterator, Sequence
 
-from share.admission.judge import Counted
-from share.admission.ledger import Who
+from share.admission.judging import Counted, Judging
+from share.admission.ledger import Row, Who
 from share.admission.message_judge import MessageJudge
 from share.admission.one_text import Turn
-from share.admission.records import RecordRow, Records
+from share.admission.records import Records
 from share.admission.words import Words
+from share.format.entry import Entry
 from share.format.history import Messages
 from share.format.second.form import RecordForm
 from share.format.second.keys import Founding
 from share.format.second.record import Record, RecordKind
 
 
-class RecordSet:
+class RecordSet(Judging):
     """Records, and what counts of them."""
 
-    def __init__(self, entries: Iterable[Record] = (), *, form: RecordForm, room: int | None = None):
+    def __init__(self, *, form: RecordForm, room: int | None = None):
         self._form, self._room = form, room
         self._words = Words()
         self._messages = MessageJudge(form.keys.digest)
@@ -32,8 +33,6 @@ class RecordSet:
         self._founding: Founding | None = None
         # Those of the base that came before the opening.
         self._unlinked: list[int] = []
-        for entry in entries:
-            self.add(entry)
 
     def __contains__(self, of: bytes) -> bool:
         return self._number(of) is not None
@@ -41,20 +40,16 @@ class RecordSet:
     def __len__(self) -> int:
         return len(self._records)
 
-    def unknown(self, rows: Iterable[RecordRow]) -> list[RecordRow]:
-        """Those of some records that aren't here."""
+    def unknown(self, rows: Iterable[Row]) -> list[Row]:
         return self._records.unknown(rows)
 
-    def rows(self) -> Iterator[RecordRow]:
-        """All that is in memory."""
+    def rows(self) -> Iterator[Row]:
         return map(self._records.row, range(len(self._records)))
 
     def hashes(self) -> Iterator[bytes]:
-        """The hashes of all that is in memory."""
         return map(self._records.hash, range(len(self._records)))
 
-    def row(self, of: bytes) -> RecordRow | None:
-        """The record that has a hash, that has a message, or for which one asks by a name; None where it isn't in memory."""
+    def row(self, of: bytes) -> Row | None:
         number = self._number(of)
         return None if number is None else self._records.row(number)
 
@@ -76,27 +71,26 @@ class RecordSet:
 
     # What comes, and what counts of it.
 
-    def add(self, entry: Record, place: int = 0, made: bool = False, types_on: bool = False) -> None:
-        """Adds a record that was opened. What is known already changes nothing."""
+    def add(self, entry: Entry, place: int = 0, made: bool = False, types_on: bool = False) -> None:
         if self._records.number(entry.hash) is None:
-            self.add_new(RecordRow(place, entry, made, types_on))
+            self.add_new(Row(place, entry, made, types_on))
 
-    def add_new(self, row: RecordRow) -> None:
-        """Adds a record that isn't known yet."""
+    def add_new(self, row: Row) -> None:
         entry = row.entry
+        assert isinstance(entry, Record)
         if entry.kind is RecordKind.MESSAGES:
-            self._records.add(row, self._messages.add(entry))
+            self._records.add(row, entry, self._messages.add(entry))
+            self._words.come(entry.text, entry.hashes)
         elif entry.kind is RecordKind.CLAIM:
-            self._claim(entry, self._records.add(row))
+            self._claim(entry, self._records.add(row, entry))
         elif entry.kind is RecordKind.BASE:
-            self._add_base(entry, self._records.add(row))
+            self._add_base(entry, self._records.add(row, entry))
         elif entry.kind is RecordKind.OPENING:
-            self._open(entry, self._records.add(row))
+            self._open(entry, self._records.add(row, entry))
         elif self._words.add(entry):
-            self._records.add(row)
+            self._records.add(row, entry)
 
-    def extend(self, run: Sequence[RecordRow]) -> bool:
-        """The same of records of messages, each of which follows the one before it; whether that is the same."""
+    def extend(self, run: Sequence[Row]) -> bool:
         for row in run:
             self.add_new(row)
         return True
@@ -128,17 +122,14 @@ class RecordSet:
             self._add_base(self._records.entry(one), one)
 
     def begun(self) -> bool:
-        """Whether the opening and all of the base are here, before which nothing counts."""
         return self._messages.has_begun
 
     def let_through(self) -> None:
-        """Lets through what can be of what came, while what was read of it last is at hand; not where all is let through anew next."""
         for text in self._messages.texts.values():
             if not text.passage.is_anew:
                 text.let_through()
 
     def count(self) -> Counted:
-        """What counts since this was last asked, of all texts; all of them anew where something counts no more."""
         turns = self.count_of_texts()
         if any(turn.ceased for turn in turns.values()):
             return Counted(self.let_through_in_order(), True)
@@ -152,11 +143,9 @@ class RecordSet:
         return self._messages.count()
 
     def is_anew(self) -> bool:
-        """Whether what counts next may be all of it, let through anew."""
         return any(text.passage.is_anew for text in self._messages.texts.values())
 
     def let_through_in_order(self, text: int | None = None) -> Messages:
-        """All messages that are let through, each after its causes: of all texts, one after the other, or of one."""
         messages = Messages()
         for one in sorted(self._messages.texts) if text is None else [text]:
             messages += self._messages.in_order(one)

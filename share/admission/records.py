@@ -5,24 +5,13 @@ its messages, which are here anyway.
 """
 from array import array
 from collections.abc import Iterable, Sequence
-from typing import NamedTuple
 
 from share.admission.hashes import HASH_BYTES, Hashes
-from share.admission.ledger import Who
+from share.admission.ledger import Row, Who
 from share.admission.sayings import Sayings, Whose
 from share.format.entry import NO_HASH
 from share.format.second.form import RecordForm
 from share.format.second.record import RECORD_HEAD, RECORD_KINDS, Record, RecordKind
-
-
-class RecordRow(NamedTuple):
-    """A record of a note's file, and its place there. `made` says that this person made it here, `types_on` that it is known to type on
-    after the one before it."""
-
-    place: int
-    entry: Record
-    made: bool
-    types_on: bool = False
 
 
 class Records(Hashes):
@@ -44,9 +33,9 @@ class Records(Hashes):
         # The record that had each message first, and each of the base, by one more than its number.
         self._having, self._having_base = array("I"), array("I")
 
-    def add(self, row: RecordRow, new: Sequence[int] = ()) -> int:
-        """Adds a record, which is the first that has these messages; its number."""
-        entry, number = row.entry, len(self)
+    def add(self, row: Row, entry: Record, new: Sequence[int] = ()) -> int:
+        """Adds the record of a row, which is the first that has these messages; its number."""
+        number = len(self)
         self._hashes += entry.hash
         whose = self._client(Whose(entry.author, entry.site, entry.text))
         self._of.setdefault((entry.site, entry.author), array("I")).append(number)
@@ -80,7 +69,7 @@ class Records(Hashes):
 
     # What is asked of them.
 
-    def unknown(self, rows: Iterable[RecordRow]) -> list[RecordRow]:
+    def unknown(self, rows: Iterable[Row]) -> list[Row]:
         """Those of some rows that aren't here."""
         return [row for row in rows if self.number(row.entry.hash) is None]
 
@@ -131,9 +120,9 @@ class Records(Hashes):
         return Record(kind, author, site, text, first_seq, size, before, body, raw, self.hash(number),
                       tuple(map(sayings.hash, messages)))
 
-    def row(self, number: int) -> RecordRow:
+    def row(self, number: int) -> Row:
         """A record with its place."""
-        return RecordRow(self._places[number], self.entry(number), bool(self._made[number]), bool(self._types_on[number]))
+        return Row(self._places[number], self.entry(number), bool(self._made[number]), bool(self._types_on[number]))
 
 
 def _note(having: "array[int]", messages: Sequence[int], number: int) -> None:

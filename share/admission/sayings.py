@@ -8,6 +8,7 @@ from array import array
 from bisect import bisect_left
 from collections.abc import Iterator, MutableSequence, Sequence
 from enum import Enum
+from itertools import groupby
 from typing import NamedTuple, Protocol
 
 from share.admission.hashes import MARK_MASK, NUMBER_MASK, Hashes
@@ -75,8 +76,9 @@ class Sayings(Hashes):
         self._whose, self._seqs, self._befores, self._leasts, self._in_runs, self._downs = (array("I") for _ in range(6))
         # Of each client the message of seq 1 with the least hash.
         self._firsts: dict[int, int] = {}
-        # What follows what isn't here.
+        # What follows what isn't here; `found` rises where that comes.
         self._waiting: dict[int, list[int]] = {}
+        self.found = 0
         self._ons: dict[int, bytes] = {}
         self._runs: list[Operation] = []
 
@@ -167,6 +169,7 @@ class Sayings(Hashes):
         else:
             self._waiting.setdefault(before, []).append(number)
         for after in self._waiting.pop(number, ()) if self._waiting else ():
+            self.found += 1
             self._go_on(after, number)
 
     def _go_on(self, number: int, before: int) -> None:
@@ -236,6 +239,15 @@ class Sayings(Hashes):
         """A message that is here."""
         run, seq = self._runs[self._in_runs[number]], self._seqs[number]
         return run.part(seq - run.seq, seq + 1 - run.seq)
+
+    def runs_of(self, numbers: Sequence[int]) -> Iterator[Operation]:
+        """Messages that go on one from the other, letters typed one after the other in one."""
+        in_runs, at = self._in_runs, 0
+        for number, some in groupby(numbers, in_runs.__getitem__):
+            size = sum(1 for _ in some)
+            run, seq = self._runs[number], self._seqs[numbers[at]]
+            yield run.part(seq - run.seq, seq - run.seq + size)
+            at += size
 
     def run(self, numbers: MutableSequence[int], begin: int, end: int) -> Operation:
         """The first run of messages that go on one from the other, from one place up to another; the first of them all has place 0."""

@@ -1,6 +1,6 @@
 """What records without messages say in notes of the second form, of one text each: what was made anew, and which messages stand for
 which; and that the note was renewed. They name messages by their hashes."""
-from collections.abc import Collection, Iterator
+from collections.abc import Collection, Iterable, Iterator
 
 from share.admission.copies import Copies
 from share.admission.ledger import Who
@@ -57,9 +57,10 @@ class Words:
         """The same where he doesn't say which messages stand for which."""
         return () if self.copies(client.text).are_told_by(client.site, client.author) else self.made_anew(client)
 
-    def is_awaited(self, of: bytes, text: int) -> bool:
-        """Whether a message is the last one of some copies."""
-        return text in self._copies and of in self._copies[text].lasts
+    def come(self, text: int, hashes: Iterable[bytes]) -> None:
+        """Notes that messages are here: what was said of copies may hang on it, where the last of these is among them."""
+        if text in self._copies and not self._copies[text].lasts.isdisjoint(hashes):
+            self.changes += 1
 
     def renewed(self) -> Iterator[tuple[Who, bytes]]:
         """Who says that the note was renewed, and by what name."""

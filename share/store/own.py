@@ -73,7 +73,7 @@ class OwnTables:
     def __init__(self, file: GuardedFile, has_texts: bool):
         self._file, self._sql, self._has_texts = file, file.sql, has_texts
         # What a message is named by, beside what is said of it.
-        self._columns = "author, site, seq, text" if has_texts else "author, site, seq"
+        self._columns = names_of_messages(has_texts)
 
     def clients(self) -> list[Client]:
         """The numbers of this person, in the order in which they were claimed."""
@@ -118,7 +118,7 @@ class OwnTables:
         """Notes which messages hide copies, or show them again."""
         if found := [*hidings]:
             self._sql.execute(HIDING_OF_TEXT if self._has_texts else HIDING)
-            self._sql.executemany(HIDE_OF_TEXT if self._has_texts else HIDE, found if self._has_texts else [one[:-1] for one in found])
+            self._sql.executemany(HIDE_OF_TEXT if self._has_texts else HIDE, (tuple(one)[:4 if self._has_texts else 3] for one in found))
 
     def restore(self, clients: Iterable[Client], anew: Iterable[Copy], hidings: Iterable[Copy]) -> None:
         """Puts back what the file lacks of these."""
@@ -140,6 +140,11 @@ class OwnTables:
         with self._file.writing():
             self._sql.execute(PACKED)
             self._sql.execute("INSERT OR REPLACE INTO packed VALUES (?, ?, ?)", (site, of, fronts))
+
+
+def names_of_messages(has_texts: bool) -> str:
+    """The columns that say which message a row is of, in a note of several texts or of one."""
+    return "author, site, seq, text" if has_texts else "author, site, seq"
 
 
 def anew_of(one: Copy) -> Anew:

@@ -14,16 +14,16 @@ from share.admission.judges import judge_of
 from share.admission.judging import Judging
 from share.admission.ledger import Row
 from share.admission.runs import runs
-from share.format.entry import Bad, Entry, Form, OneByOne, digest
+from share.format.entry import Bad, Copy, Entry, Form, OneByOne, digest
 from share.log.folder import inode_of
 from share.log.sqlite_file import FAULTS, Busy, Malformed, SqliteFile
 from share.program.site import Site
 from share.store.entries import GREATEST_PLACE
 from share.store.guarded import Damaged
 from share.store.locks import noted_beside, place_noted
-from share.store.note_file import NOTE_APPLICATIONS, About, about_of, noted_of, unsent_of
+from share.store.note_file import NOTE_APPLICATIONS, SECOND, About, about_of, noted_of, unsent_of
 from share.store.old import copied
-from share.store.own import COPIED
+from share.store.own import COPIED, names_of_messages
 from share.text.errors import NEWER, Trouble, entries
 
 Read = TypeVar("Read")
@@ -93,11 +93,10 @@ class Faults:
 
 
 class Own(NamedTuple):
-    """What is of a person alone: the sites and authors of the numbers, and the author, site and seq of each message that
-    another one stands for."""
+    """What is of a person alone: the sites and authors of the numbers, and the messages that others stand for."""
 
     clients: set[tuple[int, bytes]] = set()
-    anew: set[tuple[bytes, int, int]] = set()
+    anew: set[Copy] = set()
 
 
 class NoteText(NamedTuple):
@@ -125,9 +124,13 @@ def own_sites(path: pathlib.Path) -> set[int]:
 def own(path: pathlib.Path) -> Own:
     """What a file has of its person alone, as far as that can be read."""
     with contextlib.suppress(Trouble):
-        return _with_file(path, lambda file: Own(set(file.execute(OWN_CLIENTS, (COPIED,))),
-                                                 set(file.execute("SELECT author, site, seq FROM anew"))))
+        return _with_file(path, _own)
     return Own()
+
+
+def _own(file: SqliteFile) -> Own:
+    anew = file.execute(f"SELECT {names_of_messages(about_of(file).form_number == SECOND)} FROM anew")
+    return Own(set(file.execute(OWN_CLIENTS, (COPIED,))), {Copy(*one) for one in anew})
 
 
 def found_in(path: pathlib.Path) -> FoundEntries:

@@ -6,7 +6,7 @@ from collections.abc import Callable, Sequence
 from contextlib import ExitStack, suppress
 from typing import TypeVar
 
-from share.admission.judge import Counted
+from share.admission.judging import Counted
 from share.admission.ledger import Row
 from share.format.history import Messages
 from share.log.folder import inode_of

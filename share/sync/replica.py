@@ -29,7 +29,7 @@ MOST_SHOWN_AGAIN = 5_000
 class Replica:
     """Owns the site of a session, of one text. The editor's thread alone calls it."""
 
-    def __init__(self, file: OpenFile, holdings: Holdings, numbers: Numbers, bar: Bar, text: int = TEXT):
+    def __init__(self, file: OpenFile, holdings: Holdings, numbers: Numbers, bar: Bar, messages: Messages, text: int = TEXT):
         self.text = text
         self._file, self._holdings, self._numbers, self._bar = file, holdings, numbers, bar
         # Told as soon as the program stands still, and as it answers again.
@@ -45,7 +45,7 @@ class Replica:
         self._is_told = True
         # How many messages the snapshot has.
         self.packed = 0
-        messages = self._all_that_counts()
+        messages = messages.of_text(text)
         self.site = self._new_site(messages, lambda done: bar(done, len(messages)))
 
     def _all_that_counts(self) -> Messages:

@@ -73,7 +73,7 @@ class Session:
         self._file.read_all()
         self._numbers = Numbers(self._holdings, self._form, bool(url), self._file)
         self._file.moved = self._numbers.lock_again
-        self._replica = Replica(self._file, self._holdings, self._numbers, bar)
+        self._replica = Replica(self._file, self._holdings, self._numbers, bar, self._holdings.count().messages)
         opened.callback(lambda: self.site.close())
         opens = (lambda: open_log(url, note, password)) if url else None
         self._replicator = Replicator(lambda: Disk(path), opens, self._form, wake, lambda: self._file.disk, handover)

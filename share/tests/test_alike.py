@@ -120,7 +120,7 @@ class Words(unittest.TestCase):
         """The messages that somebody types again, and the entries that are made of that."""
         judge = Judge(entries)
         with contextlib.closing(Site(4, judge.count().messages)) as site:
-            again = retyping.type_again(retyping.lost(judge), entries, judge, site)
+            again = retyping.type_again(FORM, retyping.lost(judge), entries, judge, site)
         made = entry_of(FORM, self.claim, again.edited.messages, self.author)
         return again.edited.messages, [self.claim, made, *retyping.words_of(again.copies, FORM, self.author, made)]
 
@@ -191,7 +191,7 @@ class Words(unittest.TestCase):
         self.claim = FORM.claim(5, self.author)
         judge = Judge(entries)
         with contextlib.closing(Site(5, judge.count().messages)) as site:
-            again = retyping.type_again(retyping.lost(judge), entries, judge, site)
+            again = retyping.type_again(FORM, retyping.lost(judge), entries, judge, site)
         self.assertEqual(len(again.edited.messages), 1)
 
 

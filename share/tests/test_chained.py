@@ -103,6 +103,7 @@ class Alike(Case):
         if is_right:
             self.assertEqual((quick.rows, quick.damaged), (slow.rows, 0))
         one, two = quick.holdings, slow.holdings
+        assert isinstance(one.judge, Judge) and isinstance(two.judge, Judge)
         test_keystrokes.Counts().assert_alike(one.judge, two.judge)
         self.assertEqual((one.lost(), one.left_out(), one.broken(), one.withdrawn(), one.followed()),
                          (two.lost(), two.left_out(), two.broken(), two.withdrawn(), two.followed()))

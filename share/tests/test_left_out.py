@@ -310,7 +310,7 @@ class AtRandom(unittest.TestCase):
         """What a fourth one's text is who types all again that was left out, and what he says of it."""
         judge, author = Judge(entries), FORM.new_author()
         with contextlib.closing(Site(4, judge.count().messages)) as site:
-            again = retyping.type_again(retyping.lost(judge), entries, judge, site)
+            again = retyping.type_again(FORM, retyping.lost(judge), entries, judge, site)
             text = site.text()
         last, length = FORM.claim(4, author), 0
         judge.add(last)

@@ -1,0 +1,82 @@
+"""Whether the quick program agrees with the plain ones on what is told of sets of records: what counts, what was left out and what waits.
+Records are opened as those of a note are; `second_agreement` tries what counts by itself."""
+import random
+from collections import Counter
+from collections.abc import Sequence
+from functools import cache
+
+from share.admission.record_judge import RecordJudge
+from share.format.entry import Bad
+from share.format.second.form import PlainRecords
+from share.format.second.record import Record
+from share.tests import naive_told
+from share.tests.naive_second import Answer, Saying
+from share.tests.second_agreement import Reader
+from share.tests.second_sets import ZERO_BITS, Set
+
+
+class Judged:
+    """Records of a set as they come, and what is told of them."""
+
+    def __init__(self, one: Set):
+        self.form = PlainRecords(one.note.key, ZERO_BITS)
+        self.judge = RecordJudge(form=self.form)
+        self.opened = cache(self.form.open)
+
+    def records(self, raws: Sequence[bytes]) -> list[Record]:
+        """Those that can be opened."""
+        found = list[Record]()
+        for raw in raws:
+            try:
+                found.append(self.opened(raw))
+            except Bad:
+                pass
+        return found
+
+
+def stretches(some: Sequence[Saying]) -> Counter[tuple[int, int, bytes, int]]:
+    """How often each place of an author is among messages: of a number with two histories two have one seq."""
+    return Counter((one.message.text, one.message.site, one.author, one.message.seq) for one in some)
+
+
+def told_differences(answer: Answer, judge: RecordJudge) -> list[str]:
+    """Where what is told differs."""
+    found, lost = list[str](), naive_told.told(answer)
+    left = judge.left_out()
+    if Counter((one.text, one.site, one.author, seq) for one in left for seq in range(one.first, one.last + 1)) != stretches(lost):
+        found.append("what was left out")
+    if sum(one.characters for one in left) != sum(len(one.message.data) for one in lost):
+        found.append("how many characters were left out")
+    if judge.incomplete() != naive_told.incomplete(answer):
+        found.append("how much waits")
+    return found
+
+
+def record_differences(answer: Answer, judge: RecordJudge) -> list[str]:
+    """Where the two programs differ."""
+    found = told_differences(answer, judge)
+    for (site, text), through in answer.through.items():
+        if judge.front(site, text) != len(through) or [judge.entry_of(site, seq, text) for seq in range(1, len(through) + 2)] != [
+                *(one.hash for one in through), None]:
+            found.append("whose messages count")
+        if judge.length(site, text) != sum(len(one.message.data) for one in through):
+            found.append("how long a file is")
+    return found
+
+
+def agrees_on_records(one: Set, raws: Sequence[bytes], chance: random.Random) -> tuple[Answer, RecordJudge]:
+    """Judges some entries in an order, in batches, with repeats, in both programs."""
+    answer, judged = Reader(one).judged(one.note, raws), Judged(one)
+    coming = [*raws, *chance.choices(raws, k=len(raws) // 4)] if raws else []
+    chance.shuffle(coming)
+    often = chance.choice([0, 0.1, 0.5, 1])
+    for each in judged.records(coming):
+        judged.judge.add(each)
+        if chance.random() < often:
+            judged.judge.count()
+        if chance.random() < often:
+            judged.judge.left_out()
+            judged.judge.incomplete()
+    if found := record_differences(answer, judged.judge):
+        raise AssertionError(f"{found}: {one!r}, {[one.raws.index(raw) if raw in one.raws else raw for raw in coming]}")
+    return answer, judged.judge
