@@ -26,6 +26,8 @@ ENDS = "SELECT (SELECT coalesce(max(place), 0) FROM entry), (SELECT coalesce(max
 AT_PLACE = "SELECT place, hash, raw, body, sum, made FROM entry WHERE place = ?"
 IN_SHORT = """SELECT place, hash, substr(raw, 1, ?), made, offered FROM entry
               WHERE place > ? AND hash NOT IN (SELECT hash FROM withdrawn) ORDER BY place LIMIT ?"""
+CLAIMS_MADE = """SELECT place, substr(raw, 1, ?) FROM entry WHERE made AND hex(substr(CAST(raw AS BLOB), 2, 1)) = ? AND
+                 hash NOT IN (SELECT hash FROM withdrawn) AND typeof(raw) = 'blob'"""
 OF_HASHES = "SELECT hash, place, made > offered FROM entry WHERE hash IN ({}) AND hash NOT IN (SELECT hash FROM withdrawn)"
 AFTER_HASHES = f"""SELECT place FROM entry WHERE substr(raw, ?, {len(NO_HASH)}) IN ({{}})
                    AND hash NOT IN (SELECT hash FROM withdrawn) LIMIT ?"""
@@ -126,6 +128,13 @@ class Entries:
         # What the disk damaged may have another type.
         return [Located(place, of, self._form.kind(head), self._form.author(head), bool(made), bool(offered))
                 for place, of, head, made, offered in found if isinstance(head, bytes) and len(head) == self._form.head_bytes]
+
+    def claims_made(self) -> list[tuple[int, int, bytes]]:
+        """The places of this person's claims that weren't withdrawn, their numbers and their authors."""
+        form = self._form
+        with self._file.reading():
+            found = self._sql.execute(CLAIMS_MADE, (form.head_bytes, f"{form.kind_of_claims:02X}")).fetchall()
+        return [(place, int.from_bytes(head[form.site_at:form.site_at + 2], "big"), form.author(head)) for place, head in found]
 
     def places_of(self, hashes: Iterable[bytes]) -> dict[bytes, int]:
         """The places of those of these entries that the file has and that weren't withdrawn."""

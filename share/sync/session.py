@@ -78,6 +78,9 @@ class Session:
         opens = (lambda: open_log(url, note, password)) if url else None
         self._replicator = Replicator(lambda: Disk(path), opens, self._form, wake, lambda: self._file.disk, handover)
         opened.callback(self._replicator.close, 0)
+        if search := self._numbers.search:
+            self._replicator.wake_for(search.has_ended)
+            opened.callback(search.close)
         known = self._file, self._holdings, self._form, self._numbers, self._replica
         self._edits = OwnEdits(*known, self._replicator, self._notices)
         self._rebaser = Rebaser(*known, self._edits, self._replicator, self._notices)
@@ -273,8 +276,11 @@ class Session:
             has_read, in_log = False, set()
         if found.anew or any(map(self._is_of_this_person, new)):
             self._numbers.is_settled = False
+        if self._numbers.take_found():
+            self._edits.goes_on()
+            self._replica.go_on_under_another_number()
         self._numbers.look_at_claims(in_log)
-        if self.can_type and is_network(self._about.url) and self._replicator.has_read():
+        if self.can_type and (self._form.is_searched or is_network(self._about.url)) and self._replicator.has_read():
             self._numbers.claim_in_advance(self._replicator.editors_here())
         if self._replica.is_stale:
             found, self._replica.is_stale = Counted(self._holdings.judge.let_through_in_order(), True), False

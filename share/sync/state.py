@@ -250,6 +250,10 @@ class Holdings:
         row = self.rows[entry.hash]
         return row.made and not self._lost_of(row).messages
 
+    def claim_of(self, client: Client) -> Entry | None:
+        """The claim of a number of this person, where it has one that is here."""
+        return next((row.entry for row in self.judge.of(*who(client)) if row.entry.kind.is_claim), None)
+
     def reread_anew(self, disk: Disk) -> None:
         """Looks which numbers were given up, and which edits were rebased, by other editors of this person."""
         self.clients = {who(one): one for one in disk.own.clients()}

@@ -15,10 +15,10 @@ from unittest import mock
 
 from share.admission.chains import rank
 from share.admission.judge import Judge
-from share.format import link as links
 from share.format.chunk import packed_in_parts
 from share.format.entry import Entry, Form, Kind, Plain
 from share.format.operation import Operation
+from share.format.second.key_link import link_of
 from share.log.base import START, Log
 from share.log.opening import open_log
 from share.program.process import Program
@@ -60,7 +60,7 @@ class Person:
     def open(self, name: str = "note", url: str | None = None, link: str | None = None) -> Note:
         """A note, as an editor has it open."""
         with self.here():
-            return Note(Session(notes.open_note(name, url, links.read_link(link) if link else None)))
+            return Note(Session(notes.open_note(name, url, link_of(link) if link else None)))
 
     def link(self, name: str = "note") -> str:
         """A note's link."""
