@@ -17,7 +17,7 @@ from share.admission.based import Based, WithLinks
 from share.admission.building import Digest
 from share.admission.one_text import OneText, Turn
 from share.admission.reasons import ROOTS, Reason
-from share.admission.room import Turns
+from share.admission.room import GivenBack
 from share.admission.sayings import Whose, Root, Sayings, WithMessages
 from share.format.history import Messages
 
@@ -79,7 +79,7 @@ class MessageJudge:
     def __init__(self, digest: Digest, entries: Iterable[Spoken] = (), ranks: Mapping[bytes, bytes] | None = None):
         self._digest = digest
         self.sayings, self.aside, self.base = Sayings(ranks), Aside(), Based()
-        self.room = Turns()
+        self.room = GivenBack()
         self.texts: dict[int, OneText] = {}
         # Who claims numbers; and who holds each, by which rank.
         self.claims: set[tuple[int, bytes]] = set()

@@ -9,7 +9,7 @@ from share.admission.chains import Outcome
 from share.admission.lines import MessageChain, Path
 from share.admission.passage import Passage
 from share.admission.reasons import REASONS, Reason
-from share.admission.room import Turns
+from share.admission.room import GivenBack
 from share.admission.sayings import Whose, Sayings
 from share.format.history import Messages, Part
 from share.format.operation import Operation
@@ -26,7 +26,7 @@ class Turn(NamedTuple):
 class OneText:
     """The lines of a text, and what is let through of them."""
 
-    def __init__(self, text: int, sayings: Sayings, base_sites: Collection[int], digest: Digest, aside: Aside, room: Turns):
+    def __init__(self, text: int, sayings: Sayings, base_sites: Collection[int], digest: Digest, aside: Aside, room: GivenBack):
         self.text = text
         self.lines: dict[int, MessageChain] = {}
         self._sayings, self._aside = sayings, aside

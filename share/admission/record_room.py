@@ -7,7 +7,7 @@ import heapq
 
 from share.admission.ledger import Row, Who
 from share.admission.message_judge import MessageJudge
-from share.admission.room import Turns
+from share.admission.room import GivenBack
 from share.admission.sayings import Whose
 from share.format.entry import NO_HASH
 from share.format.second.record import Record, RecordKind
@@ -16,7 +16,7 @@ from share.format.second.record import Record, RecordKind
 RECORD_OVERHEAD, MESSAGE_OVERHEAD = 400, 250
 
 
-class RecordRoom(Turns):
+class RecordRoom(GivenBack):
     """What there is room for."""
 
     def __init__(self, size: int | None, judge: MessageJudge):

@@ -5,7 +5,7 @@ from share.admission.outside import Unchained, weight
 from share.format.entry import Entry
 
 
-class Turns:
+class GivenBack:
     """What was given back, and whose turn it is. Without a size there is always room."""
 
     def __init__(self, size: int | None = None):
@@ -42,7 +42,7 @@ class Turns:
         return self._size // 2 // (claimed + 1)
 
 
-class Room(Turns):
+class Room(GivenBack):
     """What there is room for of entries of the first form."""
 
     def __init__(self, size: int | None, outside: Unchained):

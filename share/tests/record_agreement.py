@@ -84,8 +84,8 @@ def agrees_on_records(one: Set, raws: Sequence[bytes], chance: random.Random) ->
 
 
 def with_little_room(one: Set, raws: Sequence[bytes], room: int | None, chance: random.Random) -> RecordJudge:
-    """What has records as they come, with room for some bytes of what doesn't count, and reads what was dropped again as soon as it may have
-    its turn."""
+    """What has records as they come, with room for some bytes of what doesn't count, and reads what was dropped again as soon as it may
+    have its turn."""
     form, backlog = PlainRecords(one.note.key, ZERO_BITS), Backlog()
     judge, records = RecordJudge(form=form, room=room), Judged(one).records(raws)
     for place, entry in enumerate(records):
