@@ -8,7 +8,7 @@ counts". It has no input or output, no clock and no chance in it. Each rule has 
 Texts have nothing of one another but their claims. More entries can end the count of a message only where a lesser rank or hash came;
 then what counts of that text is let through anew.
 """
-from collections.abc import Iterable, Iterator, Sequence
+from collections.abc import Iterable, Iterator, Mapping, Sequence
 from enum import IntEnum
 from typing import Protocol
 
@@ -17,6 +17,7 @@ from share.admission.based import Based, WithLinks
 from share.admission.building import Digest
 from share.admission.one_text import OneText, Turn
 from share.admission.reasons import ROOTS, Reason
+from share.admission.room import GivenBack
 from share.admission.sayings import Whose, Root, Sayings, WithMessages
 from share.format.history import Messages
 
@@ -75,9 +76,10 @@ class Spoken(WithLinks, Protocol):
 class MessageJudge:
     """The set of entries that came, and what counts of it."""
 
-    def __init__(self, digest: Digest, entries: Iterable[Spoken] = ()):
+    def __init__(self, digest: Digest, entries: Iterable[Spoken] = (), ranks: Mapping[bytes, bytes] | None = None):
         self._digest = digest
-        self.sayings, self.aside, self.base = Sayings(), Aside(), Based()
+        self.sayings, self.aside, self.base = Sayings(ranks), Aside(), Based()
+        self.room = GivenBack()
         self.texts: dict[int, OneText] = {}
         # Who claims numbers; and who holds each, by which rank.
         self.claims: set[tuple[int, bytes]] = set()
@@ -96,7 +98,7 @@ class MessageJudge:
         if entry.kind == Speaks.MESSAGES:
             return self._say(entry, entry.hashes, entry.ons)
         if entry.kind == Speaks.CLAIM:
-            self._claim(entry.site, entry.author, entry.rank)
+            self.claim(entry.site, entry.author, entry.rank)
         elif entry.kind == Speaks.BASE:
             new = self.base.add(entry)
             self._begin()
@@ -106,7 +108,7 @@ class MessageJudge:
             self.base.begin(entry.founding.root)
             if 1 <= entry.founding.number <= GREATEST_NUMBER:
                 # No rank is less.
-                self._claim(entry.founding.number, entry.founding.founder, b"")
+                self.claim(entry.founding.number, entry.founding.founder, b"")
             self._begin()
         return ()
 
@@ -122,12 +124,12 @@ class MessageJudge:
             self.aside.add(client, new)
         return new
 
-    def _claim(self, site: int, author: bytes, rank: bytes) -> None:
+    def claim(self, site: int, author: bytes, rank: bytes) -> None:
         """Gives a number to who claims it, where nobody does by a lesser rank."""
         self.claims.add((site, author))
         self.changes += 1
         before = self._holders.get(site)
-        if before and before[0] <= rank:
+        if not self.would_hold(site, rank):
             return
         self._holders[site] = rank, author
         if self.has_begun and site not in self.base.sites and (before is None or before[1] != author):
@@ -149,7 +151,7 @@ class MessageJudge:
 
     def _text(self, text: int) -> OneText:
         if text not in self.texts:
-            self.texts[text] = OneText(text, self.sayings, self.base.sites, self._digest, self.aside)
+            self.texts[text] = OneText(text, self.sayings, self.base.sites, self._digest, self.aside, self.room)
         return self.texts[text]
 
     # What counts of it.
@@ -165,8 +167,21 @@ class MessageJudge:
 
     def holder(self, site: int) -> bytes | None:
         """Whose number this is; nobody's where the base has it."""
+        return self.claimant(site) if site not in self.base.sites else None
+
+    def claimant(self, site: int) -> bytes | None:
+        """Who would hold a number, also one of the base."""
         found = self._holders.get(site)
-        return found[1] if found and site not in self.base.sites else None
+        return found[1] if found else None
+
+    def would_hold(self, site: int, rank: bytes) -> bool:
+        """Whether a claim by this rank holds a number."""
+        return site not in self._holders or rank < self._holders[site][0]
+
+    @property
+    def numbers(self) -> int:
+        """How many numbers are claimed."""
+        return len(self._holders)
 
     def held(self) -> set[int]:
         """All numbers that somebody holds, or that the base has."""

@@ -7,10 +7,9 @@ from share.admission.building import Building, Digest
 from share.admission.chain import last_of_others
 from share.admission.chains import Outcome
 from share.admission.lines import MessageChain, Path
-from share.admission.outside import Unchained
 from share.admission.passage import Passage
 from share.admission.reasons import REASONS, Reason
-from share.admission.room import Room
+from share.admission.room import GivenBack
 from share.admission.sayings import Whose, Sayings
 from share.format.history import Messages, Part
 from share.format.operation import Operation
@@ -27,12 +26,12 @@ class Turn(NamedTuple):
 class OneText:
     """The lines of a text, and what is let through of them."""
 
-    def __init__(self, text: int, sayings: Sayings, base_sites: Collection[int], digest: Digest, aside: Aside):
+    def __init__(self, text: int, sayings: Sayings, base_sites: Collection[int], digest: Digest, aside: Aside, room: GivenBack):
         self.text = text
         self.lines: dict[int, MessageChain] = {}
         self._sayings, self._aside = sayings, aside
         self.causes = Building(self.lines, base_sites, digest)
-        self.passage = Passage(self.lines, Room(None, Unchained()), self.causes)
+        self.passage = Passage(self.lines, room, self.causes)
         # What was told to count, of each site: its path, and up to where.
         self._told: dict[int, tuple[Path, int]] = {}
 

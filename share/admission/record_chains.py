@@ -1,11 +1,11 @@
 """What is told of the chains of a note of the second form, and of messages by their hashes."""
-from collections.abc import Iterator, Mapping, Sequence
+from collections.abc import Iterable, Iterator, Mapping, Sequence
 
 from share.admission.in_text import InText
 from share.admission.ledger import Row
 from share.admission.lines import MessageChain
 from share.admission.one_text import OneText
-from share.admission.record_set import RecordSet
+from share.admission.record_set import Prefers, RecordSet
 from share.admission.sayings import Root, Whose
 from share.admission.told import ToldOfMessages
 from share.admission.twigs import Twig
@@ -18,8 +18,8 @@ from share.format.second.record import Record
 class RecordChains(RecordSet):
     """Records, and the chains of their messages. Where a text isn't given the first one is meant."""
 
-    def __init__(self, *, form: RecordForm, room: int | None = None):
-        super().__init__(form=form, room=room)
+    def __init__(self, entries: Iterable[Entry] = (), prefers: Prefers | None = None, *, form: RecordForm, room: int | None = None):
+        super().__init__(entries, prefers, form=form, room=room)
         self._told = ToldOfMessages(self._messages, self._words)
         # Each text as it was when somebody asked last, and what that hangs on.
         self._in_texts: dict[int, tuple[tuple[int, int], InText]] = {}
@@ -37,7 +37,7 @@ class RecordChains(RecordSet):
             return self._records.entry(self._records.having(line.branch.numbers[-1]))
         author = self.holder(site)
         keys = self._form.keys
-        name = keys.claim_name(author, site) if author and (site, author) in self._ranks else keys.opening_name()
+        name = keys.claim_name(author, site) if author and (site, author) in self._claims else keys.opening_name()
         return self._records.entry(self._by_name[name])
 
     def last_name(self, site: int, text: int = TEXT) -> bytes:

@@ -7,6 +7,7 @@ from share.admission.copies import Copies
 from share.admission.ledger import Row, Who
 from share.admission.left_out import LeftOut, without_copied
 from share.admission.record_chains import RecordChains
+from share.admission.record_set import Prefers
 from share.admission.sayings import Root
 from share.format.entry import Entry
 from share.format.operation import TEXT, Operation
@@ -16,8 +17,9 @@ from share.format.second.form import RecordForm
 class RecordJudge(RecordChains):
     """The set of records that came, what counts of it, and what is told of the rest. Where a text isn't given the first one is meant."""
 
-    def __init__(self, entries: Iterable[Entry] = (), *, form: RecordForm, room: int | None = None):
-        super().__init__(form=form, room=room)
+    def __init__(self, entries: Iterable[Entry] = (), prefers: Prefers | None = None, *, form: RecordForm, room: int | None = None):
+        entries = [*entries]
+        super().__init__(entries, prefers, form=form, room=room)
         for entry in entries:
             self.add(entry)
 
@@ -87,9 +89,3 @@ class RecordJudge(RecordChains):
 
     def has_newer(self) -> bool:
         return self._words.has_newer()
-
-    def dropped(self) -> list[Row]:
-        return []
-
-    def turns(self) -> set[int]:
-        return set()

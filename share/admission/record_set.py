@@ -3,12 +3,13 @@
 A record is known by the hash of its bytes, a message by its own. `message_judge` says what counts, message by message; `records` has the
 records, and `words` what those without messages say.
 """
-from collections.abc import Iterable, Iterator, Sequence
+from collections.abc import Callable, Iterable, Iterator, Sequence
 
 from share.admission.judging import Counted, Judging
 from share.admission.ledger import Row, Who
 from share.admission.message_judge import MessageJudge
 from share.admission.one_text import Turn
+from share.admission.record_room import RecordRoom
 from share.admission.records import Records
 from share.admission.words import Words
 from share.format.entry import Entry
@@ -18,21 +19,30 @@ from share.format.second.keys import Founding
 from share.format.second.record import Record, RecordKind
 
 
-class RecordSet(Judging):
-    """Records, and what counts of them."""
+# What decides between two claims, or two messages of one place, by their records: the lesser one holds.
+Prefers = Callable[[Entry], bytes]
 
-    def __init__(self, *, form: RecordForm, room: int | None = None):
-        self._form, self._room = form, room
-        self._words = Words()
-        self._messages = MessageJudge(form.keys.digest)
+
+class RecordSet(Judging):
+    """Records, and what counts of them.
+
+    `prefers` may say otherwise which of two claims, or of two messages of these records, holds: so what one site saw before a lesser hash
+    came is found again. Where `room` is given, what doesn't count has this many bytes in memory; what is too much is given back.
+    """
+
+    def __init__(self, entries: Iterable[Entry] = (), prefers: Prefers | None = None, *, form: RecordForm, room: int | None = None):
+        self._form, self._prefers, self._words = form, prefers, Words()
+        self._messages = MessageJudge(form.keys.digest, ranks=_ranks(entries, prefers) if prefers else None)
+        self._messages.room = self._room = RecordRoom(room, self._messages)
         self._sayings = self._messages.sayings
         self._records = Records(form, self._sayings)
         # The records by what one asks for: the opening, and of each author and number the claim of the least rank, with that.
         self._by_name: dict[bytes, int] = {}
-        self._ranks: dict[Who, bytes] = {}
+        self._claims: dict[Who, bytes] = {}
         self._founding: Founding | None = None
         # Those of the base that came before the opening.
         self._unlinked: list[int] = []
+        self._has_begun = False
 
     def __contains__(self, of: bytes) -> bool:
         return self._number(of) is not None
@@ -78,6 +88,10 @@ class RecordSet(Judging):
     def add_new(self, row: Row) -> None:
         entry = row.entry
         assert isinstance(entry, Record)
+        if entry.kind is RecordKind.BASE and self._founding and not self._messages.base.is_here:
+            entry = entry.linked(self._founding)
+        if not self._room.admits(row, entry):
+            return
         if entry.kind is RecordKind.MESSAGES:
             self._records.add(row, entry, self._messages.add(entry))
             self._words.come(entry.text, entry.hashes)
@@ -98,28 +112,47 @@ class RecordSet(Judging):
     def _claim(self, entry: Record, number: int) -> None:
         """Takes over a claim."""
         who, rank = (entry.site, entry.author), entry.rank
-        if who not in self._ranks or rank < self._ranks[who]:
-            self._ranks[who] = rank
+        if who not in self._claims or rank < self._claims[who]:
+            self._claims[who] = rank
             self._by_name[self._form.keys.claim_name(entry.author, entry.site)] = number
-        self._messages.add(entry)
+        before = self.holder(entry.site)
+        self._messages.claim(entry.site, entry.author, self._prefers(entry) + rank if self._prefers else rank)
+        self._room.changed_hands(entry.site, before, self.holder(entry.site))
 
     def _add_base(self, entry: Record, number: int) -> None:
         """Takes over what may be of the base, once the opening is there, which says what names its messages."""
-        if self._founding:
-            self._records.add_base(number, self._messages.add(entry.linked(self._founding)))
-        else:
+        if not self._founding:
             self._unlinked.append(number)
+            return
+        before = self._messages.base.missing()
+        self._records.add_base(number, self._messages.add(entry))
+        if before != self._messages.base.missing():
+            self._room.base_moved()
+        self._begin()
 
     def _open(self, entry: Record, number: int) -> None:
         """Takes over the opening."""
         if self._founding:
             return
-        self._founding = entry.founding
+        self._founding = founding = entry.founding
         self._by_name[self._form.keys.opening_name()] = number
+        before = self.holder(founding.number) if founding else None
         self._messages.add(entry)
-        unlinked, self._unlinked = self._unlinked, []
-        for one in unlinked:
-            self._add_base(self._records.entry(one), one)
+        if founding:
+            self._room.changed_hands(founding.number, before, self.holder(founding.number))
+            unlinked, self._unlinked = self._unlinked, []
+            for one in unlinked:
+                self._add_base(self._records.entry(one).linked(founding), one)
+            self._room.base_moved()
+        self._begin()
+
+    def _begin(self) -> None:
+        """Notes that messages are let through from now on, where they are."""
+        if self._messages.has_begun and not self._has_begun:
+            self._has_begun = True
+            for site in self._messages.base.sites:
+                self._room.changed_hands(site, self._messages.claimant(site), None)
+            self._room.begun()
 
     def begun(self) -> bool:
         return self._messages.has_begun
@@ -150,3 +183,19 @@ class RecordSet(Judging):
         for one in sorted(self._messages.texts) if text is None else [text]:
             messages += self._messages.in_order(one)
         return messages
+
+    def dropped(self) -> list[Row]:
+        return self._room.given_back()
+
+    def turns(self) -> set[int]:
+        return self._room.turns()
+
+
+def _ranks(entries: Iterable[Entry], prefers: Prefers) -> dict[bytes, bytes]:
+    """What decides between messages of records: of one that several have the least."""
+    found: dict[bytes, bytes] = {}
+    for entry in entries:
+        if isinstance(entry, Record) and entry.hashes:
+            rank = prefers(entry)
+            found |= {of: min(rank, found.get(of, rank)) for of in entry.hashes}
+    return found

@@ -6,7 +6,7 @@ there are some 90 bytes. Nothing is ever taken away.
 """
 from array import array
 from bisect import bisect_left
-from collections.abc import Iterator, MutableSequence, Sequence
+from collections.abc import Iterator, Mapping, MutableSequence, Sequence
 from enum import Enum
 from itertools import groupby
 from typing import NamedTuple, Protocol
@@ -65,8 +65,10 @@ class Root(Enum):
 class Sayings(Hashes):
     """Messages, each by a number of its own, and which follow which."""
 
-    def __init__(self) -> None:
+    def __init__(self, ranks: Mapping[bytes, bytes] | None = None):
         super().__init__()
+        # What decides in place of their hashes between messages, by these; what has none comes last.
+        self._ranks = ranks
         self._clients: list[Whose] = []
         self._client_of: dict[Whose, int] = {}
         self._texts_of: dict[tuple[bytes, int], list[int]] = {}
@@ -162,7 +164,7 @@ class Sayings(Hashes):
         before = self._befores[number] - 1
         if before < 0:
             client = self._whose[number]
-            if (first := self._firsts.get(client)) is None or self.hash(number) < self.hash(first):
+            if (first := self._firsts.get(client)) is None or self.is_less(number, first):
                 self._firsts[client] = number
         elif self._seqs[before]:
             self._go_on(number, before)
@@ -178,8 +180,13 @@ class Sayings(Hashes):
             return
         self._downs[number] = self._downs[before]
         least = self._leasts[before]
-        if not least or self.hash(number) < self.hash(least - 1):
+        if not least or self.is_less(number, least - 1):
             self._leasts[before] = number + 1
+
+    def is_less(self, number: int, other: int) -> bool:
+        """Whether a message holds where another one has its place."""
+        one, two, ranks = self.hash(number), self.hash(other), self._ranks
+        return one < two if ranks is None else _rank_of(one, ranks) < _rank_of(two, ranks)
 
     # What is asked of them.
 
@@ -258,6 +265,11 @@ class Sayings(Hashes):
             # Others go on from the middle of the run.
             end = bisect_left(numbers, True, begin + 1, end, key=lambda each: in_runs[each] != number)
         return run.part(begin + 1 - run.seq, end + 1 - run.seq)
+
+
+def _rank_of(one: bytes, ranks: Mapping[bytes, bytes]) -> tuple[bool, bytes, bytes]:
+    """What decides between messages."""
+    return one not in ranks, ranks.get(one, b""), one
 
 
 def _is_typed_on(last: Operation, run: Operation) -> bool:

@@ -9,6 +9,7 @@ from share.admission.record_judge import RecordJudge
 from share.format.entry import Bad
 from share.format.second.form import PlainRecords
 from share.format.second.record import Record
+from share.sync.backlog import Backlog
 from share.tests import naive_told
 from share.tests.naive_second import Answer, Saying
 from share.tests.second_agreement import Reader
@@ -80,3 +81,21 @@ def agrees_on_records(one: Set, raws: Sequence[bytes], chance: random.Random) ->
     if found := record_differences(answer, judged.judge):
         raise AssertionError(f"{found}: {one!r}, {[one.raws.index(raw) if raw in one.raws else raw for raw in coming]}")
     return answer, judged.judge
+
+
+def with_little_room(one: Set, raws: Sequence[bytes], room: int | None, chance: random.Random) -> RecordJudge:
+    """What has records as they come, with room for some bytes of what doesn't count, and reads what was dropped again as soon as it may
+    have its turn."""
+    form, backlog = PlainRecords(one.note.key, ZERO_BITS), Backlog()
+    judge, records = RecordJudge(form=form, room=room), Judged(one).records(raws)
+    for place, entry in enumerate(records):
+        judge.add(entry, place)
+        backlog.add(judge.dropped())
+        if chance.random() < 0.5 or place == len(records) - 1:
+            judge.count()
+            while turns := judge.turns():
+                for again in backlog.take(turns):
+                    judge.add(records[again], again)
+                    backlog.add(judge.dropped())
+                judge.count()
+    return judge
