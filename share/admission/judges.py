@@ -14,7 +14,7 @@ def judge_of(form: Form, entries: Iterable[Entry] = (), room: int | None = None,
     """What judges a note of this form, to which entries came. What doesn't count may have a room in memory; `prefers` may say otherwise
     which of two holds; of those that it finds alike the lesser hash or rank does."""
     if isinstance(form, RecordForm):
-        return RecordJudge(entries, form=form, room=room)
+        return RecordJudge(entries, prefers, form=form, room=room)
     return Judge(entries, rank if prefers is None else _then_by_rank(prefers), form, room)
 
 

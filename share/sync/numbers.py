@@ -46,6 +46,11 @@ class Numbers:
         self._held: set[Who] = set()
         self.own = self.locked() or self.claimed()
 
+    @property
+    def has_one(self) -> bool:
+        """Whether this editor has a number; where one costs a search there may be none yet."""
+        return self.own.site != READING or not self.search
+
     def lock_again(self, disk: Disk) -> None:
         """Locks this editor's number in a file that has taken the other one's place."""
         self.is_taken = not disk.lock(self.own.site)

@@ -51,7 +51,7 @@ class Rebaser:
         comes. `anew` has all messages that count where the site has some that don't. Whether the site began anew."""
         holdings, may = self._holdings, has_read and self.may_write()
         broken = self._given_up() if may else []
-        is_due = may and self._turns.is_due()
+        is_due = may and self._numbers.has_one and self._turns.is_due()
         if is_due or self._replica.site.number != self._replica.number or holdings.is_anew():
             found = holdings.count()
             anew = found.messages if found.anew else holdings.judge.let_through_in_order()
