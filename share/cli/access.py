@@ -112,7 +112,8 @@ def opener(given: argparse.Namespace, name: str, link: AnyLink | None) -> OpensW
 
     def opened(bar: Bar, wake: Callable[[], None]) -> Session:
         told: list[str] = []
-        session = Session(notes.open_note(name, url, link, password, told.append), password, bar, wake)
+        disk = notes.open_note(name, url, link, password, told.append, getattr(given, "form", None))
+        session = Session(disk, password, bar, wake)
         for left_out in told:
             session.tell(left_out)
         return session

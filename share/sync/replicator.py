@@ -189,6 +189,10 @@ class Replicator:
         often does so ever more rarely."""
         self._meeting.ask(lacked)
 
+    def find(self, hash_of: Callable[[bytes], bytes | None]) -> None:
+        """Finds what others have asked for by what names a message; the giver gives it again."""
+        self._meeting.find(hash_of)
+
     def read_from_front(self) -> None:
         """Reads the log from its front, and gives it what it lacks. Any thread may call it."""
         self._known.read_from_front()

@@ -250,6 +250,11 @@ class Holdings:
         row = self.rows[entry.hash]
         return row.made and not self._lost_of(row).messages
 
+    def hash_of(self, name: bytes) -> bytes | None:
+        """The hash of what is named so, or has a message that is; None where it isn't in memory."""
+        row = self.judge.row(name)
+        return row.entry.hash if row else None
+
     def claim_of(self, client: Client) -> Entry | None:
         """The claim of a number of this person, where it has one that is here."""
         return next((row.entry for row in self.judge.of(*who(client)) if row.entry.kind.is_claim), None)
