@@ -147,6 +147,8 @@ class Site:
         """A site with these messages of a text, after those that its packed file has, which is in a folder. It is told at once that the
         program stands still, and that it answers again."""
         self.number, self.text_number = number, text
+        # How many messages the note's other texts have.
+        self.beside: Callable[[], int] = lambda: 0
         # All that the program was handed and made.
         self.history = Messages()
         self._program = Lasting(number, folder, self.history, stands, text)
@@ -384,7 +386,7 @@ class Site:
         return self._sent(self._ask([self._program.event(verb, *words)]))
 
     def _full(self) -> int | None:
-        return TOO_MANY if is_full(len(self.history)) else None
+        return TOO_MANY if is_full(len(self.history) + self.beside()) else None
 
     def _ask(self, events: list[bytes]) -> list[list[bytes]]:
         return self._program.ask(events)

@@ -1,6 +1,7 @@
 """Edits that are made here: each is kept in the note's file before anyone sees it."""
 from collections.abc import Callable, Sequence
 
+from share.admission.judging import Counted
 from share.format.chunk import packed_in_parts
 from share.format.entry import Copy, Entry, Form
 from share.format.operation import Operation
@@ -33,6 +34,9 @@ class OwnEdits:
         self._replica, self._replicator, self._notices = replica, replicator, notices
         # The last entry that was made here.
         self.last: Entry
+        # Called with what counts since an edit, and after another number was taken: each is of all texts.
+        self.elsewhere: Callable[[Counted], None] = lambda found: None
+        self.took_another: Callable[[], None] = lambda: None
         self.goes_on()
 
     @property
@@ -87,8 +91,7 @@ class OwnEdits:
         if not self._replica.is_stale and self._numbers.take_another_when_full(length):
             # What was read of the file meanwhile is looked at, and taken in, later.
             self._numbers.is_settled = False
-            self.goes_on()
-            self._replica.go_on_under_another_number()
+            self.took_another()
 
     def keep(self, messages: Sequence[Operation], anew: Sequence[Anew] = (),
              says: Says = lambda last: (), hidings: Sequence[Copy] = ()) -> None:
@@ -111,6 +114,7 @@ class OwnEdits:
         self._holdings.made_anew(anew, hidings)
         found = self._holdings.count()
         self._replica.made(messages, found)
+        self.elsewhere(found)
         if found.anew:
             self._numbers.is_settled = False
         self._replicator.made(places[len(places) - len(made):])

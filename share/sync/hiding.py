@@ -45,7 +45,7 @@ class Hider:
         is_due = self._hides_others is not None and time.monotonic() >= self._hides_others
         if fronts == (self._fronts or []) and not is_due or not self._may_hide():
             return []
-        names, before = wanted(self._holdings), len(self._replica.site.history)
+        names, before = wanted(self._holdings, self._replica.text), len(self._replica.site.history)
         try:
             told = self._hide(names, is_due)
         except BaseException as why:
@@ -87,24 +87,25 @@ class Wanted(NamedTuple):
     of_others: list[tuple[Copy, Names]]
 
 
-def wanted(holdings: Holdings) -> Wanted:
-    """What is to become of the copies that count: those that were made here, and those that others made."""
+def wanted(holdings: Holdings, text: int) -> Wanted:
+    """What is to become of the copies of a text that count: those that were made here, and those that others made."""
     hidden, shown, of_others, hidden_here = list[Names](), list[Names](), list[tuple[Copy, Names]](), list[Names]()
     judge, standing, recovered = holdings.judge, holdings.standing, holdings.recovered
     for copy, is_hidden in chain(standing.made_here(judge.entry_of, holdings.rows), recovered.made_here(judge)):
-        if (message := _made_here(holdings, copy)) and (names := message.new):
+        if copy.text == text and (message := _made_here(holdings, copy)) and (names := message.new):
             (hidden if is_hidden else shown).append(names)
     of_all = holdings.standing_for_all.made_by_all(judge.entry_of, judge.front_up_to)
     for copy, is_hidden in chain(of_all, recovered.made_by_others(judge)):
         # What was hidden here is shown again by who hid it.
-        if (is_hidden or holdings.hidings) and judge.message_counts(*copy) and not _made_here(holdings, copy):
+        if copy.text == text and (is_hidden or holdings.hidings) and judge.message_counts(*copy) and not _made_here(holdings, copy):
             if names := judge.message(*copy[1:]).new:
                 of_others.append((copy, names)) if is_hidden else hidden_here.append(names)
-    own = [message for copy in holdings.hidings if (message := _made_here(holdings, copy))]
-    said_so = (judge.message(*one[1:]) for one in recovered.hidings if judge.message_counts(*one))
+    own = [message for copy in holdings.hidings if copy.text == text and (message := _made_here(holdings, copy))]
+    said_so = (judge.message(*one[1:]) for one in recovered.hidings if one.text == text and judge.message_counts(*one))
     hidings = own + [message for message in said_so if message.kind == DELETE]
     shown = _hidden_by(hidings, united(shown)) + _hidden_by(own, united(hidden_here))
-    return Wanted(united(hidden), _hidden_for_that_alone(holdings, hidings, united(shown)), of_others)
+    all_messages = holdings.judge.let_through_in_order(text) if shown else ()
+    return Wanted(united(hidden), _hidden_for_that_alone(all_messages, hidings, united(shown)), of_others)
 
 
 def said_of_hidden(form: Form, author: Author, made: Iterable[Operation], hidden: Iterable[tuple[Copy, Names]], last: Entry) -> list[Entry]:
@@ -137,11 +138,11 @@ def _hidden_by(hidings: Iterable[Operation], names: list[Names]) -> list[Names]:
     return _in_both(names, united(part for message in hidings for part in message.mentions)) if names else []
 
 
-def _hidden_for_that_alone(holdings: Holdings, hidings: Iterable[Operation], names: list[Names]) -> list[Names]:
+def _hidden_for_that_alone(all_messages: Iterable[Operation], hidings: Iterable[Operation], names: list[Names]) -> list[Names]:
     """Those of these characters that would be shown if no copy had ever been hidden, and aren't."""
     if not names:
         return []
-    messages = [message for message in holdings.judge.let_through_in_order() if message.kind in (DELETE, RESTORE)]
+    messages = [message for message in all_messages if message.kind in (DELETE, RESTORE)]
     made_for_that = {(message.site, message.seq) for message in hidings}
     would_be = _gone(names, (message for message in messages if (message.site, message.seq) not in made_for_that))
     return without([*_of(_gone(names, messages))], [*_of(would_be)])

@@ -6,18 +6,18 @@ from contextlib import suppress
 
 from share.format.entry import Form
 from share.format.history import Messages
+from share.format.operation import TEXT
 from share.program.trace import Traced, trace
 from share.store.guarded import Unkept
 from share.store.own import Client, Overtaken
 from share.sync.backoff import Turns, told_of_edits, told_of_numbers
-from share.sync.edits import OwnEdits
 from share.sync.numbers import Numbers
 from share.sync.open_file import OpenFile
 from share.sync.rebase import Rebased, at_once, length_of, rebase, with_claims
-from share.sync.replica import Replica
 from share.sync.replicator import Replicator
-from share.sync.state import Holdings
+from share.sync.state import Holdings, ToRebase
 from share.sync.status import Notices
+from share.sync.texts import OpenTexts
 from share.text.errors import counted
 
 # The pause before what couldn't be rebased is tried again.
@@ -27,10 +27,10 @@ REBASE_AGAIN_SECONDS = 5
 class Rebaser:
     """Gives up numbers that can't be gone on with, and rebases what doesn't count. The editor's thread alone calls it."""
 
-    def __init__(self, file: OpenFile, holdings: Holdings, form: Form, numbers: Numbers, replica: Replica,
-                 edits: OwnEdits, replicator: Replicator, notices: Notices):
+    def __init__(self, file: OpenFile, holdings: Holdings, form: Form, numbers: Numbers, texts: OpenTexts, replicator: Replicator,
+                 notices: Notices):
         self._file, self._holdings, self._form, self._numbers = file, holdings, form, numbers
-        self._replica, self._edits, self._replicator, self._notices = replica, edits, replicator, notices
+        self._texts, self._replicator, self._notices = texts, replicator, notices
         self._turns, self._again = Turns(), 0.0
 
     def may_write(self) -> bool:
@@ -52,11 +52,11 @@ class Rebaser:
         holdings, may = self._holdings, has_read and self.may_write()
         broken = self._given_up() if may else []
         is_due = may and self._numbers.has_one and self._turns.is_due()
-        if is_due or self._replica.site.number != self._replica.number or holdings.is_anew():
+        if is_due or self._texts.has_other_number() or holdings.is_anew():
             found = holdings.count()
             anew = found.messages if found.anew else holdings.judge.let_through_in_order()
         if anew is not None:
-            self._replica.begin_anew(anew)
+            self._texts.begin_anew(anew)
         if is_due:
             self._rebase(broken)
         elif broken:
@@ -87,7 +87,7 @@ class Rebaser:
                 self._replicator.read_from_front()
             given_up = numbers.give_up(broken)
             if numbers.own.site != number:
-                self._edits.goes_on()
+                self._texts.goes_on()
             self._turns.found(bool(numbers.lost(own=True)), bool(numbers.lost(own=False)))
             return given_up
         except Unkept as why:
@@ -96,25 +96,30 @@ class Rebaser:
 
     def _rebase(self, broken: Sequence[Client]) -> None:
         """Rebases, under this number, what was made under others and doesn't count, and whose turn it is."""
-        holdings, own = self._holdings, self._turns.is_own_due()
+        own, many = self._turns.is_own_due(), 0
         lost, is_all = at_once(self._numbers.lost(own))
-        rows = [*holdings.rows.each()]
-        messages = [*dict.fromkeys(message for one in lost for message in one.messages)]
-        self._edits.make_room(length_of(messages))
-        done = rebase(self._form, rows, messages, holdings.judge, self._replica.site,
-                      () if own else with_claims(rows, lost)) if lost else []
-        rebased = Rebased(holdings, lost, done, self._edits.last)
         try:
-            self._edits.keep([one.new for one in done if one.new], rebased.anew() if own else (),
-                             lambda last: rebased.copies(self._form, last), rebased.hidings())
+            for text in sorted({one.entry.text for one in lost}) or [TEXT]:
+                many += self._rebase_in(text, [one for one in lost if one.entry.text == text], own)
         except (Unkept, Overtaken) as why:
             self._rebase_later(why)
             return
-        trace(Traced.REBASED, messages=len(messages), made=len(done), own=own)
         if is_all:
             self._turns.made(own)
-        many = len(messages)
         self._say_of(broken, told_of_edits(many if own else 0, 0 if own else many))
+
+    def _rebase_in(self, text: int, lost: Sequence[ToRebase], own: bool) -> int:
+        """Rebases what was lost of a text; how many messages that was."""
+        holdings, (replica, edits) = self._holdings, self._texts[text]
+        rows = [*holdings.rows.each()]
+        messages = [*dict.fromkeys(message for one in lost for message in one.messages)]
+        edits.make_room(length_of(messages))
+        done = rebase(self._form, rows, messages, holdings.judge, replica.site, () if own else with_claims(rows, lost)) if lost else []
+        rebased = Rebased(holdings, lost, done, edits.last)
+        edits.keep([one.new for one in done if one.new], rebased.anew() if own else (),
+                   lambda last: rebased.copies(self._form, last), rebased.hidings())
+        trace(Traced.REBASED, messages=len(messages), made=len(done), own=own)
+        return len(messages)
 
     def _rebase_later(self, why: Exception) -> None:
         """As if nothing had been made; it is tried again later."""
@@ -123,7 +128,7 @@ class Rebaser:
         else:
             self._numbers.is_settled = False
             self._holdings.reread_anew(self._file.disk)
-        self._replica.begin_anew(self._holdings.judge.let_through_in_order())
+        self._texts.begin_anew(self._holdings.judge.let_through_in_order())
 
     def _say_that_it_waits(self, broken: Sequence[Client]) -> None:
         """Says that numbers were given up, and when what was lost is rebased, where something was."""

@@ -96,7 +96,7 @@ class Replica:
         self.is_stale |= found.anew
 
     def begin_anew(self, messages: Messages) -> None:
-        """Begins another site, under the number of now, with these messages, which are all that count."""
+        """Begins another site, under the number of now, with these messages, which are all that count of the text."""
         trace(Traced.SITE_BEGUN_ANEW, messages=len(messages))
         self._coming = Coming()
         with suppress(Trouble):
@@ -112,6 +112,7 @@ class Replica:
             self.is_stale = True
             return
         self._replace(lambda: Site(self.number, history, folder=self._folder(), stands=lambda stands: self.stands(stands), text=self.text))
+        self.site.beside = self._beside
 
     def _replace(self, new: Callable[[], Site]) -> None:
         self.site.close()
@@ -179,7 +180,12 @@ class Replica:
             fronts = snapshot.fronts_of(self._file.disk, self._holdings.judge, own, folder, self.text)
         packed, others = snapshot.parted(messages, fronts)
         self.packed = len(packed)
-        return Site(self.number, others, progress, folder, packed, lambda stands: self.stands(stands), self.text)
+        site = Site(self.number, others, progress, folder, packed, lambda stands: self.stands(stands), self.text)
+        site.beside = self._beside
+        return site
+
+    def _beside(self) -> int:
+        return self._holdings.many(but=self.text)
 
     def _folder(self) -> pathlib.Path | None:
         return snapshot.folder_of(self._file.disk, self._numbers.own.site, self.text)

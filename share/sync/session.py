@@ -1,7 +1,7 @@
 """A note that is open for one editor."""
 import math
 import time
-from collections.abc import Callable, Sequence, Set
+from collections.abc import Callable, Iterator, Sequence, Set
 from contextlib import ExitStack, suppress
 
 from share.admission.judging import Counted
@@ -9,6 +9,7 @@ from share.admission.ledger import Row, Who
 from share.format.entry import Entry
 from share.format.history import Messages
 from share.format.link import is_network
+from share.format.operation import TEXT
 from share.log.opening import open_log
 from share.program import retyping
 from share.program.retyping import Lost
@@ -28,6 +29,7 @@ from share.sync.replica import Bar, Replica
 from share.sync.replicator import Replicator
 from share.sync.state import Holdings, who
 from share.sync.status import Notices, Status
+from share.sync.texts import OpenText, OpenTexts
 from share.text.change import Change
 from share.text.errors import Trouble
 
@@ -73,18 +75,23 @@ class Session:
         self._file.read_all()
         self._numbers = Numbers(self._holdings, self._form, bool(url), self._file)
         self._file.moved = self._numbers.lock_again
-        self._replica = Replica(self._file, self._holdings, self._numbers, bar, self._holdings.count().messages)
-        opened.callback(lambda: self.site.close())
         opens = (lambda: open_log(url, note, password)) if url else None
         self._replicator = Replicator(lambda: Disk(path), opens, self._form, wake, lambda: self._file.disk, handover)
         opened.callback(self._replicator.close, 0)
         if search := self._numbers.search:
             self._replicator.wake_for(search.has_ended)
             opened.callback(search.close)
-        known = self._file, self._holdings, self._form, self._numbers, self._replica
-        self._edits = OwnEdits(*known, self._replicator, self._notices)
-        self._rebaser = Rebaser(*known, self._edits, self._replicator, self._notices)
-        self._hider = Hider(*known[1:], self._edits, self._rebaser)
+        file, holdings, form, numbers = known = self._file, self._holdings, self._form, self._numbers
+
+        def opened_text(text: int, messages: Messages) -> OpenText:
+            replica = Replica(file, holdings, numbers, bar, messages, text)
+            return OpenText(replica, OwnEdits(*known, replica, self._replicator, self._notices))
+
+        self._texts = OpenTexts(holdings, opened_text)
+        opened.callback(self._texts.close)
+        self._replica, self._edits = self._texts[TEXT]
+        self._rebaser = Rebaser(*known, self._texts, self._replicator, self._notices)
+        self._hiders = {TEXT: Hider(holdings, form, numbers, *self._texts[TEXT], self._rebaser)}
 
     @property
     def site(self) -> Site:
@@ -110,25 +117,30 @@ class Session:
     def stands(self, stands: Callable[[bool], None]) -> None:
         self._replica.stands = stands
 
-    def text(self) -> bytes:
-        """What the site shows."""
-        return self.site.text()
+    def text(self, text: int = TEXT) -> bytes:
+        """What the site shows, or the site of another text."""
+        return self._texts[self._checked(text)].replica.site.text()
 
-    def insert(self, position: int, data: bytes) -> Edited:
-        """Types bytes at a position of the text."""
-        return self.edit(lambda site: site.insert(position, data))
+    def insert(self, position: int, data: bytes, text: int = TEXT) -> Edited:
+        """Types bytes at a position of a text."""
+        return self.edit(lambda site: site.insert(position, data), text)
 
-    def cut(self, begin: int, end: int) -> Edited:
+    def cut(self, begin: int, end: int, text: int = TEXT) -> Edited:
         """Deletes a stretch."""
-        return self.edit(lambda site: site.cut(begin, end))
+        return self.edit(lambda site: site.cut(begin, end), text)
 
-    def edit(self, work: Callable[[Site], Edited]) -> Edited:
-        """Does several things at the site as one edit: all that they made is kept, or nothing of it."""
-        return self._edits.make(work)
+    def edit(self, work: Callable[[Site], Edited], text: int = TEXT) -> Edited:
+        """Does several things at the site of a text as one edit: all that they made is kept, or nothing of it."""
+        return self._texts[self._checked(text)].edits.make(work)
 
-    def messages(self) -> Messages:
-        """All messages that count, each after its causes."""
-        return self._holdings.judge.let_through_in_order()
+    def _checked(self, text: int) -> int:
+        if text not in self._form.texts:
+            raise Trouble(f"This note has no text {text}.")
+        return text
+
+    def messages(self, text: int = TEXT) -> Messages:
+        """All messages of a text that count, each after its causes."""
+        return self._holdings.judge.let_through_in_order(text)
 
     def is_own(self, site: int) -> bool:
         """Whether a number is one of this person's."""
@@ -146,11 +158,27 @@ class Session:
         """Types again what was left out, and says so of it; what that was."""
         found = self.lost()
         self._replica.remember()
+        for text in sorted({one.messages[0].text for one in found}):
+            self._texts[text].edits.type_again([one for one in found if one.messages[0].text == text])
         if found:
-            self._edits.type_again(found)
             # Something may stand for what was left out that nobody has said of it yet.
-            self._hider.hide()
+            self._hide()
         return found
+
+    def _hide(self) -> Told:
+        """Hides copies in all texts that are open, or shows them again; what the first one has become."""
+        told: Told = []
+        for text, hider in self._each_hider():
+            hidden = hider.hide()
+            told = hidden if text == TEXT else told
+        return told
+
+    def _each_hider(self) -> Iterator[tuple[int, Hider]]:
+        for one in self._texts:
+            text = one.replica.text
+            if text not in self._hiders:
+                self._hiders[text] = Hider(self._holdings, self._form, self._numbers, *one, self._rebaser)
+            yield text, self._hiders[text]
 
     def show(self, shows: dict[bytes, bytes]) -> list[bytes]:
         """Shows others what editors here show of themselves, by their tokens; what others show."""
@@ -185,7 +213,7 @@ class Session:
 
     def has_more(self) -> bool:
         """Whether some of what came is still to be taken in."""
-        return self._replica.has_more() or self._holdings.has_more
+        return any(one.replica.has_more() for one in self._texts) or self._holdings.has_more
 
     def tell(self, words: str) -> None:
         """Tells the user something."""
@@ -194,7 +222,7 @@ class Session:
     def notices(self) -> list[str]:
         """What the user is to be told since this was last asked."""
         notices, of_threads = self._notices, self._replicator.notices
-        notices.tell_of_fullness(len(self.site.history), self._file.disk.path.stem)
+        notices.tell_of_fullness(self._holdings.many(), self._file.disk.path.stem)
         while of_threads:
             notices.tell(of_threads.pop(0))
         notices.tell_of_wrong(self._holdings.judge.wrong())
@@ -223,7 +251,8 @@ class Session:
 
     def _finish(self) -> None:
         self._replicator.close(SEND_SECONDS)
-        self._replica.close()
+        for one in self._texts:
+            one.replica.close()
         with suppress(Unkept, Trouble):
             # From here on all that is kept of the note is its file.
             self._file.mended(lambda: self._file.look(at_end=True))
@@ -253,16 +282,19 @@ class Session:
         is_other = self._rebaser.settle(found.messages if found.anew else None, has_read)
         self._rebaser.say_what_was_rebased()
         if found.anew or is_other:
-            self._hider.look_again()
+            for _, hider in self._each_hider():
+                hider.look_again()
         if is_other:
             if not self.has_more():
-                self._hider.hide()
+                self._hide()
             return self.site.text() if self._looks else []
         self._ask_for_what_is_missing()
         self._notices.tell_of_room(self._holdings.waiting_for_room())
-        self._replica.comes(found.messages)
+        self._texts.comes(found)
+        for one in self._texts.others():
+            one.replica.take_in(self.turn_seconds / 2, False)
         told = self._replica.take_in(self.turn_seconds / 2, self._looks)
-        hidden = [] if self.has_more() else self._hider.hide()
+        hidden = [] if self.has_more() else self._hide()
         if isinstance(told, list) and isinstance(hidden, list):
             return told + hidden
         return self.site.text() if self._looks else []
@@ -277,13 +309,12 @@ class Session:
         if found.anew or any(map(self._is_of_this_person, new)):
             self._numbers.is_settled = False
         if self._numbers.take_found():
-            self._edits.goes_on()
-            self._replica.go_on_under_another_number()
+            self._texts.go_on_under_another_number()
         self._numbers.look_at_claims(in_log)
         if self.can_type and (self._form.is_searched or is_network(self._about.url)) and self._replicator.has_read():
             self._numbers.claim_in_advance(self._replicator.editors_here())
-        if self._replica.is_stale:
-            found, self._replica.is_stale = Counted(self._holdings.judge.let_through_in_order(), True), False
+        if self._texts.is_stale():
+            found = Counted(self._holdings.judge.let_through_in_order(), True)
         return found, has_read
 
     def _is_of_this_person(self, run: Sequence[Row]) -> bool:

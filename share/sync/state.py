@@ -91,6 +91,8 @@ class Holdings:
         # Whether the file may have more than was read.
         self.has_more = False
         self._rejudged = False
+        # How many messages count of each text.
+        self._many: dict[int, int] = {}
 
     def read(self, disk: Disk, most: float = math.inf) -> list[Sequence[Row]]:
         """Reads what the file has more, all or until it has this many bytes; the rows that weren't known, as `runs` has them."""
@@ -165,10 +167,18 @@ class Holdings:
         """What counts since this was last asked."""
         found, rejudged = self.judge.count(), self._rejudged
         self._rejudged = False
+        if found.anew or rejudged:
+            self._many.clear()
+        for part in found.messages.parts():
+            self._many[part.holder.text] = self._many.get(part.holder.text, 0) + part.end - part.begin
         self._backlog.add(self.judge.dropped())
         self._again += self._backlog.take(self.judge.turns())
         self.has_more = self.has_more or bool(self._again)
         return Counted(found.messages, found.anew or rejudged)
+
+    def many(self, but: int | None = None) -> int:
+        """How many messages count of all texts, or of all but one."""
+        return sum(many for text, many in self._many.items() if text != but)
 
     def is_anew(self) -> bool:
         """Whether what counts next is all of it, judged anew."""
