@@ -5,6 +5,7 @@ from typing import NamedTuple
 
 from share.admission.judges import judge_of
 from share.format.history import Messages
+from share.format.operation import TEXT
 from share.format.second.key_link import AnyLink
 from share.program import replay, retyping
 from share.program.site import Site
@@ -33,10 +34,10 @@ def text_of_note(name: str, url: str | None, link: AnyLink | None, password: str
         return NoteText(site.text(), missing)
 
 
-def contents_of(name: str, there: Judged) -> Contents:
-    """What counts of what there is of a note."""
+def contents_of(name: str, there: Judged, text: int = TEXT) -> Contents:
+    """What counts of a text of what there is of a note."""
     judge, path = there.judge, notes.path_of(name)
-    messages = judge.count().messages
+    messages = judge.let_through_in_order(text)
     own, names = read_only.own(path) if path.exists() else Own(), nicknames.known(name)
     missing = read_only.missing(judge, there.faults)
     if much := retyping.left_out(judge, own.anew):

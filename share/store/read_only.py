@@ -15,6 +15,7 @@ from share.admission.judging import Judging
 from share.admission.ledger import Row
 from share.admission.runs import runs
 from share.format.entry import Bad, Copy, Entry, Form, OneByOne, digest
+from share.format.operation import TEXT
 from share.log.folder import inode_of
 from share.log.sqlite_file import FAULTS, Busy, Malformed, SqliteFile
 from share.program.site import Site
@@ -149,7 +150,7 @@ def judged(path: pathlib.Path) -> Judged:
 def text_of(found: FoundEntries) -> NoteText:
     """What a note shows that has these entries."""
     judge = judge_of(found.about.form(), found.entries)
-    messages = judge.count().messages
+    messages = judge.let_through_in_order(TEXT)
     with contextlib.closing(Site(1, messages)) as site:
         return NoteText(site.text(), missing(judge, found.faults))
 
