@@ -54,7 +54,7 @@ def _claim_and_entries(form: Form, messages: Sequence[Operation], client: Client
         yield Row(0, last, False)
 
 
-def _free(taken: Iterable[int]) -> int | None:
+def free_number(taken: Iterable[int]) -> int | None:
     """A number that isn't taken, if there is one."""
     taken_ones = frozenset(taken)
     free = [number for number in range(1, GREATEST_SITE + 1) if number not in taken_ones]
@@ -67,7 +67,7 @@ def _first_form(url: str, messages: ByText) -> Begun:
     about = About(True, new_key(), url) if is_network(url) else About(False, secrets.token_bytes(NOTE_BYTES), url)
     form, of_sites = about.form(), {site: ones for sites in messages.values() for site, ones in sites.items()}
     # Nobody else has this note yet, so its first number can be typed under at once.
-    number = _free(of_sites)
+    number = free_number(of_sites)
     clients = [Client(number, form.new_author(), stood=True)] if number else []
     # Who has the link could claim a copied number, too. With its key what was written under it can be made anew then.
     copied = [Client(site, form.new_author(), retired=True, copied=True) for site in of_sites]
@@ -78,7 +78,7 @@ def _first_form(url: str, messages: ByText) -> Begun:
 def _second_form(url: str, messages: ByText) -> Begun:
     is_sealed = is_network(url)
     author: Author = (SealedRecords if is_sealed else PlainRecords).author_of_any_note()
-    secret, number = secrets.token_bytes(NOTE_KEY_BYTES), _free(chain.from_iterable(messages.values())) or 0
+    secret, number = secrets.token_bytes(NOTE_KEY_BYTES), free_number(chain.from_iterable(messages.values())) or 0
     root, found = NO_HASH, Founding(secret, NO_HASH, author.name, number)
     for root in found.links(NO_HASH, chain.from_iterable(of_site for sites in messages.values() for of_site in sites.values())):
         pass

@@ -11,7 +11,7 @@ from typing import Any, cast
 from typing import NamedTuple
 
 from share.format.chunk import packed, packed_in_parts
-from share.format.entry import HEAD, NO_HASH, Author, Entry, FirstEntry, FirstForm, Form, Kind
+from share.format.entry import HEAD, NO_HASH, Author, BuiltOn, Entry, FirstEntry, FirstForm, Form, Kind
 from share.format.operation import NoMessage, Operation
 from share.program.process import Program
 from share.text.names import Names
@@ -460,11 +460,11 @@ def in_entries(operations: Iterable[Operation]) -> list[list[Operation]]:
     return [[each for one in part.operations for each in one.each()] for part in packed_in_parts(operations)]
 
 
-def entry_of(form: Form, before: Entry, operations: Sequence[Operation], author: Author, on: bytes = b"", length: int = 0) -> FirstEntry:
+def entry_of(form: Form, before: Entry, operations: Sequence[Operation], author: Author, on: BuiltOn = b"", length: int = 0) -> FirstEntry:
     """The entry of operations that follow an entry; one of an older kind, where no chunk has them."""
     if part := packed(operations, length):
         return cast(FirstEntry, form.entry(before, part, author, on))
-    assert isinstance(form, FirstForm)
+    assert isinstance(form, FirstForm) and isinstance(on, bytes)
     kind = Kind.BUILDING if on else Kind.MESSAGES
     return form._made(kind, before.site, operations[0].seq, len(operations), before.hash, author, on, body_of(operations))
 

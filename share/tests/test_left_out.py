@@ -33,6 +33,8 @@ ROUNDS = 12
 class Three(Case):
     """People with a note that one of them has begun."""
 
+    founders_have_numbers = False
+
     def setUp(self) -> None:
         super().setUp()
         self.anna, self.bob, self.carol = (self.person(name) for name in ("anna", "bob", "carol"))
