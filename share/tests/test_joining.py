@@ -6,7 +6,8 @@ import time
 from collections.abc import Callable
 from unittest import mock
 
-from share.format import link as links
+from share.format.link import Link
+from share.format.second.key_link import link_of
 from share.format.entry import Entry, Form
 from share.format.link import is_network
 from share.format.operation import Operation
@@ -70,7 +71,7 @@ class Joining(Case):
         with contextlib.closing(open_log(url, form.note)) as log:
             for begin in range(0, len(raws), 1_000):
                 log.append((raws[::-1] if backwards else raws)[begin:begin + 1_000])
-        return links.Link("sealed" if about.sealed else "plain", about.secret, url).spelled()
+        return Link("sealed" if about.sealed else "plain", about.secret, url).spelled()
 
     def timed(self, what: str, person: Person, text: bytes, link: str | None = None) -> tuple[Note, int]:
         """Opens a note, and counts how many messages are handed in, each of which is taken in at once."""
@@ -91,7 +92,7 @@ class Joining(Case):
 
         begin = time.monotonic()
         with person.here(), mock.patch.object(Program, "ask", counting):
-            disk = notes.open_note("note", None, links.read_link(link) if link else None)
+            disk = notes.open_note("note", None, link_of(link) if link else None)
             note = Note(Session(disk, None, lambda done, total: steps.append((done, total))))
             end = begin + PATIENCE
             while bytes(note.text) != text and time.monotonic() < end:
