@@ -95,7 +95,7 @@ class Agreement(unittest.TestCase):
     def test_of_what_is_told(self, one: Typed, seed: int) -> None:
         chance = random.Random(seed)
         for some, _ in zip(parts(one, chance), range(4)):
-            agrees_on_records(one, some, chance)
+            agrees_on_records(one, Reader(one).judged(one.note, some), some, chance)
 
     @tries(25)
     @given(sets(), SEEDS)
@@ -116,7 +116,8 @@ class Agreement(unittest.TestCase):
     @given(sets(), SEEDS)
     def test_what_is_asked_of_messages_and_of_those_before_them(self, one: Typed, seed: int) -> None:
         chance = random.Random(seed)
-        answer, judge = agrees_on_records(one, next(iter(parts(one, chance))), chance)
+        answer = Reader(one).judged(one.note, one.raws)
+        judge = agrees_on_records(one, answer, one.raws, chance)
         for last in answer.said.values():
             path, before = self.path(answer, last), dict[int, Saying]()
             for said in path:
