@@ -19,7 +19,9 @@ from share.admission.one_text import OneText, Turn
 from share.admission.reasons import ROOTS, Reason
 from share.admission.room import GivenBack
 from share.admission.sayings import Whose, Root, Sayings, WithMessages
+from share.format.entry import NO_HASH
 from share.format.history import Messages
+from share.format.operation import Operation
 
 GREATEST_NUMBER = 65_528
 
@@ -123,6 +125,21 @@ class MessageJudge:
         else:
             self.aside.add(client, new)
         return new
+
+    def extend(self, client: Whose, before: bytes, operations: Iterable[Operation], hashes: Sequence[bytes],
+               ons: Sequence[bytes]) -> range | None:
+        """Adds messages of who holds their number, which go on from the end of his line, where that doesn't wait and nobody has spoken of
+        them; their numbers, or None where that isn't so."""
+        if not self.has_begun or self.holder(client.site) != client.author:
+            return None
+        text, number = self._text(client.text), self.sayings.number
+        end = text.end(client.site)
+        if client.site in text.passage.blocked or client.site in text.passage.ended or (
+                before != (NO_HASH if end is None else self.sayings.hash(end))) or any(number(of) is not None for of in hashes):
+            return None
+        numbers = self.sayings.extend(client, end, operations, hashes, ons)
+        text.extend(client.site, numbers)
+        return numbers
 
     def claim(self, site: int, author: bytes, rank: bytes) -> None:
         """Gives a number to who claims it, where nobody does by a lesser rank."""

@@ -1,5 +1,5 @@
 """What counts of one text of a note of the second form."""
-from collections.abc import Collection, Iterator, Sequence
+from collections.abc import Collection, Iterable, Iterator, Sequence
 from typing import NamedTuple
 
 from share.admission.aside import Aside
@@ -64,6 +64,16 @@ class OneText:
             outcome = Outcome.ANEW if self._cut(line, at) else Outcome.CUT
         self._aside.take(client, line.go_on(client))
         self._take(client.site, outcome)
+
+    def end(self, site: int) -> int | None:
+        """The last message of a site's line; None where it has none."""
+        line = self.lines.get(site)
+        return line.branch.numbers[-1] if line and line.branch.numbers else None
+
+    def extend(self, site: int, numbers: Iterable[int]) -> None:
+        """Lengthens a line by messages that go on from its end, after which there are none."""
+        self._line(site).branch.numbers.extend(numbers)
+        self._take(site, Outcome.LONGER)
 
     def _cut(self, line: MessageChain, at: int) -> bool:
         """Takes the messages from a place on out of a line; whether all has to be let through anew."""

@@ -11,6 +11,7 @@ from share.admission.message_judge import MessageJudge
 from share.admission.one_text import Turn
 from share.admission.record_room import RecordRoom
 from share.admission.records import Records
+from share.admission.sayings import Whose
 from share.admission.words import Words
 from share.format.entry import Entry
 from share.format.history import Messages
@@ -105,8 +106,17 @@ class RecordSet(Judging):
             self._records.add(row, entry)
 
     def extend(self, run: Sequence[Row]) -> bool:
-        for row in run:
-            self.add_new(row)
+        entries = [entry for row in run if isinstance(entry := row.entry, Record)]
+        first, hashes = entries[0], [of for entry in entries for of in entry.hashes]
+        ons = [on for entry in entries for on in entry.ons]
+        operations = (operation for entry in entries for operation in entry.operations)
+        numbers = self._messages.extend(Whose(first.author, first.site, first.text), first.before, operations, hashes, ons)
+        if numbers is None:
+            return False
+        for row, entry in zip(run, entries):
+            numbers, new = numbers[entry.size:], numbers[:entry.size]
+            self._records.add(row, entry, new)
+        self._words.come(first.text, hashes)
         return True
 
     def _claim(self, entry: Record, number: int) -> None:

@@ -46,7 +46,7 @@ class Records(Hashes):
         self._firsts.append(entry.first)
         self._sizes.append(entry.size)
         self._places.append(row.place)
-        self._lasts.append(self._sayings.number(entry.hashes[-1]) or 0 if entry.hashes else 0)
+        self._lasts.append(new[-1] if new and len(new) == entry.size else self._sayings.number(entry.name) or 0)
         self._kept += self._form.tail(entry.raw)
         if not entry.hashes:
             self._kept += entry.before

@@ -6,7 +6,7 @@ there are some 90 bytes. Nothing is ever taken away.
 """
 from array import array
 from bisect import bisect_left
-from collections.abc import Iterator, Mapping, MutableSequence, Sequence
+from collections.abc import Iterable, Iterator, Mapping, MutableSequence, Sequence
 from enum import Enum
 from itertools import groupby
 from typing import NamedTuple, Protocol
@@ -98,6 +98,33 @@ class Sayings(Hashes):
                 found += numbers[begin:end]
             at += run.size
         return found
+
+    def extend(self, client: Whose, before: int | None, operations: Iterable[Operation], hashes: Sequence[bytes],
+               ons: Sequence[bytes]) -> range:
+        """Adds messages after one that is here and has none after it, or the first ones of a client; nobody has spoken of them. Their
+        numbers."""
+        whose, begin, many = self._client(client), len(self), len(hashes)
+        numbers = range(begin, begin + many)
+        first = self._seqs[before] + 1 if before is not None else 1
+        self._hashes += b"".join(hashes)
+        self._enter(hashes, begin)
+        self._whose.extend([whose] * many)
+        self._seqs.extend(range(first, first + many))
+        self._befores.extend([0 if before is None else before + 1, *range(begin + 1, begin + many)])
+        self._leasts.extend([*range(begin + 2, begin + many + 1), 0])
+        self._downs.extend([begin if before is None else self._downs[before]] * many)
+        if before is None:
+            self._firsts[whose] = begin
+        else:
+            self._leasts[before] = begin + 1
+        at = 0
+        for operation in operations:
+            for part in _parted(operation, ons[at:at + operation.size]):
+                if ons[at]:
+                    self._ons[begin + at] = ons[at]
+                self._in_runs.extend([self._run_after(begin + at - 1 if at else before, whose, part, ons[at])] * part.size)
+                at += part.size
+        return numbers
 
     def _client(self, client: Whose) -> int:
         """The number of an author, a number and a text."""
@@ -265,6 +292,16 @@ class Sayings(Hashes):
             # Others go on from the middle of the run.
             end = bisect_left(numbers, True, begin + 1, end, key=lambda each: in_runs[each] != number)
         return run.part(begin + 1 - run.seq, end + 1 - run.seq)
+
+
+def _parted(run: Operation, ons: Sequence[bytes]) -> Iterator[Operation]:
+    """A run in parts, of which only the first messages say what they build on."""
+    begin = 0
+    for at in range(1, run.size) if any(ons) else ():
+        if ons[at]:
+            yield run.part(begin, at)
+            begin = at
+    yield run.part(begin, run.size)
 
 
 def _rank_of(one: bytes, ranks: Mapping[bytes, bytes]) -> tuple[bool, bytes, bytes]:

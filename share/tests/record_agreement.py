@@ -1,18 +1,19 @@
 """Whether the quick program agrees with the plain ones on what is told of sets of records: what counts, what was left out and what waits.
-Records are opened as those of a note are; `second_agreement` tries what counts by itself."""
+Records are opened as those of a note are."""
 import random
 from collections import Counter
-from collections.abc import Sequence
+from collections.abc import Iterable, Iterator, Sequence
 from functools import cache
 
+from share.admission.ledger import Row
 from share.admission.record_judge import RecordJudge
+from share.admission.runs import runs
 from share.format.entry import Bad
 from share.format.second.form import PlainRecords
 from share.format.second.record import Record
 from share.sync.backlog import Backlog
 from share.tests import naive_told
 from share.tests.naive_second import Answer, Saying
-from share.tests.second_agreement import Reader
 from share.tests.second_sets import ZERO_BITS, Set
 
 
@@ -22,7 +23,17 @@ class Judged:
     def __init__(self, one: Set):
         self.form = PlainRecords(one.note.key, ZERO_BITS)
         self.judge = RecordJudge(form=self.form)
-        self.opened = cache(self.form.open)
+        self.opened, self.extended = cache(self.form.open), 0
+
+    def come(self, records: Iterable[Record]) -> None:
+        """Adds records as they are read in a page of a file: those that follow one another in one step, where that is the same."""
+        rows = self.judge.unknown(Row(0, record, False) for record in {record.hash: record for record in records}.values())
+        for run in runs(rows):
+            if len(run) > 1 and self.judge.extend(run):
+                self.extended += len(run)
+                continue
+            for row in run:
+                self.judge.add_new(row)
 
     def records(self, raws: Sequence[bytes]) -> list[Record]:
         """Those that can be opened."""
@@ -33,6 +44,15 @@ class Judged:
             except Bad:
                 pass
         return found
+
+
+def in_parts(records: Sequence[Record], chance: random.Random) -> Iterator[Sequence[Record]]:
+    """Records one by one, or some at once."""
+    most, begin = chance.choice([1, 4, 20]), 0
+    while begin < len(records):
+        end = begin + chance.randint(1, most)
+        yield records[begin:end]
+        begin = end
 
 
 def stretches(some: Sequence[Saying]) -> Counter[tuple[int, int, bytes, int]]:
@@ -65,14 +85,15 @@ def record_differences(answer: Answer, judge: RecordJudge) -> list[str]:
     return found
 
 
-def agrees_on_records(one: Set, raws: Sequence[bytes], chance: random.Random) -> tuple[Answer, RecordJudge]:
-    """Judges some entries in an order, in batches, with repeats, in both programs."""
-    answer, judged = Reader(one).judged(one.note, raws), Judged(one)
+def agrees_on_records(one: Set, answer: Answer, raws: Sequence[bytes], chance: random.Random) -> RecordJudge:
+    """Judges some entries, of which the plain program says this, in an order, in batches, with repeats."""
+    judged = Judged(one)
     coming = [*raws, *chance.choices(raws, k=len(raws) // 4)] if raws else []
-    chance.shuffle(coming)
+    if chance.random() < 0.7:
+        chance.shuffle(coming)
     often = chance.choice([0, 0.1, 0.5, 1])
-    for each in judged.records(coming):
-        judged.judge.add(each)
+    for some in in_parts(judged.records(coming), chance):
+        judged.come(some)
         if chance.random() < often:
             judged.judge.count()
         if chance.random() < often:
@@ -80,7 +101,7 @@ def agrees_on_records(one: Set, raws: Sequence[bytes], chance: random.Random) ->
             judged.judge.incomplete()
     if found := record_differences(answer, judged.judge):
         raise AssertionError(f"{found}: {one!r}, {[one.raws.index(raw) if raw in one.raws else raw for raw in coming]}")
-    return answer, judged.judge
+    return judged.judge
 
 
 def with_little_room(one: Set, raws: Sequence[bytes], room: int | None, chance: random.Random) -> RecordJudge:
