@@ -67,7 +67,8 @@ def _add_words_of_a_note(one: argparse.ArgumentParser) -> None:
 
 
 def _add_text(one: argparse.ArgumentParser) -> None:
-    one.add_argument("--text", metavar="N", dest="of_text", type=int, default=TEXT, help="which text of a note that has several; 1 is the note's")
+    one.add_argument("--text", metavar="N", dest="of_text", type=int, default=TEXT,
+                     help="which text of a note that has several; 1 is the note's")
 
 
 def _add_verbs_of_files(verb: Callable[..., argparse.ArgumentParser]) -> None:

@@ -140,7 +140,8 @@ class Stream:
         return page
 
     def claimed(self, kind: int, at: int) -> set[int]:
-        """The sites that entries of this kind claim, each of which is at a place of their bytes, as far as the server says so: it looks through them, and sends the sites alone."""
+        """The sites that entries of this kind claim, each of which is at a place of their bytes, as far as the server says so: it looks
+        through them, and sends the sites alone."""
         sites, after = set[int](), b"0-0"
         for _ in range(MOST_CLAIM_READINGS):
             words = (after, self._field, CLAIMS_AT_ONCE, kind, self._most, at)

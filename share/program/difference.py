@@ -107,11 +107,11 @@ def _in_no_entry(messages: Messages) -> Iterator[Names]:
 def _common_end(old: tuple[Branch | Path, int], new: tuple[Branch | Path, int]) -> float:
     """Up to which offset two histories of a site have the same characters."""
     (one, end), (other, other_end) = old, new
-    last = min(_shared(one, other), end, other_end)
+    last = min(_in_common(one, other), end, other_end)
     return next((each.at for each in one.between(last, end) if each.data), math.inf)
 
 
-def _shared(one: Branch | Path, other: Branch | Path) -> int:
+def _in_common(one: Branch | Path, other: Branch | Path) -> int:
     """How many of the first messages of two histories of a site are the same."""
     if isinstance(one, Path) and isinstance(other, Path):
         return one.shared(other, len(one))

@@ -146,11 +146,9 @@ class Site:
                  stands: Callable[[bool], None] = lambda stands: None, text: int = TEXT):
         """A site with these messages of a text, after those that its packed file has, which is in a folder. It is told at once that the
         program stands still, and that it answers again."""
-        self.number, self.text_number = number, text
-        # How many messages the note's other texts have.
+        # What it was handed and made; and how many messages the note's other texts have.
+        self.number, self.text_number, self.history = number, text, Messages()
         self.beside: Callable[[], int] = lambda: 0
-        # All that the program was handed and made.
-        self.history = Messages()
         self._program = Lasting(number, folder, self.history, stands, text)
         with ExitStack() as failing:
             failing.callback(self.close)

@@ -24,7 +24,7 @@ from share.store.locks import Locks
 from share.store.own import ADD_CLIENT, OWN_SCHEMA, OWN_SCHEMA_OF_TEXTS, Anew, Client, OwnTables, add_anew, anew_values
 from share.text.errors import entries as many_entries
 
-# Tells a note's file from other files of SQLite, in its header, by the form of the note: who doesn't know the second form reads nothing of it.
+# Tells a note's file from other files of SQLite, in its header, by the note's form: who doesn't know the second one reads nothing of it.
 FIRST, SECOND = 1, 2
 NOTE_APPLICATIONS = {FIRST: 0x56534E32, SECOND: 0x56534E33}
 NOTE_SCHEMA = f"CREATE TABLE about (name TEXT PRIMARY KEY, value BLOB NOT NULL); {ENTRIES_SCHEMA}"

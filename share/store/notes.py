@@ -4,13 +4,12 @@ import os
 import pathlib
 import re
 import time
-from collections.abc import Callable, Iterable, Iterator, Mapping, Sequence
+from collections.abc import Callable, Sequence
 from dataclasses import replace
 from itertools import chain, count
 from typing import Literal, NamedTuple
 
 from share.admission.judges import judge_of
-from share.admission.ledger import Row
 from share.admission.left_out import LeftOut
 from share.format.entry import Entry
 from share.format.history import Messages
@@ -238,7 +237,8 @@ def _make_first(name: str, path: pathlib.Path, url: str | None, link: AnyLink | 
     """Makes a note's file; what was left out, in words."""
     if link:
         if is_origin(link.url):
-            raise Trouble(f"That note's log is at a server of pages, {link.url}, which this version can't reach. Open it there in a browser.")
+            raise Trouble(f"That note's log is at a server of pages, {link.url}, which this version can't reach. Open it there in a "
+                          "browser.")
         make_note(path, About(link.form == "sealed", link.secret, url or link.url, link.form_number))
         return ()
     if not url and (kept := of_before(name, None, password)):

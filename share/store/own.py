@@ -22,7 +22,8 @@ PACKED = """CREATE TABLE IF NOT EXISTS packed (site INTEGER PRIMARY KEY, digest 
 HIDING = """CREATE TABLE IF NOT EXISTS hiding (author BLOB NOT NULL, site INTEGER NOT NULL, seq INTEGER NOT NULL,
                                            PRIMARY KEY (author, site, seq))"""
 HIDE = "INSERT OR IGNORE INTO hiding VALUES (?, ?, ?)"
-HIDING_OF_TEXT = """CREATE TABLE IF NOT EXISTS hiding (author BLOB NOT NULL, site INTEGER NOT NULL, seq INTEGER NOT NULL, text INTEGER NOT NULL,
+HIDING_OF_TEXT = """CREATE TABLE IF NOT EXISTS hiding (author BLOB NOT NULL, site INTEGER NOT NULL, seq INTEGER NOT NULL,
+                                                   text INTEGER NOT NULL,
                                                    PRIMARY KEY (author, site, seq, text))"""
 HIDE_OF_TEXT = "INSERT OR IGNORE INTO hiding VALUES (?, ?, ?, ?)"
 # What a client's row says of its number: it is gone on with, it was given up, or it is of a note that was copied into this

@@ -5,12 +5,12 @@ Shown again is only what was hidden for this: never what a user has deleted. Wha
 since their disk may be gone.
 """
 import time
-from collections.abc import Iterable, Sequence
+from collections.abc import Iterable, Iterator, Sequence
 from itertools import chain
 from typing import NamedTuple
 
 from share.format.entry import Author, Copied, Copy, Entry, Form
-from share.format.operation import DELETE, RESTORE, Operation
+from share.format.operation import DELETE, RESTORE, TEXT, Operation
 from share.program.site import Edited, Told
 from share.program.trace import Traced, trace
 from share.store.guarded import Unkept
@@ -20,6 +20,7 @@ from share.sync.numbers import Numbers
 from share.sync.rebasing import Rebaser
 from share.sync.replica import Replica
 from share.sync.state import Holdings
+from share.sync.texts import OpenTexts
 from share.text.names import Name, Names, united, without
 
 
@@ -76,6 +77,34 @@ class Hider:
             trace(Traced.HIDDEN, messages=len(hidden.messages), of_others=len(of_others.messages), shown=len(shown.messages))
         told = [one for part in (gone, went, come) if isinstance(part, list) for one in part]
         return told if all(isinstance(part, list) for part in (gone, went, come)) else site.text()
+
+
+class Hiders:
+    """Hides and shows copies in all texts that are open. The editor's thread alone calls it."""
+
+    def __init__(self, holdings: Holdings, form: Form, numbers: Numbers, texts: OpenTexts, rebaser: Rebaser):
+        self._texts, self._known, self._rebaser = texts, (holdings, form, numbers), rebaser
+        self._hiders: dict[int, Hider] = {}
+
+    def hide(self) -> Told:
+        """Hides copies that aren't to be seen, or shows them again; what the first text has become."""
+        told: Told = []
+        for text, hider in self._each():
+            hidden = hider.hide()
+            told = hidden if text == TEXT else told
+        return told
+
+    def look_again(self) -> None:
+        """Looks at all again the next time, since the sites began anew."""
+        for _, hider in self._each():
+            hider.look_again()
+
+    def _each(self) -> Iterator[tuple[int, Hider]]:
+        for one in self._texts:
+            text = one.replica.text
+            if text not in self._hiders:
+                self._hiders[text] = Hider(*self._known, *one, self._rebaser)
+            yield text, self._hiders[text]
 
 
 class Wanted(NamedTuple):

@@ -124,7 +124,8 @@ class Meeting:
         """What others want and is to be looked for now."""
         with self._lock:
             # What is named by a message is found by the editor's thread.
-            wanted, later, reads = [*self._wanted], [one for one in self._wanted if one.way is Way.AFTER or self._form.names_messages], False
+            later = [one for one in self._wanted if one.way is Way.AFTER or self._form.names_messages]
+            wanted, reads = [*self._wanted], False
             if (later or self._is_asked) and time.monotonic() >= self._answers_again:
                 self._answers_again = time.monotonic() + WHOLE_ANSWER_SECONDS
                 reads, self._is_asked, later = self._is_asked, False, []

@@ -8,7 +8,7 @@ from share.log.polling import can_read
 from share.program.claim_search import ClaimSearch
 from share.text.errors import Trouble
 
-SEARCHES = "A number is being searched for under which to type here, which takes some seconds."
+NONE_FOUND_YET = "A number is being searched for under which to type here, which takes some seconds."
 
 
 class FoundNumber(NamedTuple):

@@ -13,10 +13,11 @@ from share.program.trace import Traced, trace
 from share.store.guarded import Unkept
 from share.store.note_file import Disk
 from share.store.own import Client
-from share.sync.number_search import SEARCHES, FoundNumber, NumberSearch
+from share.sync.number_search import NONE_FOUND_YET, FoundNumber, NumberSearch
 from share.sync.open_file import OpenFile
 from share.sync.replicator import Replicator
-from share.sync.state import Holdings, ToRebase, who
+from share.sync.lost import ToRebase, who
+from share.sync.state import Holdings
 from share.text.errors import Trouble
 
 # The room that a number needs so that it is gone on with, and how edits are refused under one that is full.
@@ -88,7 +89,7 @@ class Numbers:
         taken = self._holdings.judge.claimed()
         if self.search:
             self.search.begin(taken)
-            raise Trouble(SEARCHES)
+            raise Trouble(NONE_FOUND_YET)
         free = [number for number in range(1, GREATEST_SITE + 1) if number not in taken]
         if not free:
             raise Trouble(f"All {GREATEST_SITE:,} numbers of this note are claimed. Copy it by bin/note renew.")

@@ -16,7 +16,8 @@ from share.store.guarded import Changed, Damaged, Unkept
 from share.store.note_file import Disk, make_note
 from share.store.own import anew_of
 from share.store.read_only import found_in
-from share.sync.state import Holdings, who
+from share.sync.lost import who
+from share.sync.state import Holdings
 from share.sync.status import Notices
 from share.text.errors import NEWER, Trouble, entries
 

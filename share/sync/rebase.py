@@ -22,7 +22,8 @@ from share.program.site import Edited, Site
 from share.program.undo import looks_of
 from share.store.own import Anew
 from share.sync.standing import said_of_copies
-from share.sync.state import Holdings, ToRebase, who
+from share.sync.lost import ToRebase, who
+from share.sync.state import Holdings
 from share.text.errors import Trouble
 from share.text.looks import DEFAULT, Dressed, dressed
 from share.text.names import Name, Names, united, without

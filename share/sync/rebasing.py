@@ -15,7 +15,8 @@ from share.sync.numbers import Numbers
 from share.sync.open_file import OpenFile
 from share.sync.rebase import Rebased, at_once, length_of, rebase, with_claims
 from share.sync.replicator import Replicator
-from share.sync.state import Holdings, ToRebase
+from share.sync.lost import ToRebase
+from share.sync.state import Holdings
 from share.sync.status import Notices
 from share.sync.texts import OpenTexts
 from share.text.errors import counted

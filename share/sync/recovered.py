@@ -4,7 +4,7 @@ made the copy that isn't to stay hides it.
 Of a message and all that stands for it the message itself stays, else what its author made anew, else of those copies
 that have its bytes the one of the least site and seq.
 """
-from collections.abc import Callable, Iterable, Iterator
+from collections.abc import Iterable, Iterator
 from typing import NamedTuple
 
 from share.admission.judging import Judging
@@ -72,7 +72,8 @@ class Recovered:
                 self._own.add(whose)
             for seq, by, size in copied.stretches if not own else ():
                 size = min(size if by else 0, MOST_OF_OTHERS - len(self._others))
-                self._others += [_Typed(whose, seq + at, Copy(copied.by, copied.by_site, by + at, entry.text), entry.before) for at in range(size)]
+                self._others += [_Typed(whose, seq + at, Copy(copied.by, copied.by_site, by + at, entry.text), entry.before)
+                                 for at in range(size)]
             if len(self.hidings) < MOST_OF_OTHERS and len(copied.stretches) == 1 == copied.stretches[0][2]:
                 self.hidings.add(Copy(copied.by, copied.by_site, copied.stretches[0][1], entry.text))
 

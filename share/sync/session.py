@@ -1,19 +1,18 @@
 """A note that is open for one editor."""
 import math
 import time
-from collections.abc import Callable, Iterator, Sequence, Set
+from collections.abc import Callable, Sequence
 from contextlib import ExitStack, suppress
 
 from share.admission.judging import Counted
-from share.admission.ledger import Row, Who
-from share.format.entry import Entry
+from share.admission.ledger import Row
 from share.format.history import Messages
 from share.format.link import is_network
 from share.format.operation import TEXT
 from share.log.opening import open_log
 from share.program import retyping
 from share.program.retyping import Lost
-from share.program.site import Edited, Site, Told
+from share.program.site import Told
 from share.program.trace import Traced, trace
 from share.store.guarded import Unkept
 from share.store.note_file import Disk
@@ -21,13 +20,15 @@ from share.store.read_only import uncollected
 from share.store.renewal import renewed_by
 from share.sync.edits import OwnEdits
 from share.sync.handover import Handover
-from share.sync.hiding import Hider
+from share.sync.hiding import Hiders
 from share.sync.numbers import Numbers
 from share.sync.open_file import OpenFile
+from share.sync.edited_note import EditedNote
 from share.sync.rebasing import Rebaser
 from share.sync.replica import Bar, Replica
 from share.sync.replicator import Replicator
-from share.sync.state import Holdings, who
+from share.sync.lost import who
+from share.sync.state import Holdings
 from share.sync.status import Notices, Status
 from share.sync.texts import OpenText, OpenTexts
 from share.text.change import Change
@@ -44,7 +45,7 @@ BAR_SECONDS = 0.2
 MOST_MISSING = 1_000
 
 
-class Session:
+class Session(EditedNote):
     """A note that is open for one editor, whose thread alone calls it. Opening it reads the note's file, takes a number, and
     waits a little for the log. It takes in what came by `arrived`; the threads of its replicator only wake the editor."""
 
@@ -91,64 +92,7 @@ class Session:
         opened.callback(self._texts.close)
         self._replica, self._edits = self._texts[TEXT]
         self._rebaser = Rebaser(*known, self._texts, self._replicator, self._notices)
-        self._hiders = {TEXT: Hider(holdings, form, numbers, *self._texts[TEXT], self._rebaser)}
-
-    @property
-    def site(self) -> Site:
-        """The site that the program runs now."""
-        return self._replica.site
-
-    @property
-    def number(self) -> int:
-        """The site's number. The names of what was typed under another one are that one's."""
-        return self._numbers.own.site
-
-    @property
-    def can_type(self) -> bool:
-        """Whether something can be typed under the site's number."""
-        return self._numbers.own.stood
-
-    @property
-    def stands(self) -> Callable[[bool], None]:
-        """Told as soon as the program stands still, and as it answers again."""
-        return self._replica.stands
-
-    @stands.setter
-    def stands(self, stands: Callable[[bool], None]) -> None:
-        self._replica.stands = stands
-
-    def text(self, text: int = TEXT) -> bytes:
-        """What the site shows, or the site of another text."""
-        return self._texts[self._checked(text)].replica.site.text()
-
-    def insert(self, position: int, data: bytes, text: int = TEXT) -> Edited:
-        """Types bytes at a position of a text."""
-        return self.edit(lambda site: site.insert(position, data), text)
-
-    def cut(self, begin: int, end: int, text: int = TEXT) -> Edited:
-        """Deletes a stretch."""
-        return self.edit(lambda site: site.cut(begin, end), text)
-
-    def edit(self, work: Callable[[Site], Edited], text: int = TEXT) -> Edited:
-        """Does several things at the site of a text as one edit: all that they made is kept, or nothing of it."""
-        return self._texts[self._checked(text)].edits.make(work)
-
-    def _checked(self, text: int) -> int:
-        if text not in self._form.texts:
-            raise Trouble(f"This note has no text {text}.")
-        return text
-
-    def messages(self, text: int = TEXT) -> Messages:
-        """All messages of a text that count, each after its causes."""
-        return self._holdings.judge.let_through_in_order(text)
-
-    def is_own(self, site: int) -> bool:
-        """Whether a number is one of this person's."""
-        return any(one.site == site and not one.copied for one in self._holdings.clients.values())
-
-    def own(self) -> Set[Who]:
-        """The sites and authors that are this person's."""
-        return {of for of, one in self._holdings.clients.items() if not one.copied}
+        self._hiders = Hiders(holdings, form, numbers, self._texts, self._rebaser)
 
     def lost(self) -> list[Lost]:
         """What was left out for good."""
@@ -162,32 +106,8 @@ class Session:
             self._texts[text].edits.type_again([one for one in found if one.messages[0].text == text])
         if found:
             # Something may stand for what was left out that nobody has said of it yet.
-            self._hide()
+            self._hiders.hide()
         return found
-
-    def _hide(self) -> Told:
-        """Hides copies in all texts that are open, or shows them again; what the first one has become."""
-        told: Told = []
-        for text, hider in self._each_hider():
-            hidden = hider.hide()
-            told = hidden if text == TEXT else told
-        return told
-
-    def _each_hider(self) -> Iterator[tuple[int, Hider]]:
-        for one in self._texts:
-            text = one.replica.text
-            if text not in self._hiders:
-                self._hiders[text] = Hider(self._holdings, self._form, self._numbers, *one, self._rebaser)
-            yield text, self._hiders[text]
-
-    def show(self, shows: dict[bytes, bytes]) -> list[bytes]:
-        """Shows others what editors here show of themselves, by their tokens; what others show."""
-        self._replicator.show(shows)
-        return self._replicator.shown()
-
-    def token(self) -> bytes:
-        """What tells this session from others that are on."""
-        return self._replicator.token
 
     def arrived(self) -> Told:
         """Takes in what came, and tells what the text has become."""
@@ -215,10 +135,6 @@ class Session:
         """Whether some of what came is still to be taken in."""
         return any(one.replica.has_more() for one in self._texts) or self._holdings.has_more
 
-    def tell(self, words: str) -> None:
-        """Tells the user something."""
-        self._notices.tell(words)
-
     def notices(self) -> list[str]:
         """What the user is to be told since this was last asked."""
         notices, of_threads = self._notices, self._replicator.notices
@@ -236,14 +152,6 @@ class Session:
                       self.can_type, bool(self._about.url), replicator.progress(),
                       self._left_out.lines(judge, self._holdings.anew, self.own()), renewed_by(judge, self.own()),
                       self.site.is_unproved)
-
-    def has_sent(self, entry: Entry) -> bool:
-        """Whether the log is known to have an entry; without a log, whether the file has it."""
-        return self._replicator.has(entry.hash)
-
-    def last(self) -> Entry:
-        """The last entry that was made here."""
-        return self._edits.last
 
     def close(self) -> None:
         """Closes the note, once; what isn't sent stays in its file."""
@@ -282,11 +190,10 @@ class Session:
         is_other = self._rebaser.settle(found.messages if found.anew else None, has_read)
         self._rebaser.say_what_was_rebased()
         if found.anew or is_other:
-            for _, hider in self._each_hider():
-                hider.look_again()
+            self._hiders.look_again()
         if is_other:
             if not self.has_more():
-                self._hide()
+                self._hiders.hide()
             return self.site.text() if self._looks else []
         self._ask_for_what_is_missing()
         self._notices.tell_of_room(self._holdings.waiting_for_room())
@@ -294,7 +201,7 @@ class Session:
         for one in self._texts.others():
             one.replica.take_in(self.turn_seconds / 2, False)
         told = self._replica.take_in(self.turn_seconds / 2, self._looks)
-        hidden = [] if self.has_more() else self._hide()
+        hidden = [] if self.has_more() else self._hiders.hide()
         if isinstance(told, list) and isinstance(hidden, list):
             return told + hidden
         return self.site.text() if self._looks else []

@@ -297,7 +297,8 @@ class Made(unittest.TestCase):
             [typed] = self.typed(form, author, 1, 16)
             said = Copied(author.name, 7, other, 9, ((1, 300, 2), (7, 0, 1)), other)
             found = next(found_among(range(100), form.note, author.name, zero_bits=0))
-            for one in (form.opening(self.founding), form.claim(found.site, author, found.counter), typed, form.anew_up_to(typed.hashes[0], author, 7, 16),
+            for one in (form.opening(self.founding), form.claim(found.site, author, found.counter), typed,
+                        form.anew_up_to(typed.hashes[0], author, 7, 16),
                         form.copies(said, author, 7, text=2), form.copies(said, author, 7, other, 2),
                         form.renewed("Ann \u00e9" * 90, 7, author)):
                 self.assertEqual(form.open(one.raw), one)

@@ -12,7 +12,8 @@ from share.format.presence import MOST_PRESENCE
 from share.format.second.append import challenged
 from share.format.second.claim import COUNTER_BYTES, ZERO_BITS
 from share.format.second.keys import IDENTITY_BYTES, RECORD_NONCE_BYTES, Founding, NoteKeys, identity_of_public
-from share.format.second.record import CLAIM_ZEROS, GREATEST_TEXT, RECORD_HEAD, RECORD_KINDS, Record, RecordKind, body_of_messages, checked, record_of
+from share.format.second.record import (CLAIM_ZEROS, GREATEST_TEXT, RECORD_HEAD, RECORD_KINDS, Record, RecordKind, body_of_messages,
+                                        checked, record_of)
 from share.format.second.signature import HAS_CRYPTOGRAPHY, POINT_BYTES, SIGNED_BYTES, check_library, is_signed, public_of, signed
 
 if HAS_CRYPTOGRAPHY:
