@@ -250,7 +250,7 @@ class Entry(Protocol):
         """What names its message of a seq."""
 
     def seq_of(self, name: bytes) -> int:
-        """The seq of the last message that a name of it means."""
+        """The seq of the last message that a name of it means; 0 where it means none."""
 
     @property
     def chunk(self) -> bytes:

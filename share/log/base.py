@@ -97,8 +97,8 @@ class Log(ABC):
         return None
 
     def claimed(self, kind: int, at: int) -> set[int] | None:
-        """The sites that entries of this kind claim, whoever wrote these, each of which is at a place of their bytes; None where it takes as
-        long to say that as to read them all."""
+        """The sites that entries of this kind claim, whoever wrote these, each of which is at a place of their bytes; None where it takes
+        as long to say that as to read them all."""
         return None
 
     def quick(self) -> None:

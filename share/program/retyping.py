@@ -234,15 +234,16 @@ class _View:
 
 
 def _with_those_before(entries: Iterable[Entry], of: Set[bytes]) -> set[bytes]:
-    """These hashes, and those of the entries before them in their chains."""
+    """These hashes, and those of the entries before them in their chains, and of their authors' claims."""
     known = [*entries]
-    by_name, found = {name: entry for entry in known for name in entry.names}, set[bytes]()
+    by_name, found, authors = {name: entry for entry in known for name in entry.names}, set[bytes](), set[Who]()
     for one in known:
         at: Entry | None = one if one.hash in of else None
         while at and at.hash not in found:
             found.add(at.hash)
+            authors.add((at.site, at.author))
             at = by_name.get(at.before)
-    return found
+    return found | {one.hash for one in known if one.kind.is_claim and (one.site, one.author) in authors}
 
 
 class _Root:

@@ -102,10 +102,11 @@ class Standing:
         least = min(old for old, _, _ in said.stretches)
         while of in rows:
             entry = rows[of].entry
+            last = entry.seq_of(of)
             self._room -= 1
-            if (entry.author, entry.site) != said[:2] or not entry.size or self._room < 0:
+            if (entry.author, entry.site) != said[:2] or not last or self._room < 0:
                 return
-            for stretch in _parts_of(said.stretches, entry.first, entry.seq_of(of)):
+            for stretch in _parts_of(said.stretches, entry.first, last):
                 self._room -= entry.size
                 self._note(entry, Piece(said.by, said.by_site, stretch, own, said.last, entry.text))
             if entry.first <= least:

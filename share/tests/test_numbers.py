@@ -15,6 +15,7 @@ from share.log.sqlite import SqliteLog
 from share.program.process import Program
 from share.program.site import Edited, Site, Told
 from share.store.own import Client, OwnTables
+from share.sync.numbers import READING
 from share.sync.numbers import Numbers as OwnNumbers
 from share.sync.open_file import OpenFile
 from share.sync.rebasing import Rebaser
@@ -262,6 +263,7 @@ class Numbers(Case):
 
         with mock.patch.object(Replicator, "stands", stands_there), mock.patch("share.sync.session.OPEN_SECONDS", 0):
             second = self.opened(self.anna)
+            wait_for(lambda: (second.take_in(), second.session.number != READING)[1], "it to have a number")
             wait_for(lambda: (first.take_in(), second.session.number in stood(self.anna))[1], "it to be noted in the file")
             self.assertFalse(second.session.status().can_type)
             # With what the other one types its numbers are read.

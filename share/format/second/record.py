@@ -84,8 +84,8 @@ class Record(NamedTuple):
         return self.hashes or self.links
 
     def seq_of(self, name: bytes) -> int:
-        """The seq of the message that a name means."""
-        return self.first + self.names.index(name)
+        """The seq of the message that a name means; 0 where it names none of these."""
+        return self.first + self.names.index(name) if name in self.names else 0
 
     @property
     def on(self) -> bytes:
