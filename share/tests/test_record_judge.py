@@ -8,6 +8,7 @@ from functools import partial
 from hypothesis import given
 
 from share.admission.judging import Judging
+from share.admission.ledger import Row
 from share.admission.record_judge import RecordJudge
 from share.format.chunk import Packed, packed
 from share.format.entry import NO_HASH, Author, Copied, Entry
@@ -17,7 +18,7 @@ from share.format.second.keys import Founding
 from share.format.second.record import Record, RecordKind
 from share.tests.counting import instructions
 from share.tests.naive_second import Answer, Saying, Why, before_of, searched
-from share.tests.record_agreement import Judged, agrees_on_records, with_little_room
+from share.tests.record_agreement import Judged, agrees_on_records, in_parts, record_differences, with_little_room
 from share.tests.second_agreement import Reader, Typed, operation, parts
 from share.tests.test_message_judge import MOST_TIMES, SEEDS, sets, tries
 from share.text.names import Names
@@ -182,6 +183,31 @@ class Agreement(unittest.TestCase):
                 assert row
                 self.assertTrue(name in judged.judge)
                 self.assertEqual((row.entry.kind, row.entry.author, row.entry.site), (record.kind, record.author, record.site))
+
+    @tries(25)
+    @given(sets(), SEEDS)
+    def test_what_comes_in_pages_counts_as_what_comes_one_by_one(self, one: Typed, seed: int) -> None:
+        chance, judged = random.Random(seed), Judged(one)
+        answer = Reader(one).judged(one.note, one.raws)
+        for _ in range(3):
+            judged = Judged(one)
+            for some in in_parts(judged.records(one.raws), chance):
+                judged.come(some)
+                if chance.random() < 0.5:
+                    judged.judge.count()
+            self.assertEqual(record_differences(answer, judged.judge), [])
+
+    def test_typed_letters_are_added_in_one_step_but_for_what_was_spoken_of(self) -> None:
+        ada = Author(bytes([1]) * 32, b"")
+        form, opening, _ = founded(ada.name)
+        letters = Writer(form, ada, 1).type(b"abcdefgh")
+        rows = [Row(0, letter, False) for letter in letters]
+        for first, begin, is_added in (([], 0, True), ([], 1, False), (letters[:2], 2, True), ([letters[6]], 0, False), ([letters[5]], 3, False)):
+            judge = RecordJudge([opening, *first], form=form)
+            self.assertEqual(judge.extend(rows[begin:]), is_added)
+            handed(judge, letters)
+            self.assertEqual((judge.front(1), [judge.entry_of(1, seq) for seq in range(1, 9)]), (8, [one.hashes[0] for one in letters]))
+            self.assertEqual([*judge.rows()][1:], [row for row in judge.rows() if row.entry in letters])
 
 
 class Typing(unittest.TestCase):
