@@ -202,8 +202,9 @@ class Agreement(unittest.TestCase):
         form, opening, _ = founded(ada.name)
         letters = Writer(form, ada, 1).type(b"abcdefgh")
         rows = [Row(0, letter, False) for letter in letters]
-        for first, begin, is_added in (([], 0, True), ([], 1, False), (letters[:2], 2, True), ([letters[6]], 0, False), ([letters[5]], 3, False)):
-            judge = RecordJudge([opening, *first], form=form)
+        for first, begin, is_added in ((0, 0, True), (0, 1, False), (2, 2, True), (6, 0, False), (3, 5, False)):
+            # Those before the first ones are here, or the one at that place alone.
+            judge = RecordJudge([opening, *(letters[:first] if first < 4 else letters[first:first + 1])], form=form)
             self.assertEqual(judge.extend(rows[begin:]), is_added)
             handed(judge, letters)
             self.assertEqual((judge.front(1), [judge.entry_of(1, seq) for seq in range(1, 9)]), (8, [one.hashes[0] for one in letters]))
