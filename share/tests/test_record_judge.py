@@ -1,6 +1,7 @@
 """Judging records of notes of the second form: what is told of them is what the plain programs tell, whatever came in whatever order, with
 little room and with much."""
 import random
+import tracemalloc
 import unittest
 from collections.abc import Iterable, Sequence
 from functools import partial
@@ -13,14 +14,15 @@ from share.admission.record_judge import RecordJudge
 from share.format.chunk import Packed, packed
 from share.format.entry import NO_HASH, Author, Copied, Entry
 from share.format.operation import DELETE, INSERT, PLAIN_LOOKS, Operation
-from share.format.second.form import PlainRecords, RecordForm
+from share.format.second.form import PlainRecords, RecordForm, SealedRecords
 from share.format.second.keys import Founding
 from share.format.second.record import Record, RecordKind
+from share.format.second.signature import public_of
 from share.tests.counting import instructions
 from share.tests.naive_second import Answer, Saying, Why, before_of, searched
 from share.tests.record_agreement import Judged, agrees_on_records, in_parts, record_differences, with_little_room
 from share.tests.second_agreement import Reader, Typed, operation, parts
-from share.tests.test_message_judge import MOST_TIMES, SEEDS, sets, tries
+from share.tests.test_message_judge import MOST_BYTES_OF_A_LETTER, MOST_TIMES, SEEDS, sets, tries
 from share.text.names import Names
 
 SECRET, ROOM = bytes(range(32)), 2**20
@@ -209,6 +211,21 @@ class Agreement(unittest.TestCase):
             handed(judge, letters)
             self.assertEqual((judge.front(1), [judge.entry_of(1, seq) for seq in range(1, 9)]), (8, [one.hashes[0] for one in letters]))
             self.assertEqual([*judge.rows()][1:], [row for row in judge.rows() if row.entry in letters])
+
+
+class Sealed(unittest.TestCase):
+    """Records that are sealed and signed."""
+
+    def test_they_come_back_byte_for_byte(self) -> None:
+        key = Founding(SECRET, NO_HASH, public_of(SECRET), 1).key()
+        form = SealedRecords(key, 0)
+        ada = Author(public_of(SECRET), SECRET)
+        opening = form.opening(Founding(SECRET, NO_HASH, ada.name, 1))
+        letters = Writer(form, ada, 1).type(b"sealed")
+        word = form.made_anew(letters[2], ada)
+        judge = RecordJudge([opening, word, *letters], form=form)
+        self.assertEqual(([row.entry for row in judge.rows()], judge.front(1)), ([opening, word, *letters], 6))
+        self.assertEqual([form.open(row.entry.raw) for row in judge.rows()], [opening, word, *letters])
 
 
 class Typing(unittest.TestCase):
@@ -511,6 +528,14 @@ class Costs(unittest.TestCase):
         records = Writer(self.form, self.eve, 2).type(b"e" * 600)
         self.assert_no_dearer(records[:200], records)
 
+    def test_of_chains_that_wait_for_what_never_comes(self) -> None:
+        def waiting(many: int) -> list[Record]:
+            authors = {site: Author(site.to_bytes(32, "big"), b"") for site in range(3, many)}
+            return [record for site, author in authors.items() for record in (claim(self.form, author, site), *Writer(
+                self.form, author, site).type(b"eve", cause=Names(2, site, 1), on=bytes([site]) * 32))]
+
+        self.assert_no_dearer(waiting(15), waiting(45))
+
     def test_of_claims(self) -> None:
         claims = [claim(self.form, author, 3) for author in (Author(number.to_bytes(32, "big"), b"") for number in range(60))]
         self.assert_no_dearer(claims[:20], claims)
@@ -559,6 +584,17 @@ class Costs(unittest.TestCase):
 
         for order in (1, -1):
             self.assertLess(taken(450, order), 3 * MOST_TIMES * taken(150, order))
+
+    def test_a_key_takes_little_memory(self) -> None:
+        count = 3_000
+        letters = Writer(self.form, self.ada, 1).type(b"w" * count)
+        tracemalloc.start()
+        judge = RecordJudge([self.opening, *letters], form=self.form)
+        judge.count()
+        held, _ = tracemalloc.get_traced_memory()
+        tracemalloc.stop()
+        self.assertEqual(judge.front(1), count)
+        self.assertLess(held / count, MOST_BYTES_OF_A_LETTER)
 
 
 if __name__ == "__main__":
