@@ -23,6 +23,8 @@ class ToldOfMessages:
         self._changes = (0, 0, 0, 0)
         # What lost its place and goes further than what counts in it, by number and text.
         self._beyond: dict[tuple[int, int], list[Twig]] = {}
+        # The texts as they are while it is looked what was left out.
+        self._in_texts: dict[int, InText] = {}
 
     def incomplete(self) -> int:
         """How many messages came that something is missing for. What builds on what was left out isn't among them: nothing that comes
@@ -40,6 +42,7 @@ class ToldOfMessages:
         self._look_again()
         if self._left_out is None:
             self._beyond.clear()
+            self._in_texts.clear()
             self._left_out = joined_stretches([*self._lost(), *self._after_what_was_lost()])
         return self._left_out
 
@@ -194,7 +197,9 @@ class ToldOfMessages:
         """What is told of stretches of messages, without those for which a copy stands that counts."""
         copies = self._words.copies(twig.text)
         if copies.speak_of(twig.author, twig.site):
-            left = without_copied(left, twig, copies, self.in_text(twig.text))
+            if twig.text not in self._in_texts:
+                self._in_texts[twig.text] = self.in_text(twig.text)
+            left = without_copied(left, twig, copies, self._in_texts[twig.text])
         if left == [(twig.first, twig.last)]:
             yield from twig.told
         else:
