@@ -151,7 +151,9 @@ class Copies:
 def _spoken_of(one: _Stretch, some: SomeMessages, counting: Counting[SomeMessages]) -> tuple[int, int]:
     """The seqs of the first and the last of some messages of which it is said what stands for them, where that counts; the first one is
     greater where there are none."""
-    first, last = max(some.first, one.seq), min(some.last, one.end(counting) - 1)
+    first, last = max(some.first, one.seq), min(some.last, one.seq + one.size - 1)
+    if first <= last:
+        last = min(last, one.end(counting) - 1)
     if first <= last and one.last != NO_HASH:
         last = min(last, counting.chained_up_to(some, one.last))
     return first, last

@@ -58,7 +58,7 @@ class Path:
 class MessageChain(Passing):
     """The messages of a number and a text that hold, and what was let through of them."""
 
-    __slots__ = ("branch", "seen", "_ends")
+    __slots__ = ("branch", "seen", "_ends", "_next")
 
     branch: Path
 
@@ -73,6 +73,8 @@ class MessageChain(Passing):
         # The last character of each other site that was mentioned, and how long the site's file is after each message.
         self.seen: dict[int, int] = {}
         self._ends = array("I")
+        # The messages that are next, where somebody asked, and how long the line was then.
+        self._next: tuple[int, int, Operation | None] = (0, 0, None)
 
     @property
     def client(self) -> Whose:
@@ -109,14 +111,18 @@ class MessageChain(Passing):
             return True
         # Nobody has looked at what they have.
         del self.branch.numbers[at:]
-        self.ended, self.needs = False, {}
+        self.ended, self.needs, self._next = False, {}, (0, 0, None)
         return False
 
     def next(self) -> Operation | None:
         """The messages that are next to be let through."""
-        if self.ended or self.front >= len(self.branch):
+        numbers, front = self.branch.numbers, self.front
+        end = len(numbers)
+        if self.ended or front >= end:
             return None
-        return self.branch.sayings.run(self.branch.numbers, self.front, len(self.branch))
+        if self._next[:2] != (front, end):
+            self._next = front, end, self.branch.sayings.run(numbers, front, end)
+        return self._next[2]
 
     def pass_on(self, run: Operation, up_to: float) -> None:
         """Lets the next messages through: all of the run, which are right where the first one is."""

@@ -126,16 +126,17 @@ class MessageJudge:
             self.aside.add(client, new)
         return new
 
-    def extend(self, client: Whose, before: bytes, operations: Iterable[Operation], hashes: Sequence[bytes],
-               ons: Sequence[bytes]) -> range | None:
-        """Adds messages of who holds their number, which go on from the end of his line, where that doesn't wait and nobody has spoken of
-        them; their numbers, or None where that isn't so."""
+    def extend(self, begin: WithMessages, operations: Iterable[Operation], hashes: Sequence[bytes], ons: Sequence[bytes]) -> range | None:
+        """Adds messages that begin with those of an entry, of who holds their number, which go on from the end of his line, where that
+        doesn't wait and nobody has spoken of them; their numbers, or None where that isn't so."""
+        client, sayings = Whose(begin.author, begin.site, begin.text), self.sayings
         if not self.has_begun or self.holder(client.site) != client.author:
             return None
-        text, number = self._text(client.text), self.sayings.number
+        text, number = self._text(client.text), sayings.number
         end = text.end(client.site)
-        if client.site in text.passage.blocked or client.site in text.passage.ended or (
-                before != (NO_HASH if end is None else self.sayings.hash(end))) or any(number(of) is not None for of in hashes):
+        place = (NO_HASH, 1) if end is None else (sayings.hash(end), sayings.seq(end) + 1)
+        if (begin.before, begin.first) != place or client.site in text.passage.blocked or client.site in text.passage.ended or any(
+                number(of) is not None for of in hashes):
             return None
         numbers = self.sayings.extend(client, end, operations, hashes, ons)
         text.extend(client.site, numbers)

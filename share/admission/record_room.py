@@ -71,6 +71,8 @@ class RecordRoom(GivenBack):
             if line is None or number is None or not sayings.is_here(number) or not line.has(number):
                 return False
             place = sayings.seq(number)
+        if entry.first + first != place + 1:
+            return False
         if line is None or place == len(line.branch):
             return entry.site not in text.passage.blocked and entry.site not in text.passage.ended
         return entry.hashes[first] < line.branch.hash(place)

@@ -11,7 +11,6 @@ from share.admission.message_judge import MessageJudge
 from share.admission.one_text import Turn
 from share.admission.record_room import RecordRoom
 from share.admission.records import Records
-from share.admission.sayings import Whose
 from share.admission.words import Words
 from share.format.entry import Entry
 from share.format.history import Messages
@@ -94,7 +93,8 @@ class RecordSet(Judging):
         if not self._room.admits(row, entry):
             return
         if entry.kind is RecordKind.MESSAGES:
-            self._records.add(row, entry, self._messages.add(entry))
+            new = self._messages.extend(entry, entry.operations, entry.hashes, entry.ons)
+            self._records.add(row, entry, self._messages.add(entry) if new is None else new)
             self._words.come(entry.text, entry.hashes)
         elif entry.kind is RecordKind.CLAIM:
             self._claim(entry, self._records.add(row, entry))
@@ -110,7 +110,7 @@ class RecordSet(Judging):
         first, hashes = entries[0], [of for entry in entries for of in entry.hashes]
         ons = [on for entry in entries for on in entry.ons]
         operations = (operation for entry in entries for operation in entry.operations)
-        numbers = self._messages.extend(Whose(first.author, first.site, first.text), first.before, operations, hashes, ons)
+        numbers = self._messages.extend(first, operations, hashes, ons)
         if numbers is None:
             return False
         for row, entry in zip(run, entries):
@@ -176,9 +176,10 @@ class RecordSet(Judging):
         turns = self.count_of_texts()
         if any(turn.ceased for turn in turns.values()):
             return Counted(self.let_through_in_order(), True)
-        messages = Messages()
-        for turn in turns.values():
-            messages += turn.counting
+        found = [turn.counting for turn in turns.values()]
+        messages = found.pop(0) if found else Messages()
+        for more in found:
+            messages += more
         return Counted(messages, False)
 
     def count_of_texts(self) -> dict[int, Turn]:

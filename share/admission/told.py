@@ -23,6 +23,8 @@ class ToldOfMessages:
         self._changes = (0, 0, 0, 0)
         # What lost its place and goes further than what counts in it, by number and text.
         self._beyond: dict[tuple[int, int], list[Twig]] = {}
+        # The texts as they are while it is looked what was left out.
+        self._in_texts: dict[int, InText] = {}
 
     def incomplete(self) -> int:
         """How many messages came that something is missing for. What builds on what was left out isn't among them: nothing that comes
@@ -40,6 +42,7 @@ class ToldOfMessages:
         self._look_again()
         if self._left_out is None:
             self._beyond.clear()
+            self._in_texts.clear()
             self._left_out = joined_stretches([*self._lost(), *self._after_what_was_lost()])
         return self._left_out
 
@@ -80,10 +83,14 @@ class ToldOfMessages:
 
     def _look_again(self) -> None:
         """Forgets what was told, where it may be so no more."""
-        judge, texts = self._judge, [*self._texts()]
-        changes = (self._words.changes, judge.changes + judge.aside.changes, self._sayings.found, sum(one.passage.changes for one in texts))
-        passed = [(one, site, first) for one in texts for site, first in one.passage.first_passed().items()]
-        if changes != self._changes or any(self._hangs_on(*of) for of in passed):
+        judge, passed, hangs = self._judge, 0, False
+        for one in judge.texts.values():
+            one.let_through()
+            passed += one.passage.changes
+            for site, first in one.passage.first_passed().items():
+                hangs = hangs or self._hangs_on(one, site, first)
+        changes = self._words.changes, judge.changes + judge.aside.changes, self._sayings.found, passed
+        if hangs or changes != self._changes:
             self._changes, self._incomplete, self._left_out = changes, None, None
 
     def _hangs_on(self, one: OneText, site: int, first: int) -> bool:
@@ -91,8 +98,8 @@ class ToldOfMessages:
         something that lost its place stands there."""
         if first <= self._words.copies(one.text).sites.get(site, 0):
             return True
-        line = one.lines[site]
-        return any(_equal(twig, line, first, line.front) for twig in self._beyond.get((site, one.text), ()))
+        line, beyond = one.lines[site], self._beyond.get((site, one.text), ())
+        return any(True for twig in beyond for _ in _equal(twig, line, first, line.front))
 
     def _held_up(self, line: MessageChain, said: "SaidAnew") -> tuple[int, int]:
         """The messages of a line that aren't let through, but those of which it is said that they were made anew."""
@@ -190,8 +197,13 @@ class ToldOfMessages:
         """What is told of stretches of messages, without those for which a copy stands that counts."""
         copies = self._words.copies(twig.text)
         if copies.speak_of(twig.author, twig.site):
-            left = without_copied(left, twig, copies, self.in_text(twig.text))
-        yield from of_stretches(twig, left, twig.text)
+            if twig.text not in self._in_texts:
+                self._in_texts[twig.text] = self.in_text(twig.text)
+            left = without_copied(left, twig, copies, self._in_texts[twig.text])
+        if left == [(twig.first, twig.last)]:
+            yield from twig.told
+        else:
+            yield from of_stretches(twig, left, twig.text)
 
 
 # What says up to which messages an author says that they were made anew.

@@ -6,6 +6,7 @@ from collections.abc import Iterator, Sequence
 from functools import cached_property
 
 from share.admission.aside import Aside
+from share.admission.left_out import LeftOut, joined_stretches, of_stretches
 from share.admission.sayings import Sayings, Whose
 from share.format.operation import Operation
 
@@ -37,6 +38,11 @@ class Twig:
     def messages(self) -> Sequence[Operation]:
         """The messages, one by one."""
         return [one for run in self.operations for one in run.each()]
+
+    @cached_property
+    def told(self) -> Sequence[LeftOut]:
+        """What is told of all of them where they were left out."""
+        return joined_stretches(of_stretches(self, [(self.first, self.last)], self.text))
 
     @cached_property
     def end(self) -> int:

@@ -2,25 +2,26 @@
 Records are opened as those of a note are."""
 import random
 from collections import Counter
-from collections.abc import Iterable, Iterator, Sequence
+from collections.abc import Iterable, Iterator, Sequence, Set
 from functools import cache
 
 from share.admission.ledger import Row
 from share.admission.record_judge import RecordJudge
 from share.admission.runs import runs
-from share.format.entry import Bad
+from share.format.entry import Bad, Entry
 from share.format.second.form import PlainRecords
 from share.format.second.record import Record
 from share.sync.backlog import Backlog
 from share.tests import naive_told
-from share.tests.naive_second import Answer, Saying
-from share.tests.second_sets import ZERO_BITS, Set
+from share.tests.naive_second import Answer, Saying, Why, before_of
+from share.tests import second_sets
+from share.tests.second_sets import ZERO_BITS
 
 
 class Judged:
     """Records of a set as they come, and what is told of them."""
 
-    def __init__(self, one: Set):
+    def __init__(self, one: second_sets.Set):
         self.form = PlainRecords(one.note.key, ZERO_BITS)
         self.judge = RecordJudge(form=self.form)
         self.opened, self.extended = cache(self.form.open), 0
@@ -73,9 +74,31 @@ def told_differences(answer: Answer, judge: RecordJudge) -> list[str]:
     return found
 
 
+def kept_differences(answer: Answer, judge: RecordJudge) -> list[str]:
+    """Where it differs which records have messages that don't count, and which of them hold others up."""
+    found, through = list[str](), {one.hash for some in answer.through.values() for one in some}
+    for who in {(one.message.site, one.author) for one in answer.said.values()}:
+        own = {one.hash for one in answer.said.values() if (one.message.site, one.author) == who} - through
+        loose = {of for of in own if answer.left_out[of][1] is Why.LOOSE or before_of(answer, answer.said[of]) is Why.LOOSE}
+        if not have(judge.not_counting(*who), own - loose) or not have((row.entry for row in judge.not_through(*who)), own):
+            found.append("which records don't count")
+    for site, text in answer.through:
+        blocked = naive_told.is_blocked(answer, (site, text)) and site not in answer.base_sites
+        held = {one.hash for one in naive_told.held_up(answer, (site, text), answer.entries)} if blocked else set()
+        if not have(judge.held_up(site, text), held):
+            found.append("what is held up")
+    return found
+
+
+def have(records: Iterable[Entry], messages: Set[bytes]) -> bool:
+    """Whether records have all of some messages, and each has one of them."""
+    hashes = [{*record.hashes} for record in records if isinstance(record, Record)]
+    return all(some & messages for some in hashes) and messages <= {of for some in hashes for of in some}
+
+
 def record_differences(answer: Answer, judge: RecordJudge) -> list[str]:
     """Where the two programs differ."""
-    found = told_differences(answer, judge)
+    found = told_differences(answer, judge) + kept_differences(answer, judge)
     for (site, text), through in answer.through.items():
         if judge.front(site, text) != len(through) or [judge.entry_of(site, seq, text) for seq in range(1, len(through) + 2)] != [
                 *(one.hash for one in through), None]:
@@ -85,7 +108,7 @@ def record_differences(answer: Answer, judge: RecordJudge) -> list[str]:
     return found
 
 
-def agrees_on_records(one: Set, answer: Answer, raws: Sequence[bytes], chance: random.Random) -> RecordJudge:
+def agrees_on_records(one: second_sets.Set, answer: Answer, raws: Sequence[bytes], chance: random.Random) -> RecordJudge:
     """Judges some entries, of which the plain program says this, in an order, in batches, with repeats."""
     judged = Judged(one)
     coming = [*raws, *chance.choices(raws, k=len(raws) // 4)] if raws else []
@@ -104,7 +127,7 @@ def agrees_on_records(one: Set, answer: Answer, raws: Sequence[bytes], chance: r
     return judged.judge
 
 
-def with_little_room(one: Set, raws: Sequence[bytes], room: int | None, chance: random.Random) -> RecordJudge:
+def with_little_room(one: second_sets.Set, raws: Sequence[bytes], room: int | None, chance: random.Random) -> RecordJudge:
     """What has records as they come, with room for some bytes of what doesn't count, and reads what was dropped again as soon as it may
     have its turn."""
     form, backlog = PlainRecords(one.note.key, ZERO_BITS), Backlog()

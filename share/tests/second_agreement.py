@@ -235,7 +235,7 @@ def agreed(count: int, seed: int) -> tuple[Counter[str], int]:
         reader = Reader(one)
         for some in parts(one, chance):
             answer = agrees(one, reader, some, chance)
-            agrees_on_records(one, answer, some, chance)
+            agrees_on_records(one, answer, some, random.Random(tried))
             found.update(why.name for _, why in answer.left_out.values())
             through += sum(len(said) for (site, _), said in answer.through.items() if site not in COPIED)
             tried += 1

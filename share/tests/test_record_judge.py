@@ -1,6 +1,7 @@
 """Judging records of notes of the second form: what is told of them is what the plain programs tell, whatever came in whatever order, with
 little room and with much."""
 import random
+import tracemalloc
 import unittest
 from collections.abc import Iterable, Sequence
 from functools import partial
@@ -8,18 +9,20 @@ from functools import partial
 from hypothesis import given
 
 from share.admission.judging import Judging
+from share.admission.ledger import Row
 from share.admission.record_judge import RecordJudge
 from share.format.chunk import Packed, packed
 from share.format.entry import NO_HASH, Author, Copied, Entry
 from share.format.operation import DELETE, INSERT, PLAIN_LOOKS, Operation
-from share.format.second.form import PlainRecords, RecordForm
+from share.format.second.form import PlainRecords, RecordForm, SealedRecords
 from share.format.second.keys import Founding
 from share.format.second.record import Record, RecordKind
+from share.format.second.signature import public_of
 from share.tests.counting import instructions
 from share.tests.naive_second import Answer, Saying, Why, before_of, searched
-from share.tests.record_agreement import Judged, agrees_on_records, with_little_room
+from share.tests.record_agreement import Judged, agrees_on_records, in_parts, record_differences, with_little_room
 from share.tests.second_agreement import Reader, Typed, operation, parts
-from share.tests.test_message_judge import MOST_TIMES, SEEDS, sets, tries
+from share.tests.test_message_judge import MOST_BYTES_OF_A_LETTER, MOST_TIMES, SEEDS, sets, tries
 from share.text.names import Names
 
 SECRET, ROOM = bytes(range(32)), 2**20
@@ -182,6 +185,47 @@ class Agreement(unittest.TestCase):
                 assert row
                 self.assertTrue(name in judged.judge)
                 self.assertEqual((row.entry.kind, row.entry.author, row.entry.site), (record.kind, record.author, record.site))
+
+    @tries(25)
+    @given(sets(), SEEDS)
+    def test_what_comes_in_pages_counts_as_what_comes_one_by_one(self, one: Typed, seed: int) -> None:
+        chance, judged = random.Random(seed), Judged(one)
+        answer = Reader(one).judged(one.note, one.raws)
+        for _ in range(3):
+            judged = Judged(one)
+            for some in in_parts(judged.records(one.raws), chance):
+                judged.come(some)
+                if chance.random() < 0.5:
+                    judged.judge.count()
+            self.assertEqual(record_differences(answer, judged.judge), [])
+
+    def test_typed_letters_are_added_in_one_step_but_for_what_was_spoken_of(self) -> None:
+        ada = Author(bytes([1]) * 32, b"")
+        form, opening, _ = founded(ada.name)
+        letters = Writer(form, ada, 1).type(b"abcdefgh")
+        rows = [Row(0, letter, False) for letter in letters]
+        for first, begin, is_added in ((0, 0, True), (0, 1, False), (2, 2, True), (6, 0, False), (3, 5, False)):
+            # Those before the first ones are here, or the one at that place alone.
+            judge = RecordJudge([opening, *(letters[:first] if first < 4 else letters[first:first + 1])], form=form)
+            self.assertEqual(judge.extend(rows[begin:]), is_added)
+            handed(judge, letters)
+            self.assertEqual((judge.front(1), [judge.entry_of(1, seq) for seq in range(1, 9)]), (8, [one.hashes[0] for one in letters]))
+            self.assertEqual([*judge.rows()][1:], [row for row in judge.rows() if row.entry in letters])
+
+
+class Sealed(unittest.TestCase):
+    """Records that are sealed and signed."""
+
+    def test_they_come_back_byte_for_byte(self) -> None:
+        key = Founding(SECRET, NO_HASH, public_of(SECRET), 1).key()
+        form = SealedRecords(key, 0)
+        ada = Author(public_of(SECRET), SECRET)
+        opening = form.opening(Founding(SECRET, NO_HASH, ada.name, 1))
+        letters = Writer(form, ada, 1).type(b"sealed")
+        word = form.made_anew(letters[2], ada)
+        judge = RecordJudge([opening, word, *letters], form=form)
+        self.assertEqual(([row.entry for row in judge.rows()], judge.front(1)), ([opening, word, *letters], 6))
+        self.assertEqual([form.open(row.entry.raw) for row in judge.rows()], [opening, word, *letters])
 
 
 class Typing(unittest.TestCase):
@@ -484,6 +528,14 @@ class Costs(unittest.TestCase):
         records = Writer(self.form, self.eve, 2).type(b"e" * 600)
         self.assert_no_dearer(records[:200], records)
 
+    def test_of_chains_that_wait_for_what_never_comes(self) -> None:
+        def waiting(many: int) -> list[Record]:
+            authors = {site: Author(site.to_bytes(32, "big"), b"") for site in range(3, many)}
+            return [record for site, author in authors.items() for record in (claim(self.form, author, site), *Writer(
+                self.form, author, site).type(b"eve", cause=Names(2, site, 1), on=bytes([site]) * 32))]
+
+        self.assert_no_dearer(waiting(15), waiting(45))
+
     def test_of_claims(self) -> None:
         claims = [claim(self.form, author, 3) for author in (Author(number.to_bytes(32, "big"), b"") for number in range(60))]
         self.assert_no_dearer(claims[:20], claims)
@@ -532,6 +584,17 @@ class Costs(unittest.TestCase):
 
         for order in (1, -1):
             self.assertLess(taken(450, order), 3 * MOST_TIMES * taken(150, order))
+
+    def test_a_key_takes_little_memory(self) -> None:
+        count = 3_000
+        letters = Writer(self.form, self.ada, 1).type(b"w" * count)
+        tracemalloc.start()
+        judge = RecordJudge([self.opening, *letters], form=self.form)
+        judge.count()
+        held, _ = tracemalloc.get_traced_memory()
+        tracemalloc.stop()
+        self.assertEqual(judge.front(1), count)
+        self.assertLess(held / count, MOST_BYTES_OF_A_LETTER)
 
 
 if __name__ == "__main__":
