@@ -56,10 +56,15 @@ class Branches:
 
     def message(self, last: bytes, seq: int) -> Operation | None:
         """The message of a seq of an entry or of those here to which it is chained."""
+        entry = self.entry(last, seq)
+        return entry.messages[seq - entry.first] if entry else None
+
+    def entry(self, last: bytes, seq: int) -> Entry | None:
+        """The one that has that message."""
         for branch, end in self._down(last):
             at = bisect_left(branch.lasts, seq)
             if at <= end and branch.entries[at].first <= seq:
-                return branch.entries[at].messages[seq - branch.entries[at].first]
+                return branch.entries[at]
         return None
 
     def _down(self, last: bytes) -> Iterator[tuple[_Branch, int]]:

@@ -7,6 +7,7 @@
 from collections.abc import Callable, Collection, Mapping
 
 from share.admission.causes import LEAP, Verdict
+from share.admission.chain import last_of_others
 from share.admission.lines import MessageChain
 from share.format.operation import Operation
 
@@ -35,7 +36,7 @@ class Building:
             else:
                 # A site's own characters come with its own messages alone.
                 return Verdict.WRONG
-        beyond, on = chain.beyond(run, self._base_sites), chain.on
+        beyond, on = self.beyond(run, chain.seen), chain.on
         if bool(on) != bool(beyond):
             return Verdict.WRONG
         if run.stamp > greatest + LEAP:
@@ -54,6 +55,11 @@ class Building:
             begin, end = needs.get(site, (at, 0))
             needs[site] = min(begin, at), max(end, at + length)
         return {site: need for site, need in needs.items() if site not in self._lines or need[1] > self._lines[site].length}
+
+    def beyond(self, run: Operation, seen: Mapping[int, int]) -> list[tuple[int, int]]:
+        """The last character of each other site of which a message mentions one beyond those that were mentioned; of sites of the base
+        nobody asks."""
+        return sorted(one for one in last_of_others((run,)).items() if one[0] not in self._base_sites and one[1] > seen.get(one[0], -1))
 
     def built_on(self, lasts: list[tuple[int, int]]) -> bytes:
         """What is built on where these are the last characters that are mentioned of other sites, by number."""

@@ -11,7 +11,7 @@ from collections.abc import Callable, Iterable, Iterator, Sequence
 from enum import Enum
 
 from share.admission.chain import Chain
-from share.admission.ledger import Ledger, Row, hashes_of
+from share.admission.ledger import Branch, Ledger, Row, hashes_of
 from share.admission.outside import Unchained
 from share.admission.room import Room
 from share.admission.statements import Statements
@@ -241,10 +241,24 @@ class Chains:
         """The message of a seq, of those of an entry or of those to which it is chained; None where it isn't here."""
         if last in self.outside and (found := self.outside.branches().message(last, seq)):
             return found
+        of = self._having(last, seq)
+        return of[0].message(seq) if of else None
+
+    def entry_in(self, last: bytes, seq: int) -> bytes | None:
+        """The hash of the entry that has that message."""
+        if last in self.outside and (found := self.outside.branches().entry(last, seq)):
+            return found.hash
+        of = self._having(last, seq)
+        return self.ledger.hash(of[1]) if of else None
+
+    def _having(self, last: bytes, seq: int) -> tuple[Branch, int] | None:
+        """The entry of a chain that has the message of a seq, of those to which one is chained, or itself."""
         number = self.ledger.number(self._in_chain(last))
         branch = self.by_site[self.ledger.client(number)[0]].branch if number is not None else None
         at = branch.at(number) if branch and number is not None else None
-        return branch.message(seq) if branch and at is not None and 0 < seq <= branch.lasts[at] else None
+        if branch is None or at is None or not 0 < seq <= branch.lasts[at]:
+            return None
+        return branch, branch.numbers[branch.at_seq(seq)]
 
     def is_chained(self, of: bytes, last: bytes) -> bool:
         """Whether an entry is the last of some, or one to which that is chained."""
@@ -256,6 +270,10 @@ class Chains:
         branch = self.by_site[self.ledger.client(end)[0]].branch
         at, last_at = branch.at(number), branch.at(end)
         return at is not None and last_at is not None and at <= last_at
+
+    def chained_up_to(self, some: Entry, last: bytes) -> int:
+        """The seq up to which an entry's messages are those of another one, or of one to which that is chained: all of them, or none."""
+        return some.last if self.is_chained(some.hash, last) else 0
 
     def _in_chain(self, last: bytes) -> bytes:
         """An entry, or where it is in no chain the one in a chain to which it is chained. The branches, which take time to find where

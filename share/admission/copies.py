@@ -1,10 +1,10 @@
 """Which messages stand for which, as entries say it."""
-from collections.abc import Callable, Iterator
+from collections.abc import Callable, Iterable, Iterator, Sequence
 from itertools import chain, islice
-from typing import NamedTuple, Protocol
+from typing import NamedTuple, Protocol, TypeVar
 
 from share.admission.ledger import Who
-from share.format.entry import NO_HASH, Copy, Entry
+from share.format.entry import NO_HASH, Copied, Copy
 from share.format.operation import Operation
 
 # The most messages that are looked at which stand for others by the word of somebody else than their author; and the most of what is
@@ -12,18 +12,53 @@ from share.format.operation import Operation
 MOST_COPIES_BY_OTHERS = 4_096
 
 
-class Counting(Protocol):
-    """What says which messages count."""
+class MessagesInARow(Protocol):
+    """Messages of an author and a number that go on one from the other."""
+
+    @property
+    def author(self) -> bytes:
+        """Their author."""
+
+    @property
+    def site(self) -> int:
+        """The number."""
+
+    @property
+    def first(self) -> int:
+        """The seq of the first one."""
+
+    @property
+    def last(self) -> int:
+        """The seq of the last one."""
+
+    @property
+    def operations(self) -> Iterable[Operation]:
+        """The messages, letters typed one after the other in one."""
+
+    @property
+    def messages(self) -> Sequence[Operation]:
+        """The messages, one by one."""
+
+
+SomeMessages = TypeVar("SomeMessages", bound=MessagesInARow)
+AskedOf = TypeVar("AskedOf", bound=MessagesInARow, contravariant=True)
+
+
+class Fronts(Protocol):
+    """What says how far messages count."""
 
     def front_up_to(self, author: bytes, site: int, last: bytes) -> int:
-        """How many messages of an author and site are let through that an entry has, or one to which it is chained; all where it
-        isn't said which."""
+        """How many messages of an author and site are let through that are the one that is named or before it; all where none is."""
+
+
+class Counting(Fronts, Protocol[AskedOf]):
+    """What says which messages count."""
 
     def message(self, site: int, seq: int) -> Operation:
         """A message that is let through."""
 
-    def is_chained(self, of: bytes, last: bytes) -> bool:
-        """Whether an entry is the last of some, or one to which that is chained."""
+    def chained_up_to(self, some: AskedOf, last: bytes) -> int:
+        """The seq up to which messages are the one that is named or before it; 0 where none is."""
 
 
 class _Stretch(NamedTuple):
@@ -36,7 +71,7 @@ class _Stretch(NamedTuple):
     last: bytes
     by_last: bytes
 
-    def end(self, counting: Counting) -> int:
+    def end(self, counting: Fronts) -> int:
         """The seq after the last message whose copy counts."""
         if not self.by.seq:
             return self.seq + self.size
@@ -56,15 +91,14 @@ class Copies:
         self.sites: dict[int, int] = {}
         self.lasts: set[bytes] = set()
 
-    def add(self, entry: Entry) -> None:
-        """Takes over what an entry says."""
-        copied = entry.copied
+    def add(self, site: int, author: bytes, before: bytes, copied: Copied) -> None:
+        """Takes over what an author says under a number, of the messages up to one that is named, or of each."""
         last = max((by + size - 1 for _, by, size in copied.stretches if by), default=0)
         self.sites[copied.by_site] = max(self.sites.get(copied.by_site, 0), last)
         self.lasts.add(copied.last)
         whose = copied.site, copied.author
-        known = self._by_authors if (entry.site, entry.author) == whose else self._by_others
-        said = [_Stretch(seq, size, Copy(copied.by, copied.by_site, by), entry.before, copied.last) for seq, by, size in copied.stretches]
+        known = self._by_authors if (site, author) == whose else self._by_others
+        said = [_Stretch(seq, size, Copy(copied.by, copied.by_site, by), before, copied.last) for seq, by, size in copied.stretches]
         known.setdefault(whose, []).extend(said)
         self._by_copier.setdefault((copied.by_site, copied.by), []).extend((whose, one) for one in said if one.by.seq)
 
@@ -94,23 +128,32 @@ class Copies:
             if said.by.seq <= one.seq < said.by.seq + said.size:
                 yield said.by_last, Copy(author, site, said.seq + one.seq - said.by.seq), said.last
 
-    def stretches(self, entry: Entry, counting: Counting) -> Iterator[tuple[int, int]]:
-        """The seqs of an entry's messages for which copies stand that count."""
-        who = entry.site, entry.author
+    def stretches(self, some: SomeMessages, counting: Counting[SomeMessages]) -> Iterator[tuple[int, int]]:
+        """The seqs of those of some messages for which copies stand that count."""
+        who = some.site, some.author
         for one in self._by_authors.get(who, ()):
-            first, last = max(entry.first, one.seq), min(entry.last, one.end(counting) - 1)
-            if first <= last and (one.last == NO_HASH or counting.is_chained(entry.hash, one.last)):
+            first, last = _spoken_of(one, some, counting)
+            if first <= last:
                 yield first, last
         # Who copied a message has all of it, in one copy or in all of them, one after the other.
         found: dict[tuple[int, int, bytes], dict[int, bytes]] = {}
         for one in self._by_others.get(who, ()):
-            first, last = max(entry.first, one.seq), min(entry.last, one.end(counting) - 1)
-            if first > last or one.last != NO_HASH and not counting.is_chained(entry.hash, one.last):
-                continue
+            first, last = _spoken_of(one, some, counting)
             for seq in range(first, min(last, first + MOST_COPIES_BY_OTHERS) + 1) if one.by.seq else ():
                 by = one.by.seq + seq - one.seq
                 found.setdefault((seq, one.by.site, one.by.author), {})[by] = counting.message(one.by.site, by).data
         for (seq, _, _), parts in found.items():
-            data = entry.messages[seq - entry.first].data
+            data = some.messages[seq - some.first].data
             if data and data in (b"".join(parts[by] for by in sorted(parts)), *parts.values()):
                 yield seq, seq
+
+
+def _spoken_of(one: _Stretch, some: SomeMessages, counting: Counting[SomeMessages]) -> tuple[int, int]:
+    """The seqs of the first and the last of some messages of which it is said what stands for them, where that counts; the first one is
+    greater where there are none."""
+    first, last = max(some.first, one.seq), min(some.last, one.seq + one.size - 1)
+    if first <= last:
+        last = min(last, one.end(counting) - 1)
+    if first <= last and one.last != NO_HASH:
+        last = min(last, counting.chained_up_to(some, one.last))
+    return first, last

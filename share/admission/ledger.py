@@ -12,8 +12,9 @@ from operator import attrgetter
 from typing import NamedTuple, overload
 
 from share.admission.hashes import HASH_BYTES, MARK_MASK, NUMBER_BITS, Hashes
-from share.format.entry import CHUNKS, NO_HASH, SAY_WHAT_THEY_BUILD_ON, Entry, Form, Kind, operations_of, operations_one_by_one
-from share.format.operation import Operation
+from share.format.entry import (CHUNKS, NO_HASH, SAY_WHAT_THEY_BUILD_ON, Entry, FirstEntry, FirstForm, Form, Kind, operations_of,
+                                operations_one_by_one)
+from share.format.operation import TEXT, Operation
 
 # A site and an author.
 Who = tuple[int, bytes]
@@ -77,6 +78,7 @@ class Ledger(Hashes):
 
     def __init__(self, form: Form | None = None):
         super().__init__()
+        assert form is None or isinstance(form, FirstForm)
         self._form = form
         # The sites and authors, and which of them each entry is of.
         self._clients: list[Who] = []
@@ -114,7 +116,7 @@ class Ledger(Hashes):
         self._enter(hashes, first)
         return numbers
 
-    def _add_columns(self, these: Chained, before: int, form: Form) -> range:
+    def _add_columns(self, these: Chained, before: int, form: FirstForm) -> range:
         """The same of entries in columns."""
         first, many = len(self), len(these)
         numbers = range(first, first + many)
@@ -261,7 +263,7 @@ class Ledger(Hashes):
         on, spelled = self.on(number), self.spelled(number)
         begin = self._begin(number)
         tail = bytes(self._kept[begin:begin + self._tail(number)])
-        entry = Entry(kind, site, self._firsts[number], self._sizes[number], before, author, on, spelled, tail, of)
+        entry = FirstEntry(kind, site, self._firsts[number], self._sizes[number], before, author, on, spelled, tail, of)
         return entry if self._form is None else entry._replace(raw=self._form.whole(entry, tail))
 
     def row(self, number: int) -> Row:
@@ -281,6 +283,8 @@ class Branch:
     where others take their place that is another branch."""
 
     __slots__ = ("ledger", "site", "numbers", "lasts", "types_on")
+    # A note of the first form has one text.
+    text = TEXT
 
     def __init__(self, ledger: Ledger, site: int):
         self.ledger, self.site = ledger, site
@@ -307,6 +311,18 @@ class Branch:
         branch = Branch(self.ledger, self.site)
         branch.numbers, branch.lasts, branch.types_on = self.numbers[:at], self.lasts[:at], self.types_on[:at]
         return branch
+
+    def shared(self, other: "Branch") -> int:
+        """How many of the first messages are the same as those of another one."""
+        # Each entry has the hash of the one before it, so that what is the same is so up to one place.
+        low, high = 0, min(len(self), len(other))
+        while low < high:
+            middle = (low + high + 1) // 2
+            if self.ledger.hash(self.numbers[middle - 1]) == other.ledger.hash(other.numbers[middle - 1]):
+                low = middle
+            else:
+                high = middle - 1
+        return self.lasts[low - 1] if low else 0
 
     def at(self, number: int) -> int | None:
         """Where the entry of a number is; None where it isn't here."""

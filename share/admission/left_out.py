@@ -8,21 +8,21 @@
 - **Incomplete.** All else that came and isn't let through lacks something that may yet come.
 """
 from bisect import bisect_left, bisect_right
-from collections.abc import Iterable, Iterator
+from collections.abc import Iterable, Iterator, Sequence
 from typing import NamedTuple
 
 from share.admission.causes import LEAP
 from share.admission.chain import Chain, last_of_others
 from share.admission.chains import Chains
-from share.admission.copies import Copies, Counting
+from share.admission.copies import Copies, Counting, MessagesInARow, SomeMessages
 from share.admission.passage import Passage
 from share.admission.statements import Statements
 from share.format.entry import Entry, Kind
 
 
 class LeftOut(NamedTuple):
-    """Messages of a site and author that were left out: the seqs of the first and the last one, how many they are, and how many
-    characters they inserted."""
+    """Messages of a site and author that were left out: the seqs of the first and the last one, how many they are, how many characters
+    they inserted, and in which text."""
 
     site: int
     author: bytes
@@ -30,6 +30,7 @@ class LeftOut(NamedTuple):
     last: int
     messages: int
     characters: int
+    text: int = 1
 
 
 class Uncounted:
@@ -194,8 +195,8 @@ class Uncounted:
 def joined_stretches(stretches: Iterable[LeftOut]) -> list[LeftOut]:
     """Stretches of messages, those in one that follow one another."""
     out: list[LeftOut] = []
-    for one in sorted(stretches):
-        if out and out[-1][:2] == one[:2] and out[-1].last + 1 == one.first:
+    for one in sorted(stretches, key=lambda one: (one.text, *one)):
+        if out and (out[-1].text, *out[-1][:2]) == (one.text, *one[:2]) and out[-1].last + 1 == one.first:
             before = out.pop()
             one = one._replace(first=before.first, messages=before.messages + one.messages,
                                characters=before.characters + one.characters)
@@ -203,22 +204,29 @@ def joined_stretches(stretches: Iterable[LeftOut]) -> list[LeftOut]:
     return out
 
 
-def not_copied(entry: Entry, begin: int, typed: int, copies: Copies, counting: Counting) -> Iterator[LeftOut]:
+def not_copied(entry: Entry, begin: int, typed: int, copies: Copies, counting: Counting[Entry]) -> Iterator[LeftOut]:
     """Those of an entry's messages, from a seq on, for which no copy stands that counts. `typed` is how many characters all of them
     insert."""
-    left = [(max(begin, entry.first), entry.last)]
-    if not copies.speak_of(entry.author, entry.site):
-        if begin <= entry.first:
-            # What they are nobody has to look at.
-            yield LeftOut(entry.site, entry.author, entry.first, entry.last, entry.size, typed)
-            return
-    else:
-        for first, last in copies.stretches(entry, counting):
-            left = [part for begin, end in left for part in ((begin, min(end, first - 1)), (max(begin, last + 1), end))
-                    if part[0] <= part[1]]
-    for run in entry.operations if left else ():
+    if begin <= entry.first and not copies.speak_of(entry.author, entry.site):
+        # What they are nobody has to look at.
+        yield LeftOut(entry.site, entry.author, entry.first, entry.last, entry.size, typed)
+        return
+    yield from of_stretches(entry, without_copied([(max(begin, entry.first), entry.last)], entry, copies, counting))
+
+
+def without_copied(left: list[tuple[int, int]], some: SomeMessages, copies: Copies,
+                   counting: Counting[SomeMessages]) -> list[tuple[int, int]]:
+    """Those of stretches of messages for which no copy stands that counts."""
+    for first, last in copies.stretches(some, counting) if copies.speak_of(some.author, some.site) else ():
+        left = [part for begin, end in left for part in ((begin, min(end, first - 1)), (max(begin, last + 1), end)) if part[0] <= part[1]]
+    return left
+
+
+def of_stretches(some: MessagesInARow, left: Sequence[tuple[int, int]], text: int = 1) -> Iterator[LeftOut]:
+    """What is told of stretches of messages, those typed one after the other together."""
+    for run in some.operations if left else ():
         for begin, end in left:
             first, last = max(begin, run.seq), min(end, run.seq + run.size - 1)
             if first <= last:
                 size = last - first + 1
-                yield LeftOut(entry.site, entry.author, first, last, size, size * (len(run.data) // run.size))
+                yield LeftOut(some.site, some.author, first, last, size, size * (len(run.data) // run.size), text)

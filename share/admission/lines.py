@@ -1,7 +1,7 @@
 """The chain of a number in a text, where hashes are of messages: of several that go on from the same one, the least."""
 from array import array
 from bisect import bisect_right
-from collections.abc import Collection, Iterable, Iterator, Sequence
+from collections.abc import Iterable, Iterator, Sequence
 
 from share.admission.chain import last_of_others
 from share.admission.passing import Passing
@@ -10,12 +10,12 @@ from share.format.operation import Operation
 
 
 class Path:
-    """Messages of a site that go on one from the other, by their numbers; that of seq 1 has place 0."""
+    """Messages of a site in a text that go on one from the other, by their numbers; that of seq 1 has place 0."""
 
-    __slots__ = ("sayings", "site", "numbers")
+    __slots__ = ("sayings", "site", "text", "numbers")
 
-    def __init__(self, sayings: Sayings, site: int, numbers: Iterable[int] = ()):
-        self.sayings, self.site, self.numbers = sayings, site, array("I", numbers)
+    def __init__(self, sayings: Sayings, site: int, text: int, numbers: Iterable[int] = ()):
+        self.sayings, self.site, self.text, self.numbers = sayings, site, text, array("I", numbers)
 
     def __len__(self) -> int:
         return len(self.numbers)
@@ -41,14 +41,14 @@ class Path:
 
     def until(self, at: int) -> "Path":
         """The first messages as a path of their own."""
-        return Path(self.sayings, self.site, self.numbers[:at])
+        return Path(self.sayings, self.site, self.text, self.numbers[:at])
 
     def shared(self, other: "Path", most: int) -> int:
         """How many of the first messages are the same, of so many at most. Where one is, those before it are."""
         low, high = 0, min(most, len(self), len(other))
         while low < high:
             middle = (low + high) // 2
-            if self.numbers[middle] == other.numbers[middle]:
+            if self.hash(middle) == other.hash(middle):
                 low = middle + 1
             else:
                 high = middle
@@ -58,12 +58,12 @@ class Path:
 class MessageChain(Passing):
     """The messages of a number and a text that hold, and what was let through of them."""
 
-    __slots__ = ("branch", "_seen", "_ends")
+    __slots__ = ("branch", "seen", "_ends", "_next")
 
     branch: Path
 
-    def __init__(self, sayings: Sayings, site: int, numbers: Iterable[int] = ()):
-        self.branch = Path(sayings, site, numbers)
+    def __init__(self, sayings: Sayings, site: int, text: int, numbers: Iterable[int] = ()):
+        self.branch = Path(sayings, site, text, numbers)
         super().__init__()
 
     def begin_anew(self) -> None:
@@ -71,22 +71,38 @@ class MessageChain(Passing):
         super().begin_anew()
         self.branch = self.branch.until(len(self.branch))
         # The last character of each other site that was mentioned, and how long the site's file is after each message.
-        self._seen: dict[int, int] = {}
+        self.seen: dict[int, int] = {}
         self._ends = array("I")
+        # The messages that are next, where somebody asked, and how long the line was then.
+        self._next: tuple[int, int, Operation | None] = (0, 0, None)
+
+    @property
+    def client(self) -> Whose:
+        """Whose it is, where it has messages."""
+        return self.branch.sayings.client(self.branch.numbers[0])
+
+    def message(self, seq: int) -> Operation:
+        """A message of it."""
+        return self.branch.sayings.message(self.branch.numbers[seq - 1])
 
     @property
     def on(self) -> bytes:
         """What the message that is next builds on."""
         return self.branch.sayings.on(self.branch.numbers[self.front])
 
-    def go_on(self, client: Whose) -> bool:
-        """Lengthens the line by the least messages that there are; whether there are any."""
+    def go_on(self, client: Whose) -> Sequence[int]:
+        """Lengthens the line by the least messages that there are, and gives their numbers."""
         sayings, numbers, before = self.branch.sayings, self.branch.numbers, len(self.branch)
         number = sayings.least_after(numbers[-1]) if numbers else sayings.least(client)
         while number is not None:
             numbers.append(number)
             number = sayings.least_after(number)
-        return len(numbers) > before
+        return numbers[before:]
+
+    def has(self, number: int) -> bool:
+        """Whether a message is in it."""
+        place = self.branch.sayings.seq(number) - 1
+        return place < len(self.branch) and self.branch.numbers[place] == number
 
     def cut(self, at: int) -> bool:
         """Takes the messages from a place on away; whether some of them were let through, and all has to be let through anew."""
@@ -95,14 +111,18 @@ class MessageChain(Passing):
             return True
         # Nobody has looked at what they have.
         del self.branch.numbers[at:]
-        self.ended, self.needs = False, {}
+        self.ended, self.needs, self._next = False, {}, (0, 0, None)
         return False
 
     def next(self) -> Operation | None:
         """The messages that are next to be let through."""
-        if self.ended or self.front >= len(self.branch):
+        numbers, front = self.branch.numbers, self.front
+        end = len(numbers)
+        if self.ended or front >= end:
             return None
-        return self.branch.sayings.run(self.branch.numbers, self.front, len(self.branch))
+        if self._next[:2] != (front, end):
+            self._next = front, end, self.branch.sayings.run(numbers, front, end)
+        return self._next[2]
 
     def pass_on(self, run: Operation, up_to: float) -> None:
         """Lets the next messages through: all of the run, which are right where the first one is."""
@@ -110,15 +130,17 @@ class MessageChain(Passing):
             self._passed(run.stamp, len(run.data), len(run.data) == run.size)
         self._ends.extend(range(self.length - run.size + 1, self.length + 1) if run.size > 1 else (self.length,))
         for site, last in last_of_others((run,)).items():
-            self._seen[site] = max(self._seen.get(site, 0), last)
+            self.seen[site] = max(self.seen.get(site, 0), last)
         self.front, self.stamp = self.front + run.size, run.stamp + run.size - 1
         self.at = self.front
 
-    def beyond(self, run: Operation, but: Collection[int]) -> list[tuple[int, int]]:
-        """The last character of each other site of which the next message mentions one beyond those that were mentioned; of some sites
-        nobody asks."""
-        seen = self._seen
-        return sorted(one for one in last_of_others((run,)).items() if one[0] not in but and one[1] > seen.get(one[0], -1))
+    def mentioned(self, more: Iterable[Operation]) -> dict[int, int]:
+        """The last character of each other site that messages mention, those of the line and some that are to follow it."""
+        found = dict(self.seen)
+        waiting = self.branch.runs(self.front, len(self.branch))
+        for site, last in (one for run in (*waiting, *more) for one in last_of_others((run,)).items()):
+            found[site] = max(found.get(site, 0), last)
+        return found
 
     def inserter_of(self, at: int) -> bytes:
         """The hash of the message that inserted a character, which was let through."""

@@ -10,7 +10,7 @@ from typing import Generic, Protocol, TypeVar
 
 from share.admission.causes import LEAP, Verdict
 from share.admission.passing import Passing
-from share.admission.room import Room
+from share.admission.room import GivenBack
 from share.format.history import Messages, Part
 from share.format.operation import Operation
 
@@ -72,7 +72,7 @@ class Passage(Generic[SomeChain]):
     """What is let through of the chains, each of a site. `changes` rises where a chain begins to wait, has less to wait for, or grows as
     it waits."""
 
-    def __init__(self, chains: Mapping[int, SomeChain], room: Room, causes: Rule[SomeChain]):
+    def __init__(self, chains: Mapping[int, SomeChain], room: GivenBack, causes: Rule[SomeChain]):
         self.changes = 0
         # The sites whose next message isn't let through, but those where it is wrong, and these.
         self.blocked: set[int] = set()

@@ -5,39 +5,19 @@ from share.admission.outside import Unchained, weight
 from share.format.entry import Entry
 
 
-class Room:
+class GivenBack:
     """What was given back, and whose turn it is. Without a size there is always room."""
 
-    def __init__(self, size: int | None, outside: Unchained):
+    def __init__(self, size: int | None = None):
         self.is_bounded = size is not None
-        self._size, self._outside = size or 0, outside
+        self._size = size or 0
         self._given_back: list[Row] = []
         # The sites of which entries were given back, and those of them that have room again.
         self.lacking: set[int] = set()
         self._turns: set[int] = set()
 
-    def is_too_much(self, row: Row, pending: int, claimed: int) -> bool:
-        """Whether there is no room for one more entry of a chain that waits, of whose entries these bytes are kept."""
-        return self.is_bounded and not row.made and pending + weight(row.entry) > self._share(claimed)
-
-    def make(self, entry: Entry, holds: bool, claimed: int) -> None:
-        """Within bounds, gives back what is too much after an entry came that is in no chain: of a number's holder what is furthest, of
-        others what came."""
-        outside, who = self._outside, (entry.site, entry.author)
-        if not holds:
-            is_too_much = outside.weight > self._size // 2
-        else:
-            share = self._share(claimed)
-            while outside.weights.get(who, 0) > share and (of := outside.furthest(who)):
-                self.give_back(outside.row(of))
-            is_too_much = outside.weights.get(who, 0) > share
-        if is_too_much and outside.may_be_dropped(entry.hash):
-            self.give_back(outside.row(entry.hash))
-
     def give_back(self, row: Row) -> None:
-        """Takes an entry out of memory."""
-        if row.entry.hash in self._outside:
-            self._outside.remove(row.entry.hash)
+        """Notes that an entry isn't in memory any more."""
         self._given_back.append(row)
         self.lacking.add(row.entry.site)
 
@@ -57,6 +37,38 @@ class Room:
         self.lacking -= turns
         return turns
 
-    def _share(self, claimed: int) -> int:
+    def share(self, claimed: int) -> int:
         """How many bytes a number that is claimed has."""
         return self._size // 2 // (claimed + 1)
+
+
+class Room(GivenBack):
+    """What there is room for of entries of the first form."""
+
+    def __init__(self, size: int | None, outside: Unchained):
+        super().__init__(size)
+        self._outside = outside
+
+    def is_too_much(self, row: Row, pending: int, claimed: int) -> bool:
+        """Whether there is no room for one more entry of a chain that waits, of whose entries these bytes are kept."""
+        return self.is_bounded and not row.made and pending + weight(row.entry) > self.share(claimed)
+
+    def make(self, entry: Entry, holds: bool, claimed: int) -> None:
+        """Within bounds, gives back what is too much after an entry came that is in no chain: of a number's holder what is furthest, of
+        others what came."""
+        outside, who = self._outside, (entry.site, entry.author)
+        if not holds:
+            is_too_much = outside.weight > self._size // 2
+        else:
+            share = self.share(claimed)
+            while outside.weights.get(who, 0) > share and (of := outside.furthest(who)):
+                self.give_back(outside.row(of))
+            is_too_much = outside.weights.get(who, 0) > share
+        if is_too_much and outside.may_be_dropped(entry.hash):
+            self.give_back(outside.row(entry.hash))
+
+    def give_back(self, row: Row) -> None:
+        """Takes an entry out of memory."""
+        if row.entry.hash in self._outside:
+            self._outside.remove(row.entry.hash)
+        super().give_back(row)

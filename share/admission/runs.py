@@ -2,7 +2,7 @@
 from collections.abc import Iterable, Iterator, Sequence
 
 from share.admission.ledger import Row
-from share.format.entry import WITH_MESSAGES, Entry
+from share.format.entry import Entry
 
 
 def runs(rows: Iterable[Row]) -> Iterator[Sequence[Row]]:
@@ -20,5 +20,5 @@ def runs(rows: Iterable[Row]) -> Iterator[Sequence[Row]]:
 
 def _is_next(entry: Entry, last: Entry) -> bool:
     """Whether an entry of messages follows one of messages in a chain."""
-    return (entry.before == last.hash and last.size > 0 and entry.first == last.first + last.size and entry.author == last.author
-            and entry.site == last.site and entry.kind in WITH_MESSAGES and last.kind in WITH_MESSAGES)
+    return (entry.before == last.name and last.size > 0 and entry.first == last.first + last.size and entry.author == last.author
+            and entry.site == last.site and entry.text == last.text and entry.kind.has_messages and last.kind.has_messages)

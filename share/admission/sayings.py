@@ -6,8 +6,9 @@ there are some 90 bytes. Nothing is ever taken away.
 """
 from array import array
 from bisect import bisect_left
-from collections.abc import Iterator, MutableSequence, Sequence
+from collections.abc import Iterable, Iterator, Mapping, MutableSequence, Sequence
 from enum import Enum
+from itertools import groupby
 from typing import NamedTuple, Protocol
 
 from share.admission.hashes import MARK_MASK, NUMBER_MASK, Hashes
@@ -64,8 +65,10 @@ class Root(Enum):
 class Sayings(Hashes):
     """Messages, each by a number of its own, and which follow which."""
 
-    def __init__(self) -> None:
+    def __init__(self, ranks: Mapping[bytes, bytes] | None = None):
         super().__init__()
+        # What decides in place of their hashes between messages, by these; what has none comes last.
+        self._ranks = ranks
         self._clients: list[Whose] = []
         self._client_of: dict[Whose, int] = {}
         self._texts_of: dict[tuple[bytes, int], list[int]] = {}
@@ -75,25 +78,53 @@ class Sayings(Hashes):
         self._whose, self._seqs, self._befores, self._leasts, self._in_runs, self._downs = (array("I") for _ in range(6))
         # Of each client the message of seq 1 with the least hash.
         self._firsts: dict[int, int] = {}
-        # What follows what isn't here.
+        # What follows what isn't here; `found` rises where that comes.
         self._waiting: dict[int, list[int]] = {}
+        self.found = 0
         self._ons: dict[int, bytes] = {}
         self._runs: list[Operation] = []
 
     # What comes.
 
-    def add(self, entry: WithMessages, hashes: Sequence[bytes], ons: Sequence[bytes]) -> int | None:
-        """Adds those of an entry's messages that aren't here; the first of them, without which none of the others has its place; None
-        where all are here."""
+    def add(self, entry: WithMessages, hashes: Sequence[bytes], ons: Sequence[bytes]) -> list[int]:
+        """Adds those of an entry's messages that aren't here, and gives their numbers; without the first of them none of the others has
+        its place."""
         client = self._client(Whose(entry.author, entry.site, entry.text))
         before = self._entered(entry.before) if entry.before != NO_HASH else None
-        numbers, found, at = [*map(self._entered, hashes)], None, 0
+        numbers, found, at = [*map(self._entered, hashes)], list[int](), 0
         for run in entry.operations:
             for begin, end in self._lacking(numbers, ons, at, at + run.size):
                 self._put(numbers[begin:end], client, run.part(begin - at, end - at), numbers[begin - 1] if begin else before, ons[begin])
-                found = numbers[begin] if found is None else found
+                found += numbers[begin:end]
             at += run.size
         return found
+
+    def extend(self, client: Whose, before: int | None, operations: Iterable[Operation], hashes: Sequence[bytes],
+               ons: Sequence[bytes]) -> range:
+        """Adds messages after one that is here and has none after it, or the first ones of a client; nobody has spoken of them. Their
+        numbers."""
+        whose, begin, many = self._client(client), len(self), len(hashes)
+        numbers = range(begin, begin + many)
+        first = self._seqs[before] + 1 if before is not None else 1
+        self._hashes += b"".join(hashes)
+        self._enter(hashes, begin)
+        self._whose.extend([whose] * many)
+        self._seqs.extend(range(first, first + many))
+        self._befores.extend([0 if before is None else before + 1, *range(begin + 1, begin + many)])
+        self._leasts.extend([*range(begin + 2, begin + many + 1), 0])
+        self._downs.extend([begin if before is None else self._downs[before]] * many)
+        if before is None:
+            self._firsts[whose] = begin
+        else:
+            self._leasts[before] = begin + 1
+        at = 0
+        for operation in operations:
+            for part in _parted(operation, ons[at:at + operation.size]):
+                if ons[at]:
+                    self._ons[begin + at] = ons[at]
+                self._in_runs.extend([self._run_after(begin + at - 1 if at else before, whose, part, ons[at])] * part.size)
+                at += part.size
+        return numbers
 
     def _client(self, client: Whose) -> int:
         """The number of an author, a number and a text."""
@@ -160,13 +191,14 @@ class Sayings(Hashes):
         before = self._befores[number] - 1
         if before < 0:
             client = self._whose[number]
-            if (first := self._firsts.get(client)) is None or self.hash(number) < self.hash(first):
+            if (first := self._firsts.get(client)) is None or self.is_less(number, first):
                 self._firsts[client] = number
         elif self._seqs[before]:
             self._go_on(number, before)
         else:
             self._waiting.setdefault(before, []).append(number)
         for after in self._waiting.pop(number, ()) if self._waiting else ():
+            self.found += 1
             self._go_on(after, number)
 
     def _go_on(self, number: int, before: int) -> None:
@@ -175,8 +207,13 @@ class Sayings(Hashes):
             return
         self._downs[number] = self._downs[before]
         least = self._leasts[before]
-        if not least or self.hash(number) < self.hash(least - 1):
+        if not least or self.is_less(number, least - 1):
             self._leasts[before] = number + 1
+
+    def is_less(self, number: int, other: int) -> bool:
+        """Whether a message holds where another one has its place."""
+        one, two, ranks = self.hash(number), self.hash(other), self._ranks
+        return one < two if ranks is None else _rank_of(one, ranks) < _rank_of(two, ranks)
 
     # What is asked of them.
 
@@ -232,6 +269,20 @@ class Sayings(Hashes):
         """The hashes of some messages that are missing, after which others came."""
         return [self.hash(number) for number, _ in zip(self._waiting, range(most))]
 
+    def message(self, number: int) -> Operation:
+        """A message that is here."""
+        run, seq = self._runs[self._in_runs[number]], self._seqs[number]
+        return run.part(seq - run.seq, seq + 1 - run.seq)
+
+    def runs_of(self, numbers: Sequence[int]) -> Iterator[Operation]:
+        """Messages that go on one from the other, letters typed one after the other in one."""
+        in_runs, at = self._in_runs, 0
+        for number, some in groupby(numbers, in_runs.__getitem__):
+            size = sum(1 for _ in some)
+            run, seq = self._runs[number], self._seqs[numbers[at]]
+            yield run.part(seq - run.seq, seq - run.seq + size)
+            at += size
+
     def run(self, numbers: MutableSequence[int], begin: int, end: int) -> Operation:
         """The first run of messages that go on one from the other, from one place up to another; the first of them all has place 0."""
         in_runs, number = self._in_runs, self._in_runs[numbers[begin]]
@@ -241,6 +292,21 @@ class Sayings(Hashes):
             # Others go on from the middle of the run.
             end = bisect_left(numbers, True, begin + 1, end, key=lambda each: in_runs[each] != number)
         return run.part(begin + 1 - run.seq, end + 1 - run.seq)
+
+
+def _parted(run: Operation, ons: Sequence[bytes]) -> Iterator[Operation]:
+    """A run in parts, of which only the first messages say what they build on."""
+    begin = 0
+    for at in range(1, run.size) if any(ons) else ():
+        if ons[at]:
+            yield run.part(begin, at)
+            begin = at
+    yield run.part(begin, run.size)
+
+
+def _rank_of(one: bytes, ranks: Mapping[bytes, bytes]) -> tuple[bool, bytes, bytes]:
+    """What decides between messages."""
+    return one not in ranks, ranks.get(one, b""), one
 
 
 def _is_typed_on(last: Operation, run: Operation) -> bool:

@@ -61,7 +61,7 @@ class Statements:
         if entry.kind is Kind.ANEW:
             self._made_anew.setdefault(who, set()).add(entry.before)
         elif entry.kind is Kind.COPIES:
-            self.copies.add(entry)
+            self.copies.add(entry.site, entry.author, entry.before, entry.copied)
         elif entry.kind is Kind.RENEWED:
             self._renewed.setdefault(who, entry.spelled)
         return True

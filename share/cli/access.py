@@ -9,7 +9,7 @@ from collections.abc import Callable
 
 from share.engine import server
 from share.format import link as links
-from share.format.link import Link
+from share.format.second.key_link import AnyLink, link_of
 from share.store import notes, read_only
 from share.sync.session import Bar, Session
 from share.text.errors import Trouble
@@ -32,10 +32,10 @@ def given_url(given: argparse.Namespace) -> str | None:
     return links.url_of(given.log) if given.log else None
 
 
-def given_link(given: argparse.Namespace) -> Link | None:
+def given_link(given: argparse.Namespace) -> AnyLink | None:
     """The link, if one was given."""
     spelled = secret(given.link_file, "VIALSHOAL_LINK")
-    return links.read_link(spelled) if spelled else None
+    return link_of(spelled) if spelled else None
 
 
 def given_password(given: argparse.Namespace) -> str | None:
@@ -56,7 +56,7 @@ def says_yes(question: str) -> bool:
         return False
 
 
-def require_note(given: argparse.Namespace, name: str, link: Link | None) -> None:
+def require_note(given: argparse.Namespace, name: str, link: AnyLink | None) -> None:
     """Asks before a note is made that isn't here, since its name may be a typing error. Scripts say `--new`."""
     # A log that can be none is told first.
     given_url(given)
@@ -68,7 +68,7 @@ def require_note(given: argparse.Namespace, name: str, link: Link | None) -> Non
         raise Trouble("No note was made.")
 
 
-def given_or_asked_link(given: argparse.Namespace, name: str) -> Link | None:
+def given_or_asked_link(given: argparse.Namespace, name: str) -> AnyLink | None:
     """The link that was given, or that is asked for where there is no such note."""
     link = given_link(given)
     if not has_terminal():
@@ -81,10 +81,10 @@ def given_or_asked_link(given: argparse.Namespace, name: str) -> Link | None:
         spelled = getpass.getpass("Link: ")
     except (EOFError, KeyboardInterrupt) as why:
         raise Trouble("No note was made.") from why
-    return links.read_link(spelled) if spelled.strip() else None
+    return link_of(spelled) if spelled.strip() else None
 
 
-def require_agreement(given: argparse.Namespace, name: str, link: Link | None) -> None:
+def require_agreement(given: argparse.Namespace, name: str, link: AnyLink | None) -> None:
     """Refuses a log or a link that aren't the note's, before an engine is asked. Where the link is the note's and names another
     log, the user is asked whether that is gone on with."""
     path = notes.path_of(name)
@@ -106,13 +106,14 @@ def _ask_for_log(name: str, old: str, new: str) -> None:
         raise Trouble("The note's log is as it was, and nothing was sent.")
 
 
-def opener(given: argparse.Namespace, name: str, link: Link | None) -> OpensWithBar:
+def opener(given: argparse.Namespace, name: str, link: AnyLink | None) -> OpensWithBar:
     """Opens the note that the command line names; what was left out of it is told."""
     url, password = given_url(given), given_password(given)
 
     def opened(bar: Bar, wake: Callable[[], None]) -> Session:
         told: list[str] = []
-        session = Session(notes.open_note(name, url, link, password, told.append), password, bar, wake)
+        disk = notes.open_note(name, url, link, password, told.append, getattr(given, "form", None))
+        session = Session(disk, password, bar, wake)
         for left_out in told:
             session.tell(left_out)
         return session

@@ -8,7 +8,7 @@ from share.cli import access, html
 from share.cli.output import print_bytes, print_json, print_text, report_missing
 from share.engine import server
 from share.format.history import Messages
-from share.format.operation import INSERT
+from share.format.operation import INSERT, TEXT
 from share.log.sqlite_file import WRITTEN_AHEAD, beside
 from share.program import replay, retyping
 from share.program.replay import Replays, HistoryStep, Wrote
@@ -31,8 +31,8 @@ NOTHING_FOUND = 1
 
 def cat(given: argparse.Namespace) -> int:
     """Prints a note's text."""
-    messages, missing, _ = _found_messages(given)
-    text = readable(swapped(_site_of(messages).text()))
+    messages, missing, _ = _found_messages(given, given.of_text)
+    text = readable(swapped(_site_of(messages, given.of_text).text()))
     if given.json:
         return print_json({"note": given.name, "text": text, "missing": missing}, missing)
     print_text(text)
@@ -41,8 +41,8 @@ def cat(given: argparse.Namespace) -> int:
 
 def export(given: argparse.Namespace) -> int:
     """Writes a note's text as a file."""
-    messages, missing, _ = _found_messages(given)
-    site = _site_of(messages)
+    messages, missing, _ = _found_messages(given, given.of_text)
+    site = _site_of(messages, given.of_text)
     data = swapped(site.text())
     if given.format == "html":
         data = html.page(given.name, site.text(), site.runs()).encode()
@@ -127,18 +127,18 @@ def search(given: argparse.Namespace) -> int:
 
 def _text_here(name: str) -> bytes:
     """The text of what a note's file has."""
-    with closing(_site_of(read_only.judged(notes.path_of(name)).judge.count().messages)) as site:
+    with closing(_site_of(read_only.judged(notes.path_of(name)).judge.let_through_in_order(TEXT))) as site:
         return site.text()
 
 
-def _found_messages(given: argparse.Namespace) -> Contents:
-    """The messages of a note, and what is missing of it."""
+def _found_messages(given: argparse.Namespace, text: int = TEXT) -> Contents:
+    """The messages of a text of a note, and what is missing of that."""
     found = contents.found_of(given.name, access.given_url(given), access.given_link(given), access.given_password(given))
-    return contents.contents_of(given.name, found)
+    return contents.contents_of(given.name, found, text)
 
 
-def _site_of(messages: Messages) -> Site:
-    return Site(replay.REPLAYING, messages)
+def _site_of(messages: Messages, text: int = TEXT) -> Site:
+    return Site(replay.REPLAYING, messages, text=text)
 
 
 def _own_sites(name: str) -> set[int]:

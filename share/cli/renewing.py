@@ -22,7 +22,8 @@ def renew_note(given: argparse.Namespace, name: str) -> int:
         kept.intersection_update(made.sizes)
         return made.messages
 
-    done = notes.renew(name, access.given_url(given), access.given_password(given), access.own_name(), begins)
+    done = notes.renew(name, access.given_url(given), access.given_password(given), access.own_name(), begins,
+                       given.form or notes.form_of_new())
     if names and done.before:
         nicknames.remember(done.before, names)
         # A number that isn't used in the new note is perhaps another one's there.

@@ -4,6 +4,8 @@ import re
 from collections.abc import Callable, Sequence
 from contextlib import suppress
 
+from share.format.operation import TEXT
+
 SCRIPT_VERBS = ("cat", "append", "replace", "import", "export", "list", "history", "log", "search", "sync", "rename", "delete")
 # Those that need no more words, and those whose words may begin with a hyphen.
 ALONE, OF_ANY_WORDS = ("list", "sync"), ("append", "replace", "search")
@@ -34,7 +36,7 @@ def script_parser() -> argparse.ArgumentParser:
             one.add_argument(argument.lower(), metavar=argument, type=_word)
         return one
 
-    verb("cat", "prints a note's text")
+    _add_text(verb("cat", "prints a note's text"))
     append = verb("append", "types at the end of a note: TEXT and a line end, else what standard input has", makes=True)
     append.add_argument("text", metavar="TEXT", nargs="?", type=_word)
     verb("replace", "puts NEW in the place of OLD, wherever that stands", "OLD", "NEW",
@@ -46,6 +48,7 @@ def script_parser() -> argparse.ArgumentParser:
     export = verb("export", "writes a note's text as a file", "FILE", more="- is standard output.\n")
     export.add_argument("--format", choices=("text", "html"), default="text", help="html has the looks, too")
     export.add_argument("--replace", action="store_true", help="replace a file that is there")
+    _add_text(export)
     _add_verbs_of_files(verb)
     past = verb("history", "prints a note's text as it was, with --json also who wrote what",
                 more="A note begins empty. bin/note log says what was done since, and which N is after that.\n")
@@ -61,6 +64,11 @@ def _add_words_of_a_note(one: argparse.ArgumentParser) -> None:
     one.add_argument("--log", metavar="URL", help="where the note's log is; without it, where it was last")
     one.add_argument("--link-file", metavar="FILE", help="a file that has the note's link")
     one.add_argument("--password-file", metavar="FILE", help="a file that has the server's password")
+
+
+def _add_text(one: argparse.ArgumentParser) -> None:
+    one.add_argument("--text", metavar="N", dest="of_text", type=int, default=TEXT,
+                     help="which text of a note that has several; 1 is the note's")
 
 
 def _add_verbs_of_files(verb: Callable[..., argparse.ArgumentParser]) -> None:

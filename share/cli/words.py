@@ -75,6 +75,8 @@ def parsed(words: list[str]) -> argparse.Namespace:
                         help="letters, digits, dots, hyphens and underscores")
     parser.add_argument("--log", metavar="URL", help="where the note's log is; without it, where it was last")
     parser.add_argument("--new", action="store_true", help="make the note where it isn't here, without asking")
+    parser.add_argument("--form", metavar="FORM", type=int, choices=(1, 2),
+                        help="of which form a note is that is made or renewed: 1, or 2, which versions before this one can't read")
     parser.add_argument("--print", action="store_true", dest="prints", help="print the note and end")
     parser.add_argument("--lost", action="store_true",
                         help="recover: show what was left out of the note NAME for good, and type it again")

@@ -14,20 +14,21 @@ _note_names() {
 _note_options() {
     local log='--log --link-file --password-file'
     case $1 in
-        cat | replace | log) echo "--help $log --json" ;;
+        cat) echo "--help $log --json --text" ;;
+        replace | log) echo "--help $log --json" ;;
         append | import) echo "--help $log --json --new" ;;
-        export) echo "--help $log --json --format --replace" ;;
+        export) echo "--help $log --json --format --replace --text" ;;
         history) echo "--help $log --json --at" ;;
         list | search | rename) echo '--help --json' ;;
         delete) echo '--help --json --yes' ;;
         sync) echo '--help --json --every --password-file' ;;
         install | uninstall) echo '--help --prefix' ;;
-        web) echo "--help $log --no-browser --new" ;;
-        renew) echo "--help $log --fresh --without --yes" ;;
+        web) echo "--help $log --no-browser --new --form" ;;
+        renew) echo "--help $log --fresh --without --yes --form" ;;
         recover) echo "--help $log --lost" ;;
-        open) echo "--help $log --print --new" ;;
+        open) echo "--help $log --print --new --form" ;;
         engine | link) echo "--help $log" ;;
-        *) echo "--help $log --print --new --lost --fresh --without --yes --no-browser --version" ;;
+        *) echo "--help $log --print --new --lost --fresh --without --yes --no-browser --form --version" ;;
     esac
 }
 

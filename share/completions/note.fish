@@ -39,6 +39,7 @@ complete -c note -n "__note_verb $scripts" -l json
 complete -c note -n '__note_has -eq 1; or __note_verb append import web open' -l new
 complete -c note -n '__note_verb export' -l format -x -a 'text html'
 complete -c note -n '__note_verb export' -l replace
+complete -c note -n '__note_verb cat export' -l text -x
 complete -c note -n '__note_verb history' -l at -x
 complete -c note -n '__note_verb sync' -l every -x
 complete -c note -n '__note_verb install uninstall' -l prefix -r
@@ -48,4 +49,5 @@ complete -c note -n '__note_has -eq 1; or __note_verb renew' -l fresh
 complete -c note -n '__note_has -eq 1; or __note_verb renew' -l without -x
 complete -c note -n '__note_has -eq 1; or __note_verb renew delete' -l yes
 complete -c note -n '__note_has -eq 1; or __note_verb recover' -l lost
+complete -c note -n '__note_has -eq 1; or __note_verb renew web open' -l form -x
 complete -c note -n '__note_has -eq 1' -l version

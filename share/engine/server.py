@@ -20,7 +20,7 @@ from collections.abc import Callable, Iterator
 
 from share.engine.editor import Peer
 from share.engine.engine import Engine
-from share.format.link import Link
+from share.format.second.key_link import AnyLink
 from share.log.bell import Bell
 from share.log.folder import make_folder
 from share.store import notes, read_only
@@ -75,7 +75,7 @@ def connected(name: str) -> socket.socket | None:
         return None
 
 
-def agree_with_engine(name: str, url: str | None, link: Link | None) -> None:
+def agree_with_engine(name: str, url: str | None, link: AnyLink | None) -> None:
     """Checks that a link and a log are those of the note that an engine has open, where one does. An engine that has just
     been started makes the note as its first editor opens that."""
     if line := connected(name):

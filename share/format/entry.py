@@ -39,15 +39,15 @@ import hashlib
 import secrets
 import struct
 from abc import ABC, abstractmethod
-from collections.abc import Sequence
+from collections.abc import Mapping, Sequence
 from enum import IntEnum
 from functools import lru_cache
-from typing import NamedTuple
+from typing import NamedTuple, Protocol
 
 from share.format import chunk
 from share.format.chunk import GREATEST_SEQ, UNFOLDED, NoChunk, Packed, varint
 from share.format.latest import Latest
-from share.format.operation import NoMessage, Operation
+from share.format.operation import TEXT, NoMessage, Operation
 from share.format.presence import MOST_PRESENCE
 
 HEAD = struct.Struct(">BB16sHIH32s")
@@ -65,8 +65,47 @@ DIGEST_BYTES = 16
 GREATEST_SITE = 65_528
 
 
-class Kind(IntEnum):
-    """What an entry is; `NEWER` are all kinds that this version doesn't know, whatever their number."""
+class EntryKind(IntEnum):
+    """What an entry is. Each form of notes has kinds of its own, whose numbers say other things in another one: so what is asked of an
+    entry of either is asked by these words."""
+
+    @property
+    def is_newer(self) -> bool:
+        """Whether it is a newer version's."""
+        return self._name_ == "NEWER"
+
+    @property
+    def is_claim(self) -> bool:
+        """Whether it claims a number."""
+        return self._name_ == "CLAIM"
+
+    @property
+    def says_copies(self) -> bool:
+        """Whether it says which messages stand for which."""
+        return self._name_ == "COPIES"
+
+    @property
+    def has_messages(self) -> bool:
+        """Whether it has messages that somebody made under a number."""
+        return self._name_ in HAVE_MESSAGES
+
+    @property
+    def says_what_became(self) -> bool:
+        """Whether it says what became of messages or of the note, and is in no chain."""
+        return self._name_ in SAY_WHAT_BECAME
+
+    @property
+    def is_under_a_number(self) -> bool:
+        """Whether it shows that its author goes on under the number."""
+        return self.has_messages or self.is_newer
+
+
+HAVE_MESSAGES = frozenset(("MESSAGES", "BUILDING", "CHUNK", "CHUNK_BUILDING"))
+SAY_WHAT_BECAME = frozenset(("ANEW", "COPIES", "RENEWED"))
+
+
+class Kind(EntryKind):
+    """What an entry of the first form is; `NEWER` are all kinds that this version doesn't know, whatever their number."""
 
     NEWER = 0
     CLAIM = 1
@@ -83,10 +122,6 @@ KINDS = {int(kind): kind for kind in Kind if kind is not Kind.NEWER}
 SAY_WHAT_THEY_BUILD_ON = (Kind.BUILDING, Kind.CHUNK_BUILDING)
 CHUNKS, ONE_BY_ONE = (Kind.CHUNK, Kind.CHUNK_BUILDING), (Kind.MESSAGES, Kind.BUILDING)
 WITH_MESSAGES = frozenset((*CHUNKS, *ONE_BY_ONE))
-# What says what became of messages or of the note, and is in no chain; and what doesn't show that its author goes on under
-# the number.
-SAY_WHAT_BECAME = (Kind.ANEW, Kind.COPIES, Kind.RENEWED)
-NOT_UNDER_A_NUMBER = (Kind.CLAIM, *SAY_WHAT_BECAME)
 # The most bytes that are said of a renewed note.
 LONGEST_SAID = 200
 # The hashes of the entries that were made, or came, last: of this many bytes of them, where fewer came at once.
@@ -100,6 +135,7 @@ class Copy(NamedTuple):
     author: bytes
     site: int
     seq: int
+    text: int = TEXT
 
 
 class Copied(NamedTuple):
@@ -147,9 +183,94 @@ class Bad(Exception):
     """Bytes that are no entry of this note, and why, in words that follow `An entry`."""
 
 
-class Entry(NamedTuple):
-    """An entry that was opened: its form, its size, its messages' spelling and their places were found right.
-    """
+class Entry(Protocol):
+    """An entry of either form that was opened: its form, its size, its messages' spelling and their places were found right."""
+
+    @property
+    def kind(self) -> EntryKind:
+        """What it is."""
+
+    @property
+    def author(self) -> bytes:
+        """Who made it."""
+
+    @property
+    def site(self) -> int:
+        """Under which number."""
+
+    @property
+    def text(self) -> int:
+        """Of which text it is; 0 where it is of none."""
+
+    @property
+    def first(self) -> int:
+        """The seq of its first message, 0 without messages."""
+
+    @property
+    def size(self) -> int:
+        """The number of its messages."""
+
+    @property
+    def last(self) -> int:
+        """The seq of its last message, 0 without messages."""
+
+    @property
+    def before(self) -> bytes:
+        """What names what is before it."""
+
+    @property
+    def on(self) -> bytes:
+        """What the messages build on, as the body has it before them."""
+
+    @property
+    def spelled(self) -> bytes:
+        """The messages, as the body has them; or what it says."""
+
+    @property
+    def body(self) -> bytes:
+        """All that is sealed in it."""
+
+    @property
+    def raw(self) -> bytes:
+        """Its bytes."""
+
+    @property
+    def hash(self) -> bytes:
+        """The hash of its bytes."""
+
+    @property
+    def name(self) -> bytes:
+        """What names it to what follows it."""
+
+    @property
+    def names(self) -> tuple[bytes, ...]:
+        """What names it, or each of its messages."""
+
+    def name_of(self, seq: int) -> bytes:
+        """What names its message of a seq."""
+
+    def seq_of(self, name: bytes) -> int:
+        """The seq of the last message that a name of it means; 0 where it means none."""
+
+    @property
+    def chunk(self) -> bytes:
+        """The chunk of its messages, where it has them in one."""
+
+    @property
+    def operations(self) -> tuple[Operation, ...]:
+        """The operations, letters typed one after the other in one."""
+
+    @property
+    def messages(self) -> tuple[Operation, ...]:
+        """The operations one by one."""
+
+    @property
+    def copied(self) -> Copied:
+        """What an entry of copies says."""
+
+
+class FirstEntry(NamedTuple):
+    """An entry of the first form."""
 
     kind: Kind
     site: int
@@ -166,9 +287,32 @@ class Entry(NamedTuple):
     hash: bytes
 
     @property
+    def text(self) -> int:
+        """A note of the first form has one text."""
+        return TEXT
+
+    @property
     def last(self) -> int:
         """The seq of the last message, 0 without messages."""
         return self.first + self.size - 1 if self.size else 0
+
+    @property
+    def name(self) -> bytes:
+        """What names it to what follows it."""
+        return self.hash
+
+    @property
+    def names(self) -> tuple[bytes, ...]:
+        """What names it."""
+        return (self.hash,)
+
+    def name_of(self, seq: int) -> bytes:
+        """What names its messages: all of them alike."""
+        return self.hash
+
+    def seq_of(self, name: bytes) -> int:
+        """The seq of the last message that a name of it means: its last one."""
+        return self.last
 
     @property
     def body(self) -> bytes:
@@ -204,13 +348,37 @@ class Author(NamedTuple):
     secret: bytes
 
 
+# What messages build on, as an entry says it: of all of them, or by the index of each that says it.
+BuiltOn = bytes | Mapping[int, bytes]
+
+
+class OneByOne(Protocol):
+    """Looks at entries one after the other."""
+
+    def type_on(self, entry: Entry) -> bool:
+        """Whether an entry is known to type on after the one before it; raises Bad where its messages are spelled wrong, or aren't those
+        of its place."""
+
+
 class Form(ABC):
-    """How entries of one note are spelled: plain, or sealed with the note's key."""
+    """How entries of one note are spelled: in the first form or the second, plain, or sealed with the note's key."""
 
     number: int
-    author_bytes: int
     # The number of an entry's last bytes that can't be computed from the others.
     tail_bytes: int
+    # How many of an entry's first bytes are its head, and where in them its site is, and what names the one before it.
+    head_bytes: int
+    site_at: int
+    before_at: int
+    # The kinds of entries that have messages that somebody made under a number, and of claims, by the byte that says so.
+    kinds_of_messages: tuple[int, ...]
+    kind_of_claims: int
+    # The numbers that texts have.
+    texts: Sequence[int]
+    # Whether messages are named by hashes of their own, and not by that of their entry.
+    names_messages: bool
+    # Whether a number costs a search.
+    is_searched: bool
 
     def __init__(self, note: bytes):
         self.note = note
@@ -227,24 +395,95 @@ class Form(ABC):
     def present(self, raw: bytes) -> bytes | None:
         """What an editor said of itself; None where nobody of this note can have said it."""
 
-    def body(self, raw: bytes) -> bytes:
-        """What is after the head of an entry that was opened before, unsealed."""
-        return self._checked(raw)
+    # Reading.
 
-    def bodies(self, raws: Sequence[bytes]) -> list[bytes]:
-        """The same of each of some entries."""
-        return [*map(self.body, raws)]
+    @abstractmethod
+    def open(self, raw: bytes) -> Entry:
+        """The entry that has these bytes; raises Bad where they are none of this note's."""
+
+    @abstractmethod
+    def open_many(self, raws: Sequence[bytes]) -> list[Entry | Bad]:
+        """What each of these bytes are."""
+
+    @abstractmethod
+    def formed(self, raws: Sequence[tuple[bytes, bytes]]) -> list[Entry | Bad]:
+        """The entries of bytes and their hashes; at their messages looks what `one_by_one` gives."""
+
+    @abstractmethod
+    def one_by_one(self) -> OneByOne:
+        """What looks at the messages of entries that were formed, or kept."""
+
+    @abstractmethod
+    def reopened(self, raw: bytes, body: bytes, of: bytes) -> Entry:
+        """The entry of bytes that were opened before: its body and its hash were kept."""
+
+    @abstractmethod
+    def body(self, raw: bytes) -> bytes:
+        """The body of an entry that was opened before."""
+
+    @abstractmethod
+    def kind(self, raw: bytes) -> EntryKind:
+        """The kind of an entry that was opened before, by its first bytes."""
+
+    @abstractmethod
+    def author(self, raw: bytes) -> bytes:
+        """The author of such an entry."""
 
     def tail(self, raw: bytes) -> bytes:
         """The last bytes of an entry, which can't be computed from the others."""
         return raw[len(raw) - self.tail_bytes:]
 
-    def whole(self, entry: "Entry", tail: bytes) -> bytes:
+    def before_of(self, raw: bytes) -> bytes:
+        """What names what is before an entry, as bytes say it that may be damaged."""
+        return raw[self.before_at:self.before_at + len(NO_HASH)]
+
+    # Making.
+
+    @abstractmethod
+    def claim(self, site: int, author: Author, counter: int = 0) -> Entry:
+        """The entry with which an author claims a site's number, by the counter that a search found where one has to be made."""
+
+    @abstractmethod
+    def entry(self, before: Entry, part: Packed, author: Author, on: BuiltOn = b"") -> Entry:
+        """The entry of operations that follow those of an author's entry before it, and of what they build on."""
+
+    @abstractmethod
+    def made_anew(self, last: Entry, author: Author) -> Entry:
+        """The entry with which an author says that of his entries up to this one all that doesn't count was made
+        anew."""
+
+    @abstractmethod
+    def copies(self, copied: Copied, author: Author, site: int, before: bytes = NO_HASH, text: int = TEXT) -> Entry:
+        """The entry with which the author of messages of a text, or that of their copies, says which stand for which. `before` names the
+        last entry that has such messages."""
+
+    @abstractmethod
+    def renewed(self, name: str, site: int, author: Author) -> Entry:
+        """The entry by which an author of this name says that the note goes on under a new key."""
+
+
+class FirstForm(Form):
+    """The first form: hashes are of entries, and a claim costs nothing."""
+
+    author_bytes: int
+    site_at, before_at = 18, HEAD.size - len(NO_HASH)
+    names_messages = is_searched = False
+    texts = (TEXT,)
+    kinds_of_messages, kind_of_claims = tuple(map(int, (*CHUNKS, *ONE_BY_ONE))), int(Kind.CLAIM)
+
+    def body(self, raw: bytes) -> bytes:
+        return self._checked(raw)
+
+    def bodies(self, raws: Sequence[bytes]) -> list[bytes]:
+        """What is after the head of each of some entries that were opened before, unsealed."""
+        return [*map(self.body, raws)]
+
+    def whole(self, entry: Entry, tail: bytes) -> bytes:
         """The bytes of an entry that was opened before, by what it says and these last ones."""
         return self._unsigned(self._head(entry.kind, entry.site, entry.first, entry.size, entry.before) + entry.author,
                               entry.body) + tail
 
-    def _head(self, kind: Kind, site: int, first: int, count: int, before: bytes) -> bytes:
+    def _head(self, kind: int, site: int, first: int, count: int, before: bytes) -> bytes:
         return HEAD.pack(self.number, kind, self.note, site, first, count, before)
 
     @abstractmethod
@@ -259,64 +498,57 @@ class Form(ABC):
     def _opened(self, head: bytes, rest: bytes, author: bytes) -> bytes:
         """The body of an entry; raises Bad where it isn't right."""
 
-    def claim(self, site: int, author: Author) -> Entry:
-        """The entry with which an author claims a site's number."""
+    def claim(self, site: int, author: Author, counter: int = 0) -> FirstEntry:
         return self._made(Kind.CLAIM, site, 0, 0, NO_HASH, author, b"", b"")
 
-    def entry(self, before: Entry, part: Packed, author: Author, on: bytes = b"") -> Entry:
-        """The entry of operations that follow those of an author's entry before it, and of what they build on."""
+    def entry(self, before: Entry, part: Packed, author: Author, on: BuiltOn = b"") -> FirstEntry:
+        assert isinstance(on, bytes)
         kind = Kind.CHUNK_BUILDING if on else Kind.CHUNK
         return self._made(kind, before.site, part.operations[0].seq, part.size, before.hash, author, on, part.chunk)
 
-    def made_anew(self, last: Entry, author: Author) -> Entry:
-        """The entry with which an author says that of his entries up to this one all that doesn't count was made
-        anew."""
+    def made_anew(self, last: Entry, author: Author) -> FirstEntry:
         return self._made(Kind.ANEW, last.site, 0, 0, last.hash, author, b"", b"")
 
-    def copies(self, copied: Copied, author: Author, site: int, before: bytes = NO_HASH) -> Entry:
-        """The entry with which the author of messages, or that of their copies, says which stand for which. `before` is the
-        hash of the last entry that has such messages."""
+    def copies(self, copied: Copied, author: Author, site: int, before: bytes = NO_HASH, text: int = TEXT) -> FirstEntry:
         return self._made(Kind.COPIES, site, 0, 0, before, author, b"", copied.as_spelled())
 
-    def renewed(self, name: str, site: int, author: Author) -> Entry:
-        """The entry by which an author of this name says that the note goes on under a new key."""
+    def renewed(self, name: str, site: int, author: Author) -> FirstEntry:
         return self._made(Kind.RENEWED, site, 0, 0, NO_HASH, author, b"", said_by_name(name))
 
-    def open(self, raw: bytes) -> Entry:
-        """The entry that has these bytes; Bad where they are none of this note's."""
+    def open(self, raw: bytes) -> FirstEntry:
         entry = self.reopened(raw, self._checked(raw), digest(raw))
         check_entry(entry)
         return entry
 
     def kind(self, raw: bytes) -> Kind:
-        """The kind of an entry that was opened before, by its first bytes."""
         return kind_of(raw[1])
 
     def author(self, raw: bytes) -> bytes:
-        """The author of such an entry."""
         return raw[HEAD.size:HEAD.size + self.author_bytes]
 
-    def open_many(self, raws: Sequence[bytes]) -> list["Entry | Bad"]:
-        """What each of these bytes are."""
+    def open_many(self, raws: Sequence[bytes]) -> list[Entry | Bad]:
         return [_as_checked(one) for one in self.formed([(raw, digest(raw)) for raw in raws])]
 
-    def formed(self, raws: Sequence[tuple[bytes, bytes]]) -> list["Entry | Bad"]:
-        """The entries of bytes and their hashes, whose messages nobody has looked at."""
+    def one_by_one(self) -> OneByOne:
+        # Loaded where it is needed, since it knows entries.
+        from share.format.keystrokes import Keystrokes
+        return Keystrokes()
+
+    def formed(self, raws: Sequence[tuple[bytes, bytes]]) -> list[Entry | Bad]:
         return [self._as_formed(*one) for one in raws]
 
-    def _as_formed(self, raw: bytes, of: bytes) -> "Entry | Bad":
+    def _as_formed(self, raw: bytes, of: bytes) -> Entry | Bad:
         try:
             return self.reopened(raw, self._checked(raw), of)
         except Bad as why:
             return why
 
-    def reopened(self, raw: bytes, body: bytes, of: bytes) -> Entry:
-        """The entry of bytes that were opened before: its body and its hash were kept."""
+    def reopened(self, raw: bytes, body: bytes, of: bytes) -> FirstEntry:
         _, number, _, site, first, count, before = HEAD.unpack_from(raw)
         kind = kind_of(number)
         size = len(body) if kind is Kind.NEWER else len(NO_HASH) if kind in SAY_WHAT_THEY_BUILD_ON else 0
         count = 0 if kind is Kind.NEWER else count
-        return Entry(kind, site, first, count, before, self.author(raw), body[:size], body[size:], raw, of)
+        return FirstEntry(kind, site, first, count, before, self.author(raw), body[:size], body[size:], raw, of)
 
     def _checked(self, raw: bytes) -> bytes:
         """The body of bytes that are spelled as an entry."""
@@ -330,16 +562,16 @@ class Form(ABC):
         return self._opened(raw[:begin], raw[begin:], raw[HEAD.size:begin])
 
     def _made(self, kind: Kind, site: int, first: int, count: int, before: bytes, author: Author, on: bytes,
-              spelled: bytes) -> Entry:
+              spelled: bytes) -> FirstEntry:
         head = self._head(kind, site, first, count, before) + author.name
         raw = self._closed(head, on + spelled, author)
-        return Entry(kind, site, first, count, before, author.name, on, spelled, raw, digest(raw))
+        return FirstEntry(kind, site, first, count, before, author.name, on, spelled, raw, digest(raw))
 
 
-class Plain(Form):
+class Plain(FirstForm):
     """Entries of a note on one machine, which nobody but its accounts can reach. A digest shows damage."""
 
-    number, author_bytes, tail_bytes = 1, 16, 0
+    number, author_bytes, tail_bytes, head_bytes = 1, 16, 0, HEAD.size + 16
 
     def new_author(self) -> Author:
         return Author(secrets.token_bytes(self.author_bytes), b"")
@@ -365,7 +597,7 @@ class Plain(Form):
             if raw.startswith(begins) and body + DIGEST_BYTES <= len(raw) <= MOST_BYTES and (
                     hashlib.blake2b(raw[:-DIGEST_BYTES], digest_size=DIGEST_BYTES).digest() == raw[-DIGEST_BYTES:]):
                 _, _, _, site, first, count, before = HEAD.unpack_from(raw)
-                found.append(Entry(kind, site, first, count, before, raw[HEAD.size:body], b"", raw[body:-DIGEST_BYTES], raw, of))
+                found.append(FirstEntry(kind, site, first, count, before, raw[HEAD.size:body], b"", raw[body:-DIGEST_BYTES], raw, of))
             else:
                 found.append(self._as_formed(raw, of))
         return found
@@ -386,11 +618,6 @@ class Plain(Form):
 def said_by_name(name: str) -> bytes:
     """What somebody of this name says of a renewed note."""
     return name.encode("utf-8", "ignore")[:LONGEST_SAID].decode("utf-8", "ignore").encode()
-
-
-def before_of(raw: bytes) -> bytes:
-    """The hash of the entry before one, as bytes say it that may be damaged."""
-    return raw[HEAD.size - len(NO_HASH):HEAD.size]
 
 
 def kind_of(number: int) -> Kind:

@@ -14,7 +14,11 @@ FEW = 16
 
 
 class Holder(Protocol):
-    """What has operations, each by its place."""
+    """What has operations of a text, each by its place."""
+
+    @property
+    def text(self) -> int:
+        """Of which text they are."""
 
     def between(self, begin: int, end: int) -> Iterator[Operation]:
         """The operations from one place to another, one by one."""
@@ -28,6 +32,11 @@ class Loose:
 
     def __init__(self, operations: Sequence[Operation]):
         self._operations = operations
+
+    @property
+    def text(self) -> int:
+        """Of which text they are."""
+        return self._operations[0].text
 
     def between(self, begin: int, end: int) -> Iterator[Operation]:
         """The operations from one place to another."""
@@ -78,6 +87,11 @@ class Messages(Sequence[Operation]):
         for holder, begin, end in zip(self._holders, self._begins, self._ends):
             yield Part(holder, begin, begin + end - before)
             before = end
+
+    def of_text(self, text: int) -> "Messages":
+        """Those of a text."""
+        return self if all(one.text == text for one in self._holders) else Messages(parts=(
+            part for part in self.parts() if part.holder.text == text))
 
     def runs(self) -> Iterator[Operation]:
         """The operations, letters typed one after the other in one."""

@@ -42,6 +42,11 @@ class Link(NamedTuple):
     secret: bytes
     url: str
 
+    @property
+    def form_number(self) -> int:
+        """The form of the note."""
+        return 1
+
     def __repr__(self) -> str:
         # Where it is printed by mistake, the secret isn't.
         return f"Link({self.form!r}, url={self.url!r})"

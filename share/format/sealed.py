@@ -17,7 +17,7 @@ import secrets
 from collections.abc import Sequence
 from concurrent.futures import ThreadPoolExecutor
 
-from share.format.entry import Author, Bad, Entry, Form
+from share.format.entry import HEAD, Author, Bad, Entry, FirstForm
 from share.format.presence import MOST_PRESENCE
 from share.text.errors import Trouble
 
@@ -34,11 +34,11 @@ NONCE_BYTES, TAG_BYTES, SIGNATURE_BYTES = 24, 16, 64
 SHARE_OF_A_THREAD = 200
 
 
-class Sealed(Form):
+class Sealed(FirstForm):
     """Entries that are sealed with a note's key. The note's identity is a hash of the key, so a log can't choose
     it."""
 
-    number, author_bytes, tail_bytes = 2, 32, SIGNATURE_BYTES
+    number, author_bytes, tail_bytes, head_bytes = 2, 32, SIGNATURE_BYTES, HEAD.size + 32
 
     def __init__(self, key: bytes):
         if not HAS_NACL:

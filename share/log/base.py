@@ -96,8 +96,9 @@ class Log(ABC):
         """Begins to hear what is said to all; None where the log has no channel."""
         return None
 
-    def claimed(self) -> set[int] | None:
-        """The sites that entries claim, whoever wrote these; None where it takes as long to say that as to read them all."""
+    def claimed(self, kind: int, at: int) -> set[int] | None:
+        """The sites that entries of this kind claim, whoever wrote these, each of which is at a place of their bytes; None where it takes
+        as long to say that as to read them all."""
         return None
 
     def quick(self) -> None:

@@ -7,7 +7,7 @@ import re
 import time
 from collections.abc import Iterator, Sequence
 
-from share.format.entry import MOST_BYTES, Kind
+from share.format.entry import MOST_BYTES
 from share.format.presence import MOST_PRESENCE
 from share.log.base import MOST_ON, ON_SECONDS, READ_AT_ONCE, START, InLog, Log, LogLost
 from share.log.bell import Bell
@@ -63,13 +63,13 @@ READ_SCRIPT = """
 """
 # Gives the id of the last entry of a part of the stream, and of each claim in it the two bytes of its site.
 CLAIMED_SCRIPT = """
-    local after, most = ARGV[1], tonumber(ARGV[5])
+    local after, most, at = ARGV[1], tonumber(ARGV[5]), tonumber(ARGV[6]) + 1
     local some = redis.call('XREAD', 'COUNT', tonumber(ARGV[3]), 'STREAMS', KEYS[1], after)
     local found = {}
     for _, entry in ipairs(some and some[1][2] or {}) do
         local id, fields = entry[1], entry[2]
         local raw = #fields == 2 and fields[1] == ARGV[2] and #fields[2] <= most and fields[2]
-        if raw and string.byte(raw, 2) == tonumber(ARGV[4]) then found[#found + 1] = string.sub(raw, 19, 20) end
+        if raw and string.byte(raw, 2) == tonumber(ARGV[4]) then found[#found + 1] = string.sub(raw, at, at + 1) end
         after = id
     end
     return {after, found}
@@ -139,11 +139,12 @@ class Stream:
         self.at_end = size is not None
         return page
 
-    def claimed(self) -> set[int]:
-        """The sites that entries claim, as far as the server says so: it looks through them, and sends the sites alone."""
+    def claimed(self, kind: int, at: int) -> set[int]:
+        """The sites that entries of this kind claim, each of which is at a place of their bytes, as far as the server says so: it looks
+        through them, and sends the sites alone."""
         sites, after = set[int](), b"0-0"
         for _ in range(MOST_CLAIM_READINGS):
-            words = (after, self._field, CLAIMS_AT_ONCE, int(Kind.CLAIM), self._most)
+            words = (after, self._field, CLAIMS_AT_ONCE, kind, self._most, at)
             match self._wire.run(CLAIMED_SCRIPT, (self._key,), words):
                 case [bytes(last), list(found)] if len(found) <= CLAIMS_AT_ONCE and _numbers(last):
                     sites |= {int.from_bytes(site, "big") for site in found if isinstance(site, bytes) and len(site) == 2}
@@ -238,8 +239,8 @@ class RedisLog(Log):
         # The reading that came to this place has seen that they are there.
         return _stream_place(after)[1]
 
-    def claimed(self) -> set[int] | None:
-        return self._stream.claimed()
+    def claimed(self, kind: int, at: int) -> set[int] | None:
+        return self._stream.claimed(kind, at)
 
     def meet(self, token: bytes, presence: bytes) -> list[bytes]:
         return self._all_said(self._wire.run(MEET_SCRIPT, (self._times, self._said),

@@ -3,7 +3,7 @@ what was made anew twice. It is typed again once, and what is typed stands for a
 from collections.abc import Iterable, Iterator, Mapping, Sequence
 from typing import NamedTuple
 
-from share.admission.judge import Judge
+from share.admission.judging import Judging
 from share.admission.ledger import Who
 from share.format.entry import NO_HASH, Copy
 from share.format.operation import Operation
@@ -26,12 +26,12 @@ class One(NamedTuple):
 class Alike:
     """Messages that were left out, and what is typed for each."""
 
-    def __init__(self, left: Iterable[One], judge: Judge):
+    def __init__(self, left: Iterable[One], judge: Judging):
         self._judge, self._looks = judge, 0
         self._left = {one.message: one for one in left}
         self._by_copy = {one.copy: message for message, one in self._left.items()}
         # What doesn't count of an author's number, by its seqs.
-        self._elsewhere: dict[Who, dict[int, list[Operation]]] = {}
+        self._elsewhere: dict[tuple[int, bytes, int], dict[int, list[Operation]]] = {}
         # Those that have the bytes of one and stand for it, or it for them, wherever they are; and that which is typed.
         self._same = {message: self._all_of(one) for message, one in self._left.items()}
         one_of = {message: min(one for one in same if self._is_left_out(one)).message for message, same in self._same.items()}
@@ -55,8 +55,8 @@ class Alike:
         found, waiting = {(of.copy, of.message): of}, [of]
         while waiting and len(found) < MOST_ALIKE and self._looks < MOST_LOOKED_AT:
             one = waiting.pop()
-            for last, copy, last_of_copy in self._judge.copies.beside(one.copy):
-                self._looks += 1
+            for last, copy, last_of_copy in self._judge.copies_in(one.copy.text).beside(one.copy):
+                self._looks, copy = self._looks + 1, copy._replace(text=one.copy.text)
                 if last == NO_HASH or self._judge.message_in(last, one.copy.seq) == one.message:
                     other = self._like(of.message, copy, last_of_copy)
                     if other and (copy, other.message) not in found:
@@ -71,21 +71,21 @@ class Alike:
 
     def _of(self, of: Copy) -> Iterator[Operation]:
         """The messages of an author, a site and a seq."""
-        who = of.site, of.author
+        who = of.site, of.author, of.text
         if who not in self._elsewhere:
             self._elsewhere[who] = {}
-            for entry in self._judge.not_counting(*who):
-                for message in entry.messages:
+            for entry in self._judge.not_counting(of.site, of.author):
+                for message in entry.messages if entry.text == of.text else ():
                     self._elsewhere[who].setdefault(message.seq, []).append(message)
         yield from self._elsewhere[who].get(of.seq, ())
         if self._judge.message_counts(*of):
-            yield self._judge.message(of.site, of.seq)
+            yield self._judge.message(*of[1:])
 
     def _parts(self, message: Operation) -> list[Operation]:
         """What was left out of what stands for a message in several parts, in their order, as the author says."""
         of, groups = self._left[message].copy, dict[Who, list[Operation]]()
-        for copy in self._judge.copies_of(*of, lambda old: old == message):
-            if copy in self._by_copy:
+        for copy in self._judge.copies_of(of.author, of.site, of.seq, lambda old: old == message, of.text):
+            if (copy := copy._replace(text=of.text)) in self._by_copy:
                 groups.setdefault((copy.site, copy.author), []).append(self._by_copy[copy])
         return next((parts for parts in groups.values() if len(parts) > 1 and b"".join(each.data for each in parts) == message.data), [])
 

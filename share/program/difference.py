@@ -11,6 +11,7 @@ from itertools import chain
 from typing import NamedTuple
 
 from share.admission.ledger import Branch
+from share.admission.lines import Path
 from share.format.history import Messages
 from share.program.site import Site
 from share.text.change import Change, make
@@ -91,28 +92,28 @@ def _common_ends(before: Messages, now: Messages) -> Callable[[int], float]:
     return lambda site: ends.get(site, 0.0)
 
 
-def _lines(messages: Messages) -> dict[int, tuple[Branch, int]]:
+def _lines(messages: Messages) -> dict[int, tuple[Branch | Path, int]]:
     """The line of each site whose messages are in entries, and the number of these."""
-    return {part.holder.site: (part.holder, part.end) for part in messages.parts() if isinstance(part.holder, Branch)}
+    return {part.holder.site: (part.holder, part.end) for part in messages.parts() if isinstance(part.holder, Branch | Path)}
 
 
 def _in_no_entry(messages: Messages) -> Iterator[Names]:
     """What those messages insert that are in no entry yet."""
     for part in messages.parts():
-        if not isinstance(part.holder, Branch):
+        if not isinstance(part.holder, Branch | Path):
             yield from (one.new for one in part.holder.between(part.begin, part.end) if one.new)
 
 
-def _common_end(old: tuple[Branch, int], new: tuple[Branch, int]) -> float:
+def _common_end(old: tuple[Branch | Path, int], new: tuple[Branch | Path, int]) -> float:
     """Up to which offset two histories of a site have the same characters."""
     (one, end), (other, other_end) = old, new
-    # Each entry has the hash of the one before it, so that what is the same is so up to one place.
-    low, high = 0, min(len(one), len(other))
-    while low < high:
-        middle = (low + high + 1) // 2
-        if one.ledger.hash(one.numbers[middle - 1]) == other.ledger.hash(other.numbers[middle - 1]):
-            low = middle
-        else:
-            high = middle - 1
-    last = min(one.lasts[low - 1] if low else 0, end, other_end)
+    last = min(_in_common(one, other), end, other_end)
     return next((each.at for each in one.between(last, end) if each.data), math.inf)
+
+
+def _in_common(one: Branch | Path, other: Branch | Path) -> int:
+    """How many of the first messages of two histories of a site are the same."""
+    if isinstance(one, Path) and isinstance(other, Path):
+        return one.shared(other, len(one))
+    assert isinstance(one, Branch) and isinstance(other, Branch)
+    return one.shared(other)

@@ -81,8 +81,8 @@ class Program:
     """A run of the program with one site, which is answered event by event. Its files are in a folder. Who waits for an
     answer of one that stands still is called."""
 
-    def __init__(self, site: int, folder: pathlib.Path | None = None, still: Callable[[], None] = lambda: None):
-        self.site, self.lines, self._still, self._has_answered = site, 0, still, False
+    def __init__(self, site: int, folder: pathlib.Path | None = None, still: Callable[[], None] = lambda: None, text: int = TEXT):
+        self.site, self.text_number, self.lines, self._still, self._has_answered = site, text, 0, still, False
         runs = command()
         words, self.is_unproved = [*runs, "--first", str(site), "--count", "1"], is_unproved(runs)
         # It may have been taken away meanwhile, and what isn't there is no place for files.
@@ -146,8 +146,8 @@ class Program:
         return bool(self._answers.poll(BETWEEN_LOOKS_SECONDS * 1_000)), False
 
     def event(self, verb: str, *words: int | bytes) -> bytes:
-        """An event of the site, of its one text."""
-        parts = [b"%d %s %d" % (self.site, verb.encode(), TEXT)]
+        """An event of the site, of its text."""
+        parts = [b"%d %s %d" % (self.site, verb.encode(), self.text_number)]
         parts += [b"%d" % word if isinstance(word, int) else word for word in words]
         return b" ".join(parts)
 

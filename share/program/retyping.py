@@ -11,10 +11,10 @@ from collections.abc import Iterable, Mapping, Sequence, Set
 from contextlib import closing
 from typing import NamedTuple
 
-from share.admission.chains import rank
-from share.admission.judge import Judge
+from share.admission.judges import judge_of
+from share.admission.judging import Judging
 from share.admission.ledger import Who
-from share.admission.left_out import LeftOut, not_copied
+from share.admission.left_out import LeftOut
 from share.format.entry import Author, Copied, Copy, Entry, Form
 from share.format.operation import Operation
 from share.program.alike import Alike, One
@@ -41,8 +41,6 @@ MOST_TOLD, MOST_NAMED = 100, 3
 LOOKING = 1
 # How many characters before what was left out are looked at first.
 LOOKED_AT = 64
-# A message by its author, site and seq.
-Made = tuple[bytes, int, int]
 
 
 class Lost(NamedTuple):
@@ -51,7 +49,7 @@ class Lost(NamedTuple):
     site: int
     author: bytes
     messages: list[Operation]
-    # The hash of the last entry that has some of them; the others are before it.
+    # What names the last of them, or of their entries; the others are before it.
     last: bytes
 
     @property
@@ -60,34 +58,29 @@ class Lost(NamedTuple):
         return b"".join(each.data for each in self.messages)
 
 
-def left_out(judge: Judge, anew: Set[Made] = frozenset()) -> list[LeftOut]:
+def left_out(judge: Judging, anew: Set[Copy] = frozenset()) -> list[LeftOut]:
     """Where text was left out, but for what its author knows to be made anew."""
     return [one for one in judge.left_out() if one.characters and not (
-        anew and all((one.author, one.site, seq) in anew for seq in range(one.first, one.last + 1)))]
+        anew and all(Copy(one.author, one.site, seq, one.text) in anew for seq in range(one.first, one.last + 1)))]
 
 
-def lost(judge: Judge, anew: Set[Made] = frozenset()) -> list[Lost]:
+def lost(judge: Judging, anew: Set[Copy] = frozenset()) -> list[Lost]:
     """The same, with the messages, also those that insert nothing: branch by branch, where an author went on twice."""
-    stretches: dict[Who, list[tuple[int, int]]] = {}
+    stretches: dict[tuple[int, bytes, int], list[tuple[int, int]]] = {}
     for one in left_out(judge, anew):
-        stretches.setdefault((one.site, one.author), []).append((one.first, one.last))
+        stretches.setdefault((one.site, one.author, one.text), []).append((one.first, one.last))
     found: list[Lost] = []
-    for (site, author), seqs in stretches.items():
+    for (site, author, text), seqs in stretches.items():
         wanted, known, branches = _merged(seqs), set[Operation](), dict[bytes, list[Operation]]()
-        for entry in sorted(judge.not_counting(site, author), key=lambda entry: entry.first):
-            messages = [message for message in _not_copied(entry, judge) if _is_in(message.seq, wanted) and message not in known
+        entries = (entry for entry in judge.not_counting(site, author) if entry.text == text)
+        for entry in sorted(entries, key=lambda entry: entry.first):
+            messages = [message for message in judge.not_copied(entry) if _is_in(message.seq, wanted) and message not in known
                         and not judge.is_let_through(message)]
             if messages:
                 known.update(messages)
-                branches[entry.hash] = branches.pop(entry.before, []) + messages
+                branches[entry.name] = branches.pop(entry.before, []) + messages
         found += [Lost(site, author, messages, last) for last, messages in sorted(branches.items(), key=lambda one: one[1][0].seq)]
     return found
-
-
-def _not_copied(entry: Entry, judge: Judge) -> list[Operation]:
-    """Those of an entry's messages for which no copy stands that counts. Those of another history may have the same seqs."""
-    seqs = {seq for one in not_copied(entry, 1, 0, judge.copies, judge) for seq in range(one.first, one.last + 1)}
-    return [message for message in entry.messages if message.seq in seqs]
 
 
 def _merged(stretches: Iterable[tuple[int, int]]) -> list[tuple[int, int]]:
@@ -114,7 +107,7 @@ class Totals:
         self._of = (0, 0)
         self._lines: list[Line] = []
 
-    def lines(self, judge: Judge, anew: Set[Made], own: Set[Who]) -> list[Line]:
+    def lines(self, judge: Judging, anew: Set[Copy], own: Set[Who]) -> list[Line]:
         """The lines, the most first."""
         found, of = judge.left_out(), (len(anew), len(own))
         if found is not self._found or of != self._of:
@@ -183,14 +176,14 @@ class Typed(NamedTuple):
     copies: list[tuple[One, Operation]]
 
 
-def type_again(found: Iterable[Lost], entries: Sequence[Entry], judge: Judge, site: Site) -> Typed:
-    """Types at a site, which has all that counts of these entries, what was left out."""
-    ones = [One(Copy(of.author, message.site, message.seq), message, of.last)
+def type_again(form: Form, found: Iterable[Lost], entries: Sequence[Entry], judge: Judging, site: Site) -> Typed:
+    """Types at a site, which has all that counts of these entries in a text, what was left out of that."""
+    ones = [One(Copy(of.author, message.site, message.seq, message.text), message, of.last)
             for of in found for message in of.messages if message.new]
     left = {one.message: one.copy.author for one in ones}
     made, edits, alike = dict[Operation, Operation](), list[Edited](), Alike(ones, judge)
     for _ in range(MOST_VIEWS):
-        view = _View(entries, judge, left)
+        view = _View(form, entries, judge, left, site.text_number)
         # Others may have the same names in each view.
         edits += _typed_as_seen(view, _Typist(site, made, alike.typed_for))
         left = {message: author for message, author in left.items() if message not in view.lost}
@@ -210,21 +203,22 @@ def words_of(copies: Iterable[tuple[One, Operation]], form: Form, author: Author
             stretches[-1] = seq, by, size + 1
         else:
             stretches.append((one.copy.seq, new.seq, 1))
-    return [form.copies(Copied(of, site, author.name, last.site, tuple(stretches[at:at + MOST_STRETCHES]), last.hash), author, last.site,
-                        before)
+    return [form.copies(Copied(of, site, author.name, last.site, tuple(stretches[at:at + MOST_STRETCHES]), last.name), author, last.site,
+                        before, last.text)
             for (of, site, before), stretches in found.items() for at in range(0, len(stretches), MOST_STRETCHES)]
 
 
 class _View:
     """The note as it was for those whose text was left out, as far as one view has it."""
 
-    def __init__(self, entries: Sequence[Entry], judge: Judge, left: Mapping[Operation, bytes]):
+    def __init__(self, form: Form, entries: Sequence[Entry], judge: Judging, left: Mapping[Operation, bytes], text: int):
+        self.text = text
         wanted = {(message.site, author) for message, author in left.items()}
         before = _with_those_before(entries, {
             entry.hash for who in wanted for entry in judge.not_counting(*who)
             if any(left.get(message) == entry.author for message in entry.messages)})
-        seen = Judge(entries, prefers=lambda entry: bytes([entry.hash not in before]) + rank(entry))
-        self.all = seen.count().messages
+        seen = judge_of(form, entries, prefers=lambda entry: bytes([entry.hash not in before]))
+        self.all = seen.let_through_in_order(text)
         others = [message for message in self.all if not judge.is_let_through(message)]
         # Those that are left out, in the order of their stamps; and the characters that are here alone, by their sites.
         self.lost = {message: None for message in sorted(others, key=lambda one: (one.stamp, one.site)) if message in left}
@@ -240,14 +234,16 @@ class _View:
 
 
 def _with_those_before(entries: Iterable[Entry], of: Set[bytes]) -> set[bytes]:
-    """These hashes, and those of the entries before them in their chains."""
-    before = {entry.hash: entry.before for entry in entries}
-    found: set[bytes] = set()
-    for one in of:
-        while one in before and one not in found:
-            found.add(one)
-            one = before[one]
-    return found
+    """These hashes, and those of the entries before them in their chains, and of their authors' claims."""
+    known = [*entries]
+    by_name, found, authors = {name: entry for entry in known for name in entry.names}, set[bytes](), set[Who]()
+    for one in known:
+        at: Entry | None = one if one.hash in of else None
+        while at and at.hash not in found:
+            found.add(at.hash)
+            authors.add((at.site, at.author))
+            at = by_name.get(at.before)
+    return found | {one.hash for one in known if one.kind.is_claim and (one.site, one.author) in authors}
 
 
 class _Root:
@@ -364,7 +360,7 @@ class _Typist:
 def _typed_as_seen(view: _View, typist: _Typist) -> list[Edited]:
     """Types what a view has, hides what was hidden of it there, and gives it its looks."""
     names = united(map(_new, view.lost))
-    with closing(Site(LOOKING, view.all)) as old:
+    with closing(Site(LOOKING, view.all, text=view.text)) as old:
         shown = [(stretch, one.site) for one, found in zip(names, old.where(names)) for stretch in found]
         looks = dressed(old.runs(), MOST_DRESSED)
         # All of it is shown here for a moment, so that its places are known.

@@ -13,7 +13,7 @@ from itertools import accumulate, chain, islice
 from typing import NamedTuple
 
 from share.format.history import Messages
-from share.format.operation import MOST_INSERTED, MOST_RANGES, Operation
+from share.format.operation import MOST_INSERTED, MOST_RANGES, TEXT, Operation
 from share.program.effects import Named, Stretch, stretches, changes_between
 from share.program.intake import Coming
 from share.program.process import MOST_LINES_READ, Ended, Program, escaped, text_in
@@ -66,10 +66,10 @@ class Lasting:
     """The program, of which a fresh run takes over where one ended, or has read all the lines that it reads. That one is given what
     the one before it was handed and made, which is a history."""
 
-    def __init__(self, number: int, folder: pathlib.Path | None, history: Messages, stands: Callable[[bool], None]):
+    def __init__(self, number: int, folder: pathlib.Path | None, history: Messages, stands: Callable[[bool], None], text: int):
         self._number, self._folder, self._history, self._stands, self._is_still = number, folder, history, stands, False
-        self._is_closed = False
-        self.run = Program(number, folder, self._stands_still)
+        self._is_closed, self._text = False, text
+        self.run = Program(number, folder, self._stands_still, text)
 
     @property
     def process(self) -> "subprocess.Popen[bytes]":
@@ -77,7 +77,7 @@ class Lasting:
         return self.run.process
 
     def event(self, verb: str, *words: int | bytes) -> bytes:
-        """An event of the site, of its one text."""
+        """An event of the site, of its text."""
         return self.run.event(verb, *words)
 
     def unpacking(self, chunks: Iterable[tuple[bytes, int]]) -> list[bytes]:
@@ -113,7 +113,7 @@ class Lasting:
         if self._is_closed:
             raise Trouble("The program was ended, since the note is being closed or taken in anew. All that was typed before is kept.")
         self.run.close()
-        self.run = Program(self._number, self._folder, self._stands_still)
+        self.run = Program(self._number, self._folder, self._stands_still, self._text)
         chunks = self._history.chunks()
         try:
             while some := [*islice(chunks, CHUNKS_AT_ONCE)]:
@@ -143,13 +143,13 @@ class Site:
 
     def __init__(self, number: int, messages: Iterable[Operation] = (), progress: Progress = lambda done: None,
                  folder: pathlib.Path | None = None, packed: Messages | None = None,
-                 stands: Callable[[bool], None] = lambda stands: None):
-        """A site with these messages, after those that its packed file has, which is in a folder. It is told at once that the
+                 stands: Callable[[bool], None] = lambda stands: None, text: int = TEXT):
+        """A site with these messages of a text, after those that its packed file has, which is in a folder. It is told at once that the
         program stands still, and that it answers again."""
-        self.number = number
-        # All that the program was handed and made.
-        self.history = Messages()
-        self._program = Lasting(number, folder, self.history, stands)
+        # What it was handed and made; and how many messages the note's other texts have.
+        self.number, self.text_number, self.history = number, text, Messages()
+        self.beside: Callable[[], int] = lambda: 0
+        self._program = Lasting(number, folder, self.history, stands, text)
         with ExitStack() as failing:
             failing.callback(self.close)
             self._program.see_that_it_knows_chunks()
@@ -284,7 +284,7 @@ class Site:
 
     def _sent(self, answers: list[list[bytes]]) -> Edited:
         """What an edit has made that was answered so."""
-        messages = [Operation.read(bytes.fromhex(line.split()[2].decode())) for answer in answers for line in answer[:-1]]
+        messages = [Operation.read(bytes.fromhex(line.split()[2].decode()), self.text_number) for answer in answers for line in answer[:-1]]
         self.history += messages
         refused = [int(answer[-1].split()[-1]) for answer in answers if answer[-1] != b"ok"]
         return Edited(messages, refused[0] if refused else None)
@@ -384,7 +384,7 @@ class Site:
         return self._sent(self._ask([self._program.event(verb, *words)]))
 
     def _full(self) -> int | None:
-        return TOO_MANY if is_full(len(self.history)) else None
+        return TOO_MANY if is_full(len(self.history) + self.beside()) else None
 
     def _ask(self, events: list[bytes]) -> list[list[bytes]]:
         return self._program.ask(events)

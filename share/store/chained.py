@@ -6,7 +6,7 @@ from collections.abc import Iterator, Sequence
 from typing import NamedTuple
 
 from share.admission.ledger import Chained
-from share.format.entry import HEAD, HEAD_WITHOUT_NOTE, WITH_MESSAGES, Bad, Form, Kind, digests
+from share.format.entry import HEAD_WITHOUT_NOTE, WITH_MESSAGES, Bad, FirstForm, Kind, digests
 from share.format.keystrokes import Keystrokes
 
 # What a row has: a place, a hash, the bytes, the body where it was unsealed, a sum of that, and whether it was made here.
@@ -16,7 +16,7 @@ LEAST_ROWS, LEAST_CHAINED = 16, 4
 OF_MESSAGES = frozenset(map(int, WITH_MESSAGES))
 
 
-def put_together(form: Form, keystrokes: Keystrokes, portion: Sequence[KeptEntry]) -> Iterator[Chained | Sequence[KeptEntry]]:
+def put_together(form: FirstForm, keystrokes: Keystrokes, portion: Sequence[KeptEntry]) -> Iterator[Chained | Sequence[KeptEntry]]:
     """Rows of a file in their order, those put together that follow one another; by themselves where not all of them are as they were
     written, or something of those that follow isn't right."""
     try:
@@ -39,7 +39,7 @@ def put_together(form: Form, keystrokes: Keystrokes, portion: Sequence[KeptEntry
         yield portion[between:]
 
 
-def _put_in_columns(form: Form, portion: Sequence[KeptEntry]) -> list[tuple[int, bytes, Chained]]:
+def _put_in_columns(form: FirstForm, portion: Sequence[KeptEntry]) -> list[tuple[int, bytes, Chained]]:
     """Those of some rows that follow one another: where they begin, and which of them are a letter. Raises an error where not all of the
     rows are as they were written."""
     hashes, raws, made = [one[1] for one in portion], [one[2] for one in portion], [bool(one[5]) for one in portion]
@@ -61,7 +61,7 @@ def _put_in_columns(form: Form, portion: Sequence[KeptEntry]) -> list[tuple[int,
     return found
 
 
-def _bodies(form: Form, portion: Sequence[KeptEntry], raws: Sequence[bytes]) -> list[bytes]:
+def _bodies(form: FirstForm, portion: Sequence[KeptEntry], raws: Sequence[bytes]) -> list[bytes]:
     """The bodies of some rows. Raises an error where one isn't as it was written."""
     bodies, sums = [one[3] for one in portion], [one[4] for one in portion]
     if has_bodies := bodies.count(None) < len(bodies):
@@ -84,9 +84,9 @@ class _Heads(NamedTuple):
     authors: Sequence[bytes]
 
 
-def _heads(form: Form, raws: Sequence[bytes]) -> _Heads:
+def _heads(form: FirstForm, raws: Sequence[bytes]) -> _Heads:
     """The heads of entries; raises an error where one is cut short."""
-    size = HEAD.size + form.author_bytes
+    size = form.head_bytes
     if min(map(len, raws)) < size:
         raise ValueError("cut short")
     heads = struct.iter_unpack(f"{HEAD_WITHOUT_NOTE}{form.author_bytes}s", b"".join([raw[:size] for raw in raws]))

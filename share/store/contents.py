@@ -3,12 +3,14 @@ or made."""
 from contextlib import closing
 from typing import NamedTuple
 
-from share.admission.judge import Judge
+from share.admission.judges import judge_of
 from share.format.history import Messages
-from share.format.link import Link
+from share.format.operation import TEXT
+from share.format.second.key_link import AnyLink
 from share.program import replay, retyping
 from share.program.site import Site
 from share.store import nicknames, notes, read_only, renewal
+from share.store.founding import begun, in_rows
 from share.store.note_file import About
 from share.store.read_only import Judged, NoteText, Own, uncollected
 from share.store.with_log import keep_in, with_log
@@ -25,17 +27,17 @@ class Contents(NamedTuple):
     left_out: list[Line]
 
 
-def text_of_note(name: str, url: str | None, link: Link | None, password: str | None) -> NoteText:
+def text_of_note(name: str, url: str | None, link: AnyLink | None, password: str | None) -> NoteText:
     """The text of a note, and what is missing in it."""
     messages, missing, _ = contents_of(name, found_of(name, url, link, password))
     with closing(Site(replay.REPLAYING, messages)) as site:
         return NoteText(site.text(), missing)
 
 
-def contents_of(name: str, there: Judged) -> Contents:
-    """What counts of what there is of a note."""
+def contents_of(name: str, there: Judged, text: int = TEXT) -> Contents:
+    """What counts of a text of what there is of a note."""
     judge, path = there.judge, notes.path_of(name)
-    messages = judge.count().messages
+    messages = judge.let_through_in_order(text)
     own, names = read_only.own(path) if path.exists() else Own(), nicknames.known(name)
     missing = read_only.missing(judge, there.faults)
     if much := retyping.left_out(judge, own.anew):
@@ -46,18 +48,18 @@ def contents_of(name: str, there: Judged) -> Contents:
 
 
 @uncollected()
-def found_of(name: str, url: str | None, link: Link | None, password: str | None) -> Judged:
+def found_of(name: str, url: str | None, link: AnyLink | None, password: str | None) -> Judged:
     """What there is of a note, and what was wrong with it."""
     path = notes.path_of(name)
     if path.exists():
         here = read_only.judged(path)
     elif link:
-        about = About(link.form == "sealed", link.secret, link.url)
-        here = Judged(about, Judge(form=about.form()), [], set())
+        about = About(link.form == "sealed", link.secret, link.url, link.form_number)
+        here = Judged(about, judge_of(about.form()), [], set())
     elif kept := notes.of_before(name, url, password):
-        about = notes.about_new(None)
-        rows = notes.in_rows(about.form(), kept.messages)
-        return Judged(about, Judge(row.entry for row in rows), list(kept.left_out), set())
+        about = begun(None).about
+        rows = in_rows(about.form(), kept.messages)
+        return Judged(about, judge_of(about.form(), (row.entry for row in rows)), list(kept.left_out), set())
     else:
         raise Trouble(f"There is no note {name} here. To print one that isn't here, give its link.")
     notes.check_agreement(here.about, name, url, link)

@@ -7,7 +7,7 @@ from collections.abc import Collection, Container, Iterable, Iterator, Mapping, 
 from typing import NamedTuple
 
 from share.admission.ledger import Row, Chained
-from share.format.entry import CHUNKS, HEAD, MOST_AUTHOR_BYTES, MOST_BYTES, NO_HASH, ONE_BY_ONE, Bad, Entry, Form, Kind, digest
+from share.format.entry import MOST_BYTES, NO_HASH, Bad, Entry, EntryKind, FirstForm, Form, digest
 from share.format.keystrokes import Keystrokes
 from share.store.guarded import GuardedFile
 from share.store.chained import LEAST_ROWS, KeptEntry, put_together
@@ -24,10 +24,12 @@ AFTER_PLACE = "SELECT place, hash, raw, body, sum, made FROM entry WHERE place >
 GREATEST_PLACE = "SELECT coalesce(max(seq), 0) FROM sqlite_sequence WHERE name = 'entry'"
 ENDS = "SELECT (SELECT coalesce(max(place), 0) FROM entry), (SELECT coalesce(max(number), 0) FROM withdrawn)"
 AT_PLACE = "SELECT place, hash, raw, body, sum, made FROM entry WHERE place = ?"
-IN_SHORT = f"""SELECT place, hash, substr(raw, 1, {HEAD.size + MOST_AUTHOR_BYTES}), made, offered FROM entry
-               WHERE place > ? AND hash NOT IN (SELECT hash FROM withdrawn) ORDER BY place LIMIT ?"""
+IN_SHORT = """SELECT place, hash, substr(raw, 1, ?), made, offered FROM entry
+              WHERE place > ? AND hash NOT IN (SELECT hash FROM withdrawn) ORDER BY place LIMIT ?"""
+CLAIMS_MADE = """SELECT place, substr(raw, 1, ?) FROM entry WHERE made AND hex(substr(CAST(raw AS BLOB), 2, 1)) = ? AND
+                 hash NOT IN (SELECT hash FROM withdrawn) AND typeof(raw) = 'blob'"""
 OF_HASHES = "SELECT hash, place, made > offered FROM entry WHERE hash IN ({}) AND hash NOT IN (SELECT hash FROM withdrawn)"
-AFTER_HASHES = f"""SELECT place FROM entry WHERE substr(raw, {HEAD.size - len(NO_HASH) + 1}, {len(NO_HASH)}) IN ({{}})
+AFTER_HASHES = f"""SELECT place FROM entry WHERE substr(raw, ?, {len(NO_HASH)}) IN ({{}})
                    AND hash NOT IN (SELECT hash FROM withdrawn) LIMIT ?"""
 TAKEN_BACK = "SELECT number, place FROM withdrawn JOIN entry USING (hash) WHERE number > ? ORDER BY number"
 # What a log has after all counts, also where it was withdrawn here.
@@ -36,9 +38,9 @@ BACK = ("DELETE FROM entry WHERE hash IN (SELECT hash FROM withdrawn WHERE hash 
 ADDED = "SELECT count(*), coalesce(sum(made), 0), max(place) FROM entry WHERE place > ?"
 ADDED_ONE_BY_ONE = "SELECT place, hash, made FROM entry WHERE place > ? ORDER BY place"
 WITHDRAW = "INSERT OR IGNORE INTO withdrawn (hash) SELECT hash FROM entry WHERE hash = ? AND made AND NOT offered"
-# Of this person's edits. What the disk damaged may have another type.
-NEVER_OFFERED = f"""SELECT count(*) FROM entry WHERE made AND NOT offered AND hash NOT IN (SELECT hash FROM withdrawn) AND
-                    hex(substr(CAST(raw AS BLOB), 2, 1)) IN ({", ".join(f"'{kind:02X}'" for kind in (*CHUNKS, *ONE_BY_ONE))})"""
+# Of this person, by the bytes of their kinds. What the disk damaged may have another type.
+NEVER_OFFERED = """SELECT count(*) FROM entry WHERE made AND NOT offered AND hash NOT IN (SELECT hash FROM withdrawn) AND
+                   hex(substr(CAST(raw AS BLOB), 2, 1)) IN ({})"""
 OFFERED = "UPDATE entry SET offered = 1 WHERE place = ?"
 RAW_AT = "SELECT raw, hash FROM entry WHERE place = ? AND hash NOT IN (SELECT hash FROM withdrawn)"
 # Entries are read from the file in portions of this many, and asked for by no more hashes at once.
@@ -51,7 +53,7 @@ class Located(NamedTuple):
 
     place: int
     hash: bytes
-    kind: Kind
+    kind: EntryKind
     author: bytes
     made: bool
     offered: bool
@@ -63,7 +65,7 @@ class Entries:
     def __init__(self, file: GuardedFile, form: Form, sealed: bool):
         self._file, self._sql = file, file.sql
         self._form, self._sealed = form, sealed
-        self._keystrokes = Keystrokes()
+        self._looks = form.one_by_one()
         # How many were found damaged, and taken out.
         self.damaged = 0
 
@@ -122,10 +124,17 @@ class Entries:
     def places(self, after: int = 0, most: int = -1) -> list[Located]:
         """The places of the entries after one, without those that were withdrawn; all, or no more than this."""
         with self._file.reading():
-            found = self._sql.execute(IN_SHORT, (after, most)).fetchall()
+            found = self._sql.execute(IN_SHORT, (self._form.head_bytes, after, most)).fetchall()
         # What the disk damaged may have another type.
         return [Located(place, of, self._form.kind(head), self._form.author(head), bool(made), bool(offered))
-                for place, of, head, made, offered in found if isinstance(head, bytes) and len(head) >= HEAD.size]
+                for place, of, head, made, offered in found if isinstance(head, bytes) and len(head) == self._form.head_bytes]
+
+    def claims_made(self) -> list[tuple[int, int, bytes]]:
+        """The places of this person's claims that weren't withdrawn, their numbers and their authors."""
+        form = self._form
+        with self._file.reading():
+            found = self._sql.execute(CLAIMS_MADE, (form.head_bytes, f"{form.kind_of_claims:02X}")).fetchall()
+        return [(place, int.from_bytes(head[form.site_at:form.site_at + 2], "big"), form.author(head)) for place, head in found]
 
     def places_of(self, hashes: Iterable[bytes]) -> dict[bytes, int]:
         """The places of those of these entries that the file has and that weren't withdrawn."""
@@ -144,7 +153,7 @@ class Entries:
         if not hashes:
             return []
         with self._file.reading():
-            return [place for place, in self._sql.execute(AFTER_HASHES.format(_marks(hashes)), (*hashes, most))]
+            return [place for place, in self._sql.execute(AFTER_HASHES.format(_marks(hashes)), (self._form.before_at + 1, *hashes, most))]
 
     def many_at(self, places: Sequence[int]) -> int:
         """How many of these places have an entry."""
@@ -222,12 +231,18 @@ class Entries:
     def _rows_of(self, portion: Sequence[KeptEntry]) -> list[Sequence[Row]]:
         """What some rows are, those together that follow one another; where one isn't as it was written each by itself."""
         found: list[Sequence[Row]] = []
-        for one in put_together(self._form, self._keystrokes, portion) if len(portion) >= LEAST_ROWS else [portion]:
+        for one in self._put_together(portion):
             if isinstance(one, Chained):
                 found.append(one)
             elif rows := [row for kept in one if (row := self._row(*kept))]:
                 found.append(rows)
         return found
+
+    def _put_together(self, portion: Sequence[KeptEntry]) -> Iterable[Chained | Sequence[KeptEntry]]:
+        form, looks = self._form, self._looks
+        if len(portion) >= LEAST_ROWS and isinstance(form, FirstForm) and isinstance(looks, Keystrokes):
+            return put_together(form, looks, portion)
+        return [portion]
 
     def _portion(self, after: int, most: float) -> tuple[list[KeptEntry], int]:
         """The first of the entries after a place, as the file has them, and their bytes."""
@@ -244,11 +259,11 @@ class Entries:
             if digest(raw) == of and zlib.crc32(b"" if body is None else body) == check:
                 entry = self._form.reopened(raw, self._form.body(raw) if body is None else body, of)
                 # A version that didn't know these has kept whatever came.
-                types_on = (entry.kind in CHUNKS or entry.kind is Kind.COPIES) and self._keystrokes.type_on(entry)
+                types_on = (entry.kind.has_messages or entry.kind.says_copies) and self._looks.type_on(entry)
                 return Row(place, entry, bool(made), types_on)
         except (TypeError, ValueError, struct.error, Bad):
             pass
-        if isinstance(raw, bytes) and len(raw) >= HEAD.size and digest(raw) == of and self._form.kind(raw) is Kind.NEWER:
+        if isinstance(raw, bytes) and len(raw) >= self._form.head_bytes and digest(raw) == of and self._form.kind(raw).is_newer:
             # A newer version may keep it in another way, too.
             return None
         with self._file.transaction():
@@ -281,6 +296,11 @@ def entry_values(entry: Entry, made: bool, offered: bool, sealed: bool) -> tuple
     # Of all but numbers, words and byte arrays Python looks first how they are to be adapted, for longer than they take to be written.
     body = bytearray(entry.body) if sealed else None
     return (bytearray(entry.hash), bytearray(entry.raw), 0 if body is None else body, zlib.crc32(body or b""), int(made), int(offered))
+
+
+def never_offered(form: Form) -> str:
+    """The question how many of this person's edits a log was never offered."""
+    return NEVER_OFFERED.format(", ".join(f"'{kind:02X}'" for kind in form.kinds_of_messages))
 
 
 def _marks(values: Sequence[bytes]) -> str:

@@ -30,8 +30,8 @@ class GuardedFile:
     """A file that is of an application and has some tables. Whatever is asked of it by `sql` is asked within `reading` or `writing`, which
     say Unkept, Damaged or Changed."""
 
-    def __init__(self, path: pathlib.Path, application: int, tables: Collection[str]):
-        self.path, self._name, self._application = path, str(path), application
+    def __init__(self, path: pathlib.Path, applications: Collection[int], tables: Collection[str]):
+        self.path, self._name, self._applications = path, str(path), applications
         # Empty, SQLite would take it for a new one, and remove what belongs to it.
         if not path.exists() or not path.stat().st_size:
             raise Damaged(f"{path} isn't there" if not path.exists() else f"{path} is empty")
@@ -56,7 +56,7 @@ class GuardedFile:
 
     def _open(self, tables: Collection[str]) -> None:
         self.inode = inode_of(self.path)
-        if self.sql.application() != self._application:
+        if self.sql.application() not in self._applications:
             raise Damaged(f"{self.path} isn't a note's file")
         self.sql.safe()
         self.sql.keep_log_short(LOG_PAGES)
@@ -137,7 +137,7 @@ class GuardedFile:
             application = application_without_log(self.path)
         if found != "ok":
             raise Damaged(f"{self.path}: {found}")
-        if application != self._application:
+        if application not in self._applications:
             raise Damaged(f"{self.path} doesn't begin as a note's file")
 
     def is_in_place(self) -> bool:

@@ -14,33 +14,42 @@ from dataclasses import dataclass, replace
 
 from share.admission.ledger import Row
 from share.format.entry import NOTE_BYTES, Copy, Entry, Form, Plain, digest
+from share.format.second.claim import ZERO_BITS
+from share.format.second.form import PlainRecords, SealedRecords
 from share.log.folder import Inode, held, inode_of, make_folder
 from share.log.sqlite_file import SIDE_FILES, Busy, Malformed, SqliteFile, beside, set_aside
-from share.store.entries import ADD_ENTRY, ENTRIES_SCHEMA, NEVER_OFFERED, Entries, entry_values
+from share.store.entries import ADD_ENTRY, ENTRIES_SCHEMA, Entries, entry_values, never_offered
 from share.store.guarded import Damaged, GuardedFile, Unkept
 from share.store.locks import Locks
-from share.store.own import ADD_ANEW, ADD_CLIENT, OWN_SCHEMA, Anew, Client, OwnTables
+from share.store.own import ADD_CLIENT, OWN_SCHEMA, OWN_SCHEMA_OF_TEXTS, Anew, Client, OwnTables, add_anew, anew_values
 from share.text.errors import entries as many_entries
 
-# Tells a note's file from other files of SQLite, in its header.
-NOTE_APPLICATION = 0x56534E32
-NOTE_SCHEMA = f"CREATE TABLE about (name TEXT PRIMARY KEY, value BLOB NOT NULL); {ENTRIES_SCHEMA} {OWN_SCHEMA}"
+# Tells a note's file from other files of SQLite, in its header, by the note's form: who doesn't know the second one reads nothing of it.
+FIRST, SECOND = 1, 2
+NOTE_APPLICATIONS = {FIRST: 0x56534E32, SECOND: 0x56534E33}
+NOTE_SCHEMA = f"CREATE TABLE about (name TEXT PRIMARY KEY, value BLOB NOT NULL); {ENTRIES_SCHEMA}"
 NOTE_TABLES = "about", "entry", "withdrawn", "client", "anew"
 IN_DOUBT = "in doubt"
-# How long a sealed note's key is.
-SEALED_KEY_BYTES = 32
+# How long the key is of a note that is sealed, or of the second form.
+SECRET_KEY_BYTES = 32
+# Tests alone search for claims of fewer zeros: nobody else takes these for claims.
+ZERO_BITS_OF_TESTS = "VIALSHOAL_ZERO_BITS"
 
 
 @dataclass(frozen=True)
 class About:
-    """What note a file is of: its form with the key or identity, and where its log is, if anywhere."""
+    """What note a file is of: whether it is sealed, its key or identity, where its log is, if anywhere, and its form."""
 
     sealed: bool
     secret: bytes
     url: str = ""
+    form_number: int = FIRST
 
     def form(self) -> Form:
         """How its entries are spelled."""
+        if self.form_number == SECOND:
+            zero_bits = int(os.environ.get(ZERO_BITS_OF_TESTS, ZERO_BITS))
+            return SealedRecords(self.secret, zero_bits) if self.sealed else PlainRecords(self.secret, zero_bits)
         if not self.sealed:
             return Plain(self.secret)
         # Loaded where it is needed, since it needs a module that Python doesn't bring.
@@ -53,7 +62,7 @@ class Disk:
 
     def __init__(self, path: pathlib.Path):
         self.path = path
-        self._file = GuardedFile(path, NOTE_APPLICATION, NOTE_TABLES)
+        self._file = GuardedFile(path, NOTE_APPLICATIONS.values(), NOTE_TABLES)
         self._locks = Locks(path)
         try:
             with self._file.reading():
@@ -61,7 +70,7 @@ class Disk:
             self.form = self.about.form()
             self.inode = self._file.inode
             self.entries = Entries(self._file, self.form, self.about.sealed)
-            self.own = OwnTables(self._file)
+            self.own = OwnTables(self._file, self.about.form_number == SECOND)
             self._noted_of = noted_of(self.form, self.inode)
         except BaseException:
             self.close()
@@ -109,7 +118,7 @@ class Disk:
         return self._file.has_changed()
 
     def restore(self, rows: Mapping[bytes, Row], withdrawn: Iterable[bytes], hidings: Iterable[Copy] = (),
-                clients: Iterable[Client] = (), anew: Iterable[tuple[bytes, int, int]] = ()) -> None:
+                clients: Iterable[Client] = (), anew: Iterable[Copy] = ()) -> None:
         """Puts back what the file had, where it lacks it. A log may have been offered any of it."""
         with self._file.writing():
             self.own.restore(clients, anew, hidings)
@@ -178,7 +187,7 @@ class Disk:
     def unsent(self) -> int:
         """How many edits of this file's person aren't known to be in the log, as far as the file says."""
         with self._file.reading():
-            return unsent_of(self._file.sql)
+            return unsent_of(self._file.sql, self.form)
 
     def note_unsent(self, unsent: int, is_new: bool) -> None:
         """Notes, for who looks without the log, how many of the edits that it lacks it was offered: it may have been gone by then.
@@ -187,7 +196,7 @@ class Disk:
             noted = in_doubt_of(self._file.sql)
         if is_new or noted:
             with self._file.writing():
-                now = max(0, unsent - self._file.sql.one(NEVER_OFFERED))
+                now = max(0, unsent - self._file.sql.one(never_offered(self.form)))
                 self._file.sql.execute("INSERT OR REPLACE INTO about VALUES (?, ?)", (IN_DOUBT, now))
 
     def tidy(self, look: Callable[[], object]) -> None:
@@ -216,16 +225,16 @@ def about_of(file: SqliteFile) -> About:
     found = dict(file.execute("SELECT name, value FROM about"))
     if not {"sealed", "secret", "url"} <= found.keys():
         raise Damaged("it doesn't say which note it is of")
-    secret, url = found["secret"], found["url"]
-    size = SEALED_KEY_BYTES if found["sealed"] else NOTE_BYTES
-    if not isinstance(secret, bytes) or len(secret) != size or not isinstance(url, str):
+    secret, url, number = found["secret"], found["url"], found.get("form", FIRST)
+    size = SECRET_KEY_BYTES if found["sealed"] or number == SECOND else NOTE_BYTES
+    if not isinstance(secret, bytes) or len(secret) != size or not isinstance(url, str) or number not in NOTE_APPLICATIONS:
         raise Damaged("it doesn't say which note it is of")
-    return About(bool(found["sealed"]), secret, url)
+    return About(bool(found["sealed"]), secret, url, number)
 
 
-def unsent_of(file: SqliteFile) -> int:
+def unsent_of(file: SqliteFile, form: Form) -> int:
     """How many edits of a file's person aren't known to be in a log, as far as the file says."""
-    return file.one(NEVER_OFFERED) + in_doubt_of(file)
+    return file.one(never_offered(form)) + in_doubt_of(file)
 
 
 def in_doubt_of(file: SqliteFile) -> int:
@@ -246,11 +255,13 @@ def make_note(path: pathlib.Path, about: About, rows: Iterable[Row] = (), client
         with contextlib.closing(SqliteFile(new)) as file:
             file.execute("PRAGMA journal_mode = MEMORY")
             with file.transaction():
-                file.create(NOTE_SCHEMA, NOTE_APPLICATION)
+                has_texts = about.form_number == SECOND
+                file.create(f"{NOTE_SCHEMA} {OWN_SCHEMA_OF_TEXTS if has_texts else OWN_SCHEMA}", NOTE_APPLICATIONS[about.form_number])
                 file.executemany("INSERT INTO about VALUES (?, ?)", [
-                    ("sealed", int(about.sealed)), ("secret", about.secret), ("url", about.url)])
+                    ("sealed", int(about.sealed)), ("secret", about.secret), ("url", about.url)]
+                    + ([("form", about.form_number)] if about.form_number != FIRST else []))
                 file.executemany(f"INSERT {ADD_CLIENT}", (one.values() for one in clients))
-                file.executemany(f"INSERT {ADD_ANEW}", anew)
+                file.executemany(f"INSERT {add_anew(has_texts)}", anew_values(anew, has_texts))
                 file.executemany("INSERT INTO withdrawn (hash) VALUES (?)", ((one,) for one in withdrawn))
                 file.executemany(ADD_ENTRY, (entry_values(row.entry, row.made, offered, about.sealed) for row in rows))
             # Lets readers and a writer be at the file at once.

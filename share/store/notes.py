@@ -3,29 +3,26 @@ import contextlib
 import os
 import pathlib
 import re
-import secrets
 import time
-from collections.abc import Callable, Iterable, Iterator, Mapping, Sequence
+from collections.abc import Callable, Sequence
 from dataclasses import replace
 from itertools import chain, count
-from typing import NamedTuple
+from typing import Literal, NamedTuple
 
-from share.admission.judge import Judge
-from share.admission.ledger import Row
+from share.admission.judges import judge_of
 from share.admission.left_out import LeftOut
-from share.format.chunk import packed_in_parts
-from share.format.entry import GREATEST_SITE, NOTE_BYTES, Entry, Form
+from share.format.entry import Entry
 from share.format.history import Messages
 from share.format.link import Link, is_network
-from share.format.operation import Operation
+from share.format.second.key_link import AnyLink, KeyLink, is_origin
 from share.log.base import Unreachable
 from share.program import retyping
 from share.program.site import is_full
 from share.store import old, read_only
+from share.store.founding import begun
 from share.store.guarded import Damaged
-from share.store.note_file import About, Disk, make_note
+from share.store.note_file import FIRST, About, Disk, make_note
 from share.store.old import NOTE_NAME, Old
-from share.store.own import Client
 from share.store.renewal import say_so
 from share.store.with_log import with_log
 from share.text.errors import Trouble
@@ -76,14 +73,14 @@ class Renewed(NamedTuple):
     left_out: list[LeftOut]
 
 
-def open_note(name: str, url: str | None, link: Link | None, password: str | None = None,
-              tell: Callable[[str], None] = lambda words: None) -> Disk:
-    """The file of a note, which is made where it isn't there: as a link says, from a note of before, or new. Tells
+def open_note(name: str, url: str | None, link: AnyLink | None, password: str | None = None,
+              tell: Callable[[str], None] = lambda words: None, form_number: int | None = None) -> Disk:
+    """The file of a note, which is made where it isn't there: as a link says, from a note of before, or new, of a form. Tells
     what was left out."""
     path = path_of(name)
     try:
         if not path.exists():
-            for words in _make_first(name, path, url, link, password):
+            for words in _make_first(name, path, url, link, password, form_number or form_of_new()):
                 tell(words)
         disk = _named(name, path)
     except Damaged as why:
@@ -124,12 +121,14 @@ def link_to(name: str) -> str:
     if not about.url:
         raise Trouble(f"The note {name} is on this machine alone, and has no log to share it by. bin/note renew "
                       f"{name} --log URL copies it into one that is shared.")
-    return Link("sealed" if about.sealed else "plain", about.secret, about.url).spelled()
+    kind: Literal["plain", "sealed"] = "sealed" if about.sealed else "plain"
+    link: AnyLink = Link(kind, about.secret, about.url) if about.form_number == FIRST else KeyLink(kind, about.secret, about.url)
+    return link.spelled()
 
 
 def renew(name: str, url: str | None, password: str | None, called: str = "",
-          begins: Callable[[Messages], Messages] = lambda messages: messages) -> Renewed:
-    """Copies a note into a new one with a key of its own, under its name, or what is made of its messages; those who have
+          begins: Callable[[Messages], Messages] = lambda messages: messages, form_number: int = FIRST) -> Renewed:
+    """Copies a note into a new one of a form with a key of its own, under its name, or what is made of its messages; those who have
     the old one are told so by one of this name."""
     path = path_of(name)
     if path.exists():
@@ -151,7 +150,7 @@ def renew(name: str, url: str | None, password: str | None, called: str = "",
         raise Trouble(f"The note {name} has {len(messages):,} messages, as many as a note may have. So would a copy with its history, "
                       f"in which nothing could be typed. bin/note renew {name} --fresh makes a new note of its text.")
     beside = path.with_name(f".renewed.{os.getpid()}{NOTE_SUFFIX}")
-    _make_new(beside, about_new(url), by_site(messages))
+    make_note(beside, *begun(url, messages, form_number))
     try:
         before = _give_way(name, path) if path.exists() else None
         os.rename(beside, path)
@@ -205,14 +204,6 @@ def recover(folders: Sequence[pathlib.Path]) -> list[str]:
     return told or ["No note's file was found in these folders."]
 
 
-def about_new(url: str | None) -> About:
-    """What a new note is: sealed where its log is on a server."""
-    if url and is_network(url):
-        from share.format.sealed import new_key
-        return About(True, new_key(), url)
-    return About(False, secrets.token_bytes(NOTE_BYTES), url or "")
-
-
 def of_before(name: str, url: str | None, password: str | None) -> Old | None:
     """The messages of a note of the form of before, where there is one."""
     try:
@@ -236,35 +227,22 @@ def existing(name: str) -> pathlib.Path:
     return path
 
 
-def by_site(messages: Iterable[Operation]) -> dict[int, list[Operation]]:
-    """Messages of each site, in their order."""
-    found: dict[int, list[Operation]] = {}
-    for message in messages:
-        found.setdefault(message.site, []).append(message)
-    return {site: sorted(of_site, key=lambda one: one.seq) for site, of_site in found.items()}
+def form_of_new() -> int:
+    """Of which form new notes are."""
+    return int(os.environ.get("VIALSHOAL_FORM", FIRST))
 
 
-def in_rows(form: Form, messages: Mapping[int, Sequence[Operation]]) -> list[Row]:
-    """Entries of messages that were made elsewhere. Their numbers are claimed by authors whom nobody can be."""
-    return [row for site, of_site in messages.items() for row in _claim_and_entries(form, of_site, Client(site, form.new_author()))]
-
-
-def _claim_and_entries(form: Form, messages: Sequence[Operation], client: Client) -> Iterator[Row]:
-    """A claim, and entries of messages."""
-    last = form.claim(client.site, client.author)
-    yield Row(0, last, False)
-    for part in packed_in_parts(messages):
-        last = form.entry(last, part, client.author)
-        yield Row(0, last, False)
-
-
-def _make_first(name: str, path: pathlib.Path, url: str | None, link: Link | None, password: str | None) -> Sequence[str]:
+def _make_first(name: str, path: pathlib.Path, url: str | None, link: AnyLink | None, password: str | None,
+                form_number: int) -> Sequence[str]:
     """Makes a note's file; what was left out, in words."""
     if link:
-        make_note(path, About(link.form == "sealed", link.secret, url or link.url))
+        if is_origin(link.url):
+            raise Trouble(f"That note's log is at a server of pages, {link.url}, which this version can't reach. Open it there in a "
+                          "browser.")
+        make_note(path, About(link.form == "sealed", link.secret, url or link.url, link.form_number))
         return ()
     if not url and (kept := of_before(name, None, password)):
-        _make_new(path, about_new(None), kept.messages)
+        make_note(path, *begun(None, chain.from_iterable(kept.messages.values()), form_number))
         return kept.left_out
     told = []
     try:
@@ -276,25 +254,13 @@ def _make_first(name: str, path: pathlib.Path, url: str | None, link: Link | Non
         raise Trouble(f"The note {name} on this server is of the form of before, which isn't sealed, and is read only. "
                       f"bin/note renew {name} --log {url} copies it into a sealed one, for which you give the others "
                       f"the link; bin/note {name} --log {url} --print prints it.")
-    _make_new(path, about_new(url), {})
+    make_note(path, *begun(url, (), form_number))
     return told
 
 
-def _make_new(path: pathlib.Path, about: About, messages: Mapping[int, Sequence[Operation]]) -> None:
-    """Makes the file of a new note that has these messages."""
-    form = about.form()
-    free = [number for number in range(1, GREATEST_SITE + 1) if number not in messages]
-    # Nobody else has this note yet, so its first number can be typed under at once.
-    clients = [Client(secrets.choice(free), form.new_author(), stood=True)] if free else []
-    # Who has the link could claim a copied number, too. With its key what was written under it can be made anew then.
-    copied = [Client(site, form.new_author(), retired=True, copied=True) for site in messages]
-    rows = [row for one in copied for row in _claim_and_entries(form, messages[one.site], one)]
-    make_note(path, about, rows + [Row(0, form.claim(one.site, one.author), True) for one in clients], clients + copied)
-
-
-def check_agreement(about: About, name: str, url: str | None, link: Link | None) -> None:
+def check_agreement(about: About, name: str, url: str | None, link: AnyLink | None) -> None:
     """Looks whether what was given is of this note."""
-    if link and (link.form == "sealed", link.secret) != (about.sealed, about.secret):
+    if link and (link.form_number, link.form == "sealed", link.secret) != (about.form_number, about.sealed, about.secret):
         raise Trouble(f"The note {name} here is another one than the link's. Join it under another name.")
     if url and url != about.url and is_network(url) and not about.sealed:
         raise Trouble(f"The note {name} isn't sealed, and nothing goes to a server unsealed. bin/note renew {name} "
@@ -337,7 +303,7 @@ def _brought_back(name: str, about: About, entries: list[Entry], log: str | None
                 log = None if disk.about.url else log
                 gone = {of for _, of in disk.entries.withdrawn()}
                 disk.keep([entry for entry in entries if entry.hash not in gone], made=False)
-                judge = Judge(row.entry for row in disk.entries.rows() if row.entry.hash not in gone)
+                judge = judge_of(disk.form, (row.entry for row in disk.entries.rows() if row.entry.hash not in gone))
                 break
         except Damaged:
             continue

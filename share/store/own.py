@@ -3,6 +3,7 @@ from collections.abc import Iterable, Sequence
 from typing import NamedTuple
 
 from share.format.entry import Author, Copy
+from share.format.operation import TEXT
 from share.store.guarded import GuardedFile
 
 OWN_SCHEMA = """
@@ -11,12 +12,20 @@ OWN_SCHEMA = """
     CREATE TABLE anew (author BLOB NOT NULL, site INTEGER NOT NULL, seq INTEGER NOT NULL,
                        by_site INTEGER NOT NULL, by_seq INTEGER NOT NULL, PRIMARY KEY (author, site, seq));
 """
-ADD_CLIENT, ADD_ANEW = "INTO client VALUES (?, ?, ?, ?, ?)", "INTO anew VALUES (?, ?, ?, ?, ?)"
+# Of a note of several texts.
+OWN_SCHEMA_OF_TEXTS = OWN_SCHEMA.replace("by_seq INTEGER NOT NULL, PRIMARY KEY (author, site, seq)",
+                                         "by_seq INTEGER NOT NULL, text INTEGER NOT NULL, PRIMARY KEY (author, site, seq, text)")
+ADD_CLIENT, ADD_ANEW, ADD_ANEW_OF_TEXT = ("INTO client VALUES (?, ?, ?, ?, ?)", "INTO anew VALUES (?, ?, ?, ?, ?)",
+                                          "INTO anew VALUES (?, ?, ?, ?, ?, ?)")
 # Versions of before have no such tables, and leave them where they are.
 PACKED = """CREATE TABLE IF NOT EXISTS packed (site INTEGER PRIMARY KEY, digest BLOB NOT NULL, fronts BLOB NOT NULL)"""
 HIDING = """CREATE TABLE IF NOT EXISTS hiding (author BLOB NOT NULL, site INTEGER NOT NULL, seq INTEGER NOT NULL,
                                            PRIMARY KEY (author, site, seq))"""
 HIDE = "INSERT OR IGNORE INTO hiding VALUES (?, ?, ?)"
+HIDING_OF_TEXT = """CREATE TABLE IF NOT EXISTS hiding (author BLOB NOT NULL, site INTEGER NOT NULL, seq INTEGER NOT NULL,
+                                                   text INTEGER NOT NULL,
+                                                   PRIMARY KEY (author, site, seq, text))"""
+HIDE_OF_TEXT = "INSERT OR IGNORE INTO hiding VALUES (?, ?, ?, ?)"
 # What a client's row says of its number: it is gone on with, it was given up, or it is of a note that was copied into this
 # one. To a version of before the last two are the same.
 RETIRED, COPIED = 1, 2
@@ -51,13 +60,21 @@ class Anew(NamedTuple):
     seq: int
     by_site: int
     by_seq: int
+    text: int = TEXT
+
+    @property
+    def of(self) -> Copy:
+        """The message that was made anew."""
+        return Copy(self.author, self.site, self.seq, self.text)
 
 
 class OwnTables:
     """The tables of a person's own. What writes is called within a transaction, but for what says that it writes by itself."""
 
-    def __init__(self, file: GuardedFile):
-        self._file, self._sql = file, file.sql
+    def __init__(self, file: GuardedFile, has_texts: bool):
+        self._file, self._sql, self._has_texts = file, file.sql, has_texts
+        # What a message is named by, beside what is said of it.
+        self._columns = names_of_messages(has_texts)
 
     def clients(self) -> list[Client]:
         """The numbers of this person, in the order in which they were claimed."""
@@ -80,34 +97,35 @@ class OwnTables:
         with self._file.writing():
             self._sql.execute("UPDATE client SET stood = 1 WHERE site = ? AND author = ?", (client.site, client.author.name))
 
-    def anew(self) -> set[tuple[bytes, int, int]]:
-        """The author, site and seq of each message that another one stands for."""
+    def anew(self) -> set[Copy]:
+        """The messages that others stand for."""
         with self._file.reading():
-            return set(self._sql.execute("SELECT author, site, seq FROM anew"))
+            return {Copy(*one) for one in self._sql.execute(f"SELECT {self._columns} FROM anew")}
 
     def add_anew(self, anew: Sequence[Anew]) -> None:
         """Adds what was made anew; Overtaken where some of it was before."""
-        for edit in dict.fromkeys((one.author, one.site, one.seq) for one in anew):
-            if self._sql.one("SELECT count(*) FROM anew WHERE author = ? AND site = ? AND seq = ?", *edit):
-                raise Overtaken
-        self._sql.executemany(f"INSERT OR IGNORE {ADD_ANEW}", anew)
+        known = self.anew()
+        if any(one.of in known for one in anew):
+            raise Overtaken
+        self._sql.executemany(f"INSERT OR IGNORE {add_anew(self._has_texts)}", anew_values(anew, self._has_texts))
 
     def hidings(self) -> set[Copy]:
         """The messages made here that hide copies, or show them again."""
         with self._file.reading():
-            found = self._sql.execute("SELECT author, site, seq FROM hiding") if self._sql.has_tables(("hiding",)) else ()
+            found = self._sql.execute(f"SELECT {self._columns} FROM hiding") if self._sql.has_tables(("hiding",)) else ()
             return {Copy(*one) for one in found}
 
     def add_hidings(self, hidings: Iterable[Copy]) -> None:
         """Notes which messages hide copies, or show them again."""
         if found := [*hidings]:
-            self._sql.execute(HIDING)
-            self._sql.executemany(HIDE, found)
+            self._sql.execute(HIDING_OF_TEXT if self._has_texts else HIDING)
+            self._sql.executemany(HIDE_OF_TEXT if self._has_texts else HIDE, (tuple(one)[:4 if self._has_texts else 3] for one in found))
 
-    def restore(self, clients: Iterable[Client], anew: Iterable[tuple[bytes, int, int]], hidings: Iterable[Copy]) -> None:
+    def restore(self, clients: Iterable[Client], anew: Iterable[Copy], hidings: Iterable[Copy]) -> None:
         """Puts back what the file lacks of these."""
         self._sql.executemany(f"INSERT OR IGNORE {ADD_CLIENT}", (one.values() for one in clients))
-        self._sql.executemany(f"INSERT OR IGNORE {ADD_ANEW}", ((*one, 0, 0) for one in anew))
+        self._sql.executemany(f"INSERT OR IGNORE {add_anew(self._has_texts)}",
+                              anew_values((anew_of(one) for one in anew), self._has_texts))
         self.add_hidings(hidings)
 
     def packed(self, site: int) -> tuple[bytes, bytes] | None:
@@ -123,3 +141,23 @@ class OwnTables:
         with self._file.writing():
             self._sql.execute(PACKED)
             self._sql.execute("INSERT OR REPLACE INTO packed VALUES (?, ?, ?)", (site, of, fronts))
+
+
+def names_of_messages(has_texts: bool) -> str:
+    """The columns that say which message a row is of, in a note of several texts or of one."""
+    return "author, site, seq, text" if has_texts else "author, site, seq"
+
+
+def anew_of(one: Copy) -> Anew:
+    """What is known of a message alone that was made anew."""
+    return Anew(*one[:-1], 0, 0, one.text)
+
+
+def add_anew(has_texts: bool) -> str:
+    """How a row is added of what was made anew, in a note of several texts or of one."""
+    return ADD_ANEW_OF_TEXT if has_texts else ADD_ANEW
+
+
+def anew_values(anew: Iterable[Anew], has_texts: bool) -> list[tuple[object, ...]]:
+    """The rows."""
+    return [tuple(one) if has_texts else one[:-1] for one in anew]

@@ -11,11 +11,13 @@ from functools import partial
 from itertools import islice
 from typing import Any, NamedTuple, TypeVar
 
-from share.admission.judge import Judge
+from share.admission.judges import judge_of
+from share.admission.judging import Judging
 from share.admission.ledger import Chained, Row
 from share.admission.runs import runs
-from share.format.entry import Bad, Entry, Form, digest
+from share.format.entry import Bad, Copy, Entry, FirstForm, Form, OneByOne, digest
 from share.format.keystrokes import Keystrokes
+from share.format.operation import TEXT
 from share.log.folder import inode_of, undisturbed
 from share.log.sqlite_file import FAULTS, Busy, Malformed, SqliteFile
 from share.program.site import Site
@@ -23,9 +25,9 @@ from share.store.chained import KeptEntry, put_together
 from share.store.entries import GREATEST_PLACE
 from share.store.guarded import Damaged
 from share.store.locks import noted_beside, place_noted
-from share.store.note_file import NOTE_APPLICATION, About, about_of, noted_of, unsent_of
+from share.store.note_file import NOTE_APPLICATIONS, SECOND, About, about_of, noted_of, unsent_of
 from share.store.old import copied
-from share.store.own import COPIED
+from share.store.own import COPIED, names_of_messages
 from share.text.errors import NEWER, Trouble, entries
 
 Read = TypeVar("Read")
@@ -56,7 +58,7 @@ class Judged(NamedTuple):
     """What a note has, judged as it was read; what was wrong with it, in words; and the hashes of what the judge doesn't keep."""
 
     about: About
-    judge: Judge
+    judge: Judging
     faults: list[str]
     others: set[bytes]
 
@@ -99,11 +101,10 @@ class Faults:
 
 
 class Own(NamedTuple):
-    """What is of a person alone: the sites and authors of the numbers, and the author, site and seq of each message that
-    another one stands for."""
+    """What is of a person alone: the sites and authors of the numbers, and the messages that others stand for."""
 
     clients: set[tuple[int, bytes]] = set()
-    anew: set[tuple[bytes, int, int]] = set()
+    anew: set[Copy] = set()
 
 
 class NoteText(NamedTuple):
@@ -131,9 +132,13 @@ def own_sites(path: pathlib.Path) -> set[int]:
 def own(path: pathlib.Path) -> Own:
     """What a file has of its person alone, as far as that can be read."""
     with contextlib.suppress(Trouble):
-        return _with_file(path, lambda file: Own(set(file.execute(OWN_CLIENTS, (COPIED,))),
-                                                 set(file.execute("SELECT author, site, seq FROM anew"))))
+        return _with_file(path, _own)
     return Own()
+
+
+def _own(file: SqliteFile) -> Own:
+    anew = file.execute(f"SELECT {names_of_messages(about_of(file).form_number == SECOND)} FROM anew")
+    return Own(set(file.execute(OWN_CLIENTS, (COPIED,))), {Copy(*one) for one in anew})
 
 
 def found_in(path: pathlib.Path) -> FoundEntries:
@@ -151,13 +156,13 @@ def judged(path: pathlib.Path) -> Judged:
 
 def text_of(found: FoundEntries) -> NoteText:
     """What a note shows that has these entries."""
-    judge = Judge(found.entries)
-    messages = judge.count().messages
+    judge = judge_of(found.about.form(), found.entries)
+    messages = judge.let_through_in_order(TEXT)
     with contextlib.closing(Site(1, messages)) as site:
         return NoteText(site.text(), missing(judge, found.faults))
 
 
-def missing(judge: Judge, faults: Iterable[str]) -> list[str]:
+def missing(judge: Judging, faults: Iterable[str]) -> list[str]:
     """What doesn't count of a note in whose file these faults were found, in words."""
     told = list(faults)
     if judge.has_newer():
@@ -187,7 +192,7 @@ def entries_of(about_it: About, raws: list[bytes], of: str) -> tuple[list[Entry]
 
 def _about_and_unsent(file: SqliteFile) -> tuple[About, int]:
     about_it = about_of(file)
-    return about_it, unsent_of(file) if about_it.url else 0
+    return about_it, unsent_of(file, about_it.form()) if about_it.url else 0
 
 
 def _lost(path: pathlib.Path, noted: bytes, about_it: About, file: SqliteFile) -> list[str]:
@@ -204,15 +209,16 @@ def _found(file: SqliteFile, lacks: Lacking) -> FoundEntries:
 
 def _judged(file: SqliteFile, lacks: Lacking) -> Judged:
     about_it, broken, wrong = about_of(file), list[str](), Faults("the file")
-    form, keystrokes = about_it.form(), Keystrokes()
-    found = Judged(about_it, Judge(form=form), [], set())
+    form = about_it.form()
+    looks = form.one_by_one()
+    found = Judged(about_it, judge_of(form), [], set())
     rows = _rows_of(file, KEPT_COLUMNS, broken)
     while portion := [*islice(rows, JUDGED_AT_ONCE)]:
-        for one in put_together(form, keystrokes, portion):
+        for one in _put_together(form, looks, portion):
             if isinstance(one, Chained):
                 found.add_run(one)
             else:
-                found.add(_as_kept(form, keystrokes, one, wrong))
+                found.add(_as_kept(form, looks, one, wrong))
         found.judge.let_through()
     return found._replace(faults=broken + wrong.words() + lacks(about_it, file))
 
@@ -234,22 +240,29 @@ def _rows_of(file: SqliteFile, columns: str, broken: list[str]) -> Iterator[Any]
                 yield row
 
 
-def _as_kept(form: Form, keystrokes: Keystrokes, portion: Sequence[KeptEntry], wrong: Faults) -> Iterator[Row]:
+def _put_together(form: Form, looks: OneByOne, portion: Sequence[KeptEntry]) -> Iterable[Chained | Sequence[KeptEntry]]:
+    """Rows, those of the first form put together that follow one another."""
+    if isinstance(form, FirstForm) and isinstance(looks, Keystrokes):
+        return put_together(form, looks, portion)
+    return [portion]
+
+
+def _as_kept(form: Form, looks: OneByOne, portion: Sequence[KeptEntry], wrong: Faults) -> Iterator[Row]:
     """The entries of some rows, but those that are none."""
     for row in portion:
         try:
-            yield _opened_row(form, keystrokes, row)
+            yield _opened_row(form, looks, row)
         except Bad as why:
             wrong.add(why)
 
 
-def _opened_row(form: Form, keystrokes: Keystrokes, row: KeptEntry) -> Row:
+def _opened_row(form: Form, looks: OneByOne, row: KeptEntry) -> Row:
     """The entry of a row. One that isn't as it was kept is looked at as a stranger's is; Bad where it is none."""
     place, of, raw, body, check, _ = row
     try:
         if digest(raw) == of and zlib.crc32(b"" if body is None else body) == check:
             entry = form.reopened(raw, form.body(raw) if body is None else body, of)
-            return Row(place, entry, False, keystrokes.type_on(entry))
+            return Row(place, entry, False, looks.type_on(entry))
     except (TypeError, ValueError, struct.error):
         # The disk damaged it.
         pass
@@ -294,7 +307,7 @@ def _note_in(path: pathlib.Path, copy: pathlib.Path) -> SqliteFile:
     with undisturbed(copy.parent):
         file = SqliteFile(copy, writes=False, bounded=True)
         try:
-            if file.application() != NOTE_APPLICATION:
+            if file.application() not in NOTE_APPLICATIONS.values():
                 raise Trouble(f"{path} isn't a note's file.")
         except BaseException:
             file.close()

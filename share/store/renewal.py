@@ -9,7 +9,7 @@ from collections.abc import Iterable, Iterator, Mapping, Sequence, Set
 from contextlib import closing, suppress
 from typing import NamedTuple
 
-from share.admission.judge import Judge
+from share.admission.judging import Judging
 from share.format.history import Messages
 from share.format.operation import INSERT, Operation
 from share.format.presence import clean_name
@@ -45,15 +45,21 @@ class Fresh(NamedTuple):
 
 def fresh(messages: Messages, without: Set[int]) -> Fresh:
     """The text that messages show, typed anew, without what some sites typed of it."""
-    with closing(Site(LOOKING_SITE, messages)) as site:
-        text, runs = site.text(), site.runs()
-        names = site.names(0, len(text))
-    sizes: dict[int, int] = {}
+    made, sizes = Messages(), dict[int, int]()
+    for text in sorted({part.holder.text for part in messages.parts()}):
+        made += Messages(_typed_anew(_merged_stretches(_kept_of(messages.of_text(text), text, sizes, without)), text))
+    return Fresh(made, {site: size for site, size in sizes.items() if site not in without},
+                 {site: sizes.get(site, 0) for site in sorted(without)})
+
+
+def _kept_of(messages: Messages, text: int, sizes: dict[int, int], without: Set[int]) -> Iterator[Styled]:
+    """What is shown of a text, without what some sites typed; how much each has in it is added to their sizes."""
+    with closing(Site(LOOKING_SITE, messages, text=text)) as site:
+        data, runs = site.text(), site.runs()
+        names = site.names(0, len(data))
     for one in names:
         sizes[one.site] = sizes.get(one.site, 0) + one.length
-    kept = (one for one in _stretches(text, names, runs) if one.site not in without)
-    return Fresh(Messages(_typed_anew(_merged_stretches(kept))), {site: size for site, size in sizes.items() if site not in without},
-                 {site: sizes.get(site, 0) for site in sorted(without)})
+    return (one for one in _stretches(data, names, runs) if one.site not in without)
 
 
 def fresh_in_words(one: Fresh, names: Mapping[int, str]) -> str:
@@ -80,7 +86,7 @@ def say_so(path: pathlib.Path, name: str, password: str | None) -> None:
                 log.append([said.raw])
 
 
-def renewed_by(judge: Judge, own: Set[tuple[int, bytes]]) -> Line | None:
+def renewed_by(judge: Judging, own: Set[tuple[int, bytes]]) -> Line | None:
     """Who says that a note was renewed, as editors are told it; None where nobody does."""
     for who, name in judge.renewed():
         called = clean_name(name.decode("utf-8", "replace"))
@@ -132,14 +138,14 @@ def _merged_stretches(stretches: Iterable[Styled]) -> Iterator[Styled]:
         yield last._replace(data=bytes(data))
 
 
-def _typed_anew(stretches: Iterable[Styled]) -> Iterator[Operation]:
-    """Messages that type stretches one after the other."""
+def _typed_anew(stretches: Iterable[Styled], text: int) -> Iterator[Operation]:
+    """Messages that type stretches of a text one after the other."""
     seqs, lengths, stamp = dict[int, int](), dict[int, int](), 0
     before: tuple[Names, ...] = ()
     for site, looks, data in stretches:
         for part in split(data):
             seqs[site], stamp = seqs.get(site, 0) + 1, stamp + 1
             at = lengths.get(site, 0)
-            yield Operation(INSERT, site, seqs[site], stamp, 1, before, at, part, looks)
+            yield Operation(INSERT, site, seqs[site], stamp, 1, before, at, part, looks, text)
             lengths[site] = at + len(part)
             before = (Names(site, lengths[site] - 1, 1),)

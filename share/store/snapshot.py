@@ -10,10 +10,12 @@ import pathlib
 import struct
 from collections.abc import Mapping
 
-from share.admission.judge import Judge
+from share.admission.judging import Judging
 from share.admission.ledger import Branch
+from share.admission.lines import Path
 from share.format.entry import digest
 from share.format.history import Messages, Part
+from share.format.operation import TEXT
 from share.log.folder import make_folder
 from share.program.site import PACKED_NAME, Site
 from share.store.atomic import PRIVATE
@@ -24,54 +26,61 @@ from share.store.note_file import Disk
 MANY_NEW, AT_END, SHARE = 20_000, 1_000, 4
 # What a program that was killed as it wrote leaves in the folder.
 LEFT = ".file-of-a-text-that-is-not-whole-yet-*"
-# Of a site, how many messages the file has, and the hash of the entry that has the last of them.
+SITE_BITS = 16
+# Of a site, how many messages the file has, and what names the last of them.
 PACKED_FRONT = struct.Struct(">HI32s")
 
 
-def folder_of(disk: Disk, site: int) -> pathlib.Path | None:
-    """The folder of the packed file of a site of this person, which is made; None where it can't be."""
-    folder = _folder(disk, site)
+def folder_of(disk: Disk, site: int, text: int = TEXT) -> pathlib.Path | None:
+    """The folder of the packed file of a site of this person and a text, which is made; None where it can't be."""
+    folder = _folder(disk, site, text)
     with contextlib.suppress(OSError):
         make_folder(folder)
         return folder
     return None
 
 
-def _folder(disk: Disk, site: int) -> pathlib.Path:
-    return disk.path.with_suffix(".packed") / str(site)
+def _folder(disk: Disk, site: int, text: int) -> pathlib.Path:
+    return disk.path.with_suffix(".packed") / (str(site) if text == TEXT else f"{site}-{text}")
 
 
-def leave(disk: Disk, site: int) -> None:
+def _noted_as(site: int, text: int) -> int:
+    """By which number it is noted which packed file is the newest of a site and a text."""
+    return site + (text - TEXT << SITE_BITS)
+
+
+def leave(disk: Disk, site: int, text: int = TEXT) -> None:
     """Takes the folder away again, where no file is in it."""
     with contextlib.suppress(OSError):
-        folder = _folder(disk, site)
+        folder = _folder(disk, site, text)
         folder.rmdir()
         folder.parent.rmdir()
 
 
-def fronts_of(disk: Disk, judge: Judge, site: int, folder: pathlib.Path | None) -> dict[int, int]:
-    """How far a site's packed file goes, where it can be gone on from; else nothing."""
-    noted = disk.own.packed(site)
+def fronts_of(disk: Disk, judge: Judging, site: int, folder: pathlib.Path | None, text: int = TEXT) -> dict[int, int]:
+    """How far a site's packed file of a text goes, where it can be gone on from; else nothing."""
+    noted = disk.own.packed(_noted_as(site, text))
     try:
         if not (folder and noted and digest((folder / PACKED_NAME).read_bytes()) == noted[0]):
             return {}
         found = [*PACKED_FRONT.iter_unpack(noted[1])]
     except (OSError, struct.error):
         return {}
-    return {of: seq for of, seq, _ in found} if all(judge.entry_of(of, seq) == by for of, seq, by in found) else {}
+    return {of: seq for of, seq, _ in found} if all(judge.entry_of(of, seq, text) == by for of, seq, by in found) else {}
 
 
-def keep(disk: Disk, judge: Judge, site: Site) -> None:
+def keep(disk: Disk, judge: Judging, site: Site) -> None:
     """Writes a site's packed file anew, with all that the site has taken in, as far as there is room."""
-    folder = _folder(disk, site.number)
+    text = site.text_number
+    folder = _folder(disk, site.number, text)
     with contextlib.suppress(OSError):
         for left in folder.glob(LEFT):
             left.unlink()
         fronts = site.keep()
-        found = [(of, seq, judge.entry_of(of, seq)) for of, seq in fronts.items()]
+        found = [(of, seq, judge.entry_of(of, seq, text)) for of, seq in fronts.items()]
         if found and all(by for _, _, by in found):
             (folder / PACKED_NAME).chmod(PRIVATE)
-            disk.own.note_packed(site.number, digest((folder / PACKED_NAME).read_bytes()),
+            disk.own.note_packed(_noted_as(site.number, text), digest((folder / PACKED_NAME).read_bytes()),
                                  b"".join(PACKED_FRONT.pack(of, seq, by or b"") for of, seq, by in found))
 
 
@@ -79,7 +88,7 @@ def parted(messages: Messages, fronts: Mapping[int, int]) -> tuple[Messages, Mes
     """Those of messages that count that a packed file has, and the others."""
     within, beyond = Messages(), Messages()
     for part in messages.parts():
-        assert isinstance(part.holder, Branch)
+        assert isinstance(part.holder, Branch | Path)
         middle = min(max(part.begin, fronts.get(part.holder.site, 0)), part.end)
         within.add(Part(part.holder, part.begin, middle))
         beyond.add(Part(part.holder, middle, part.end))

@@ -1,6 +1,7 @@
 """Edits that are made here: each is kept in the note's file before anyone sees it."""
 from collections.abc import Callable, Sequence
 
+from share.admission.judging import Counted
 from share.format.chunk import packed_in_parts
 from share.format.entry import Copy, Entry, Form
 from share.format.operation import Operation
@@ -28,10 +29,14 @@ class OwnEdits:
 
     def __init__(self, file: OpenFile, holdings: Holdings, form: Form, numbers: Numbers, replica: Replica,
                  replicator: Replicator, notices: Notices):
+        self.text = replica.text
         self._file, self._holdings, self._form, self._numbers = file, holdings, form, numbers
         self._replica, self._replicator, self._notices = replica, replicator, notices
         # The last entry that was made here.
         self.last: Entry
+        # Called with what counts since an edit, and after another number was taken: each is of all texts.
+        self.elsewhere: Callable[[Counted], None] = lambda found: None
+        self.took_another: Callable[[], None] = lambda: None
         self.goes_on()
 
     @property
@@ -42,13 +47,13 @@ class OwnEdits:
     def goes_on(self) -> None:
         """Begins after the last entry of this editor's number, which may be none that anybody can claim."""
         own, judge = self._numbers.own, self._holdings.judge
-        self.last = judge.last(own.site) if judge.holder(own.site) else self._form.claim(own.site, own.author)
+        self.last = judge.last(own.site, self.text) if judge.holder(own.site) else self._form.claim(own.site, own.author)
 
     def make(self, edit: Callable[[Site], Edited], says: Says = lambda last: ()) -> Edited:
         """Makes an edit, and keeps its messages before anyone sees them, with what is said of them."""
         self.make_room()
         if not self._numbers.own.stood:
-            raise Trouble("Nothing can be typed here until the log has given this editor a number of its own.")
+            raise Trouble(self._numbers.why_none or "Nothing can be typed here until the log has given this editor a number of its own.")
         if self._replica.is_stale or self._holdings.is_anew():
             # What is typed would be said to build on what counts, and others than the user sees may count.
             raise Trouble("What counts of the note can't be shown yet. Type again as soon as it is.")
@@ -73,7 +78,7 @@ class OwnEdits:
         def work(site: Site) -> Edited:
             gone = self._holdings.withdrawn()
             here = [row.entry for row in self._holdings.rows.each() if row.entry.hash not in gone]
-            typed = retyping.type_again(found, here, self._holdings.judge, site)
+            typed = retyping.type_again(self._form, found, here, self._holdings.judge, site)
             copies.extend(typed.copies)
             return typed.edited
 
@@ -86,8 +91,7 @@ class OwnEdits:
         if not self._replica.is_stale and self._numbers.take_another_when_full(length):
             # What was read of the file meanwhile is looked at, and taken in, later.
             self._numbers.is_settled = False
-            self.goes_on()
-            self._replica.go_on_under_another_number()
+            self.took_another()
 
     def keep(self, messages: Sequence[Operation], anew: Sequence[Anew] = (),
              says: Says = lambda last: (), hidings: Sequence[Copy] = ()) -> None:
@@ -110,6 +114,7 @@ class OwnEdits:
         self._holdings.made_anew(anew, hidings)
         found = self._holdings.count()
         self._replica.made(messages, found)
+        self.elsewhere(found)
         if found.anew:
             self._numbers.is_settled = False
         self._replicator.made(places[len(places) - len(made):])
@@ -117,10 +122,11 @@ class OwnEdits:
     def _in_entries(self, messages: Sequence[Operation]) -> list[Entry]:
         """Messages as entries that follow the last one."""
         judge, own = self._holdings.judge, self._numbers.own
-        made, before = list[Entry](), self.last
-        for part in packed_in_parts(messages, judge.length(own.site)):
-            before = self._form.entry(before, part, own.author, judge.built_on(part.operations))
+        made, before, done = list[Entry](), self.last, list[Operation]()
+        for part in packed_in_parts(messages, judge.length(own.site, self.text)):
+            before = self._form.entry(before, part, own.author, judge.built_on(part.operations, done))
             made.append(before)
+            done += part.operations
         return made
 
     def _keep_or_go_back(self, messages: Sequence[Operation], says: Says, before: int) -> None:

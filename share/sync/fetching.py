@@ -4,8 +4,7 @@ from collections.abc import Sequence
 from contextlib import closing
 
 from share.admission.ledger import Row
-from share.format.entry import Bad, Form, before_of, digests
-from share.format.keystrokes import Keystrokes
+from share.format.entry import Bad, Form, digests
 from share.log.base import START, InLog, Log
 from share.program.trace import Traced, trace
 from share.store.note_file import Disk
@@ -40,7 +39,7 @@ class Fetcher:
         # When reading from the front began, and when it may begin again.
         self._began = self._reads_again = 0.0
         self._left_out: set[bytes | str] = set()
-        self._keystrokes = Keystrokes()
+        self._keystrokes = form.one_by_one()
 
     def progress(self) -> tuple[int, int] | None:
         """How much was read of what the log had when it was opened, until all of that was; None then, and before it
@@ -151,7 +150,7 @@ class Fetcher:
                 opened.append(Row(0, found, False, self._keystrokes.type_on(found)))
             except Bad as why:
                 self._leave_out(of, f"An entry of the log {why} and was left out.")
-                damaged.append(before_of(raws[of]))
+                damaged.append(self._form.before_of(raws[of]))
         return opened, damaged
 
     def _leave_out(self, what: bytes | str, words: str) -> None:

@@ -59,12 +59,11 @@ class Giver:
     def _claim(self, disk: Disk, log: Log, carried: Carried) -> None:
         """Gives the log the claims of this person before it was read, where the log can say which numbers are claimed: who
         is new can type then as soon as all was read that the log had. Other claims come after it was read."""
-        new = {self._form.claim(one.site, one.author).hash: one.site for one in disk.own.clients()
-               if not (one.stood or one.retired)}
-        places = disk.entries.places_of(new)
-        if carried.whole or not places or (taken := log.claimed()) is None:
+        own = {(one.site, one.author.name) for one in disk.own.clients() if not (one.stood or one.retired)}
+        new = {place: site for place, site, author in disk.entries.claims_made() if (site, author) in own} if own else {}
+        if carried.whole or not new or (taken := log.claimed(self._form.kind_of_claims, self._form.site_at)) is None:
             return
-        if free := [place for of, place in places.items() if new[of] not in taken]:
+        if free := [place for place, site in new.items() if site not in taken]:
             log.append(disk.entries.offer(free))
             trace(Traced.CLAIMS_GIVEN, entries=len(free))
             carried.gave(free)

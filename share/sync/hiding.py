@@ -5,12 +5,12 @@ Shown again is only what was hidden for this: never what a user has deleted. Wha
 since their disk may be gone.
 """
 import time
-from collections.abc import Iterable, Sequence
+from collections.abc import Iterable, Iterator, Sequence
 from itertools import chain
 from typing import NamedTuple
 
 from share.format.entry import Author, Copied, Copy, Entry, Form
-from share.format.operation import DELETE, RESTORE, Operation
+from share.format.operation import DELETE, RESTORE, TEXT, Operation
 from share.program.site import Edited, Told
 from share.program.trace import Traced, trace
 from share.store.guarded import Unkept
@@ -20,6 +20,7 @@ from share.sync.numbers import Numbers
 from share.sync.rebasing import Rebaser
 from share.sync.replica import Replica
 from share.sync.state import Holdings
+from share.sync.texts import OpenTexts
 from share.text.names import Name, Names, united, without
 
 
@@ -45,7 +46,7 @@ class Hider:
         is_due = self._hides_others is not None and time.monotonic() >= self._hides_others
         if fronts == (self._fronts or []) and not is_due or not self._may_hide():
             return []
-        names, before = wanted(self._holdings), len(self._replica.site.history)
+        names, before = wanted(self._holdings, self._replica.text), len(self._replica.site.history)
         try:
             told = self._hide(names, is_due)
         except BaseException as why:
@@ -73,11 +74,39 @@ class Hider:
         of_others, went = site.delete(one for _, one in names.of_others) if of_others_too else (Edited([]), [])
         shown, come = site.restore(names.shown)
         if messages := hidden.messages + of_others.messages + shown.messages:
-            self._edits.keep(messages, hidings=[Copy(author.name, one.site, one.seq) for one in messages],
+            self._edits.keep(messages, hidings=[Copy(author.name, one.site, one.seq, one.text) for one in messages],
                              says=lambda last: said_of_hidden(self._form, author, of_others.messages, names.of_others, last))
             trace(Traced.HIDDEN, messages=len(hidden.messages), of_others=len(of_others.messages), shown=len(shown.messages))
         told = [one for part in (gone, went, come) if isinstance(part, list) for one in part]
         return told if all(isinstance(part, list) for part in (gone, went, come)) else site.text()
+
+
+class Hiders:
+    """Hides and shows copies in all texts that are open. The editor's thread alone calls it."""
+
+    def __init__(self, holdings: Holdings, form: Form, numbers: Numbers, texts: OpenTexts, rebaser: Rebaser):
+        self._texts, self._known, self._rebaser = texts, (holdings, form, numbers), rebaser
+        self._hiders: dict[int, Hider] = {}
+
+    def hide(self) -> Told:
+        """Hides copies that aren't to be seen, or shows them again; what the first text has become."""
+        told: Told = []
+        for text, hider in self._each():
+            hidden = hider.hide()
+            told = hidden if text == TEXT else told
+        return told
+
+    def look_again(self) -> None:
+        """Looks at all again the next time, since the sites began anew."""
+        for _, hider in self._each():
+            hider.look_again()
+
+    def _each(self) -> Iterator[tuple[int, Hider]]:
+        for one in self._texts:
+            text = one.replica.text
+            if text not in self._hiders:
+                self._hiders[text] = Hider(*self._known, *one, self._rebaser)
+            yield text, self._hiders[text]
 
 
 class Wanted(NamedTuple):
@@ -89,24 +118,25 @@ class Wanted(NamedTuple):
     of_others: list[tuple[Copy, Names]]
 
 
-def wanted(holdings: Holdings) -> Wanted:
-    """What is to become of the copies that count: those that were made here, and those that others made."""
+def wanted(holdings: Holdings, text: int) -> Wanted:
+    """What is to become of the copies of a text that count: those that were made here, and those that others made."""
     hidden, shown, of_others, hidden_here = list[Names](), list[Names](), list[tuple[Copy, Names]](), list[Names]()
     judge, standing, recovered = holdings.judge, holdings.standing, holdings.recovered
     for copy, is_hidden in chain(standing.made_here(judge.entry_of, holdings.rows), recovered.made_here(judge)):
-        if (message := _made_here(holdings, copy)) and (names := message.new):
+        if copy.text == text and (message := _made_here(holdings, copy)) and (names := message.new):
             (hidden if is_hidden else shown).append(names)
     of_all = holdings.standing_for_all.made_by_all(judge.entry_of, judge.front_up_to)
     for copy, is_hidden in chain(of_all, recovered.made_by_others(judge)):
         # What was hidden here is shown again by who hid it.
-        if (is_hidden or holdings.hidings) and judge.message_counts(*copy) and not _made_here(holdings, copy):
-            if names := judge.message(copy.site, copy.seq).new:
+        if copy.text == text and (is_hidden or holdings.hidings) and judge.message_counts(*copy) and not _made_here(holdings, copy):
+            if names := judge.message(*copy[1:]).new:
                 of_others.append((copy, names)) if is_hidden else hidden_here.append(names)
-    own = [message for copy in holdings.hidings if (message := _made_here(holdings, copy))]
-    said_so = (judge.message(one.site, one.seq) for one in recovered.hidings if judge.message_counts(*one))
+    own = [message for copy in holdings.hidings if copy.text == text and (message := _made_here(holdings, copy))]
+    said_so = (judge.message(*one[1:]) for one in recovered.hidings if one.text == text and judge.message_counts(*one))
     hidings = own + [message for message in said_so if message.kind == DELETE]
     shown = _hidden_by(hidings, united(shown)) + _hidden_by(own, united(hidden_here))
-    return Wanted(united(hidden), _hidden_for_that_alone(holdings, hidings, united(shown)), of_others)
+    all_messages = holdings.judge.let_through_in_order(text) if shown else ()
+    return Wanted(united(hidden), _hidden_for_that_alone(all_messages, hidings, united(shown)), of_others)
 
 
 def said_of_hidden(form: Form, author: Author, made: Iterable[Operation], hidden: Iterable[tuple[Copy, Names]], last: Entry) -> list[Entry]:
@@ -118,7 +148,8 @@ def said_of_hidden(form: Form, author: Author, made: Iterable[Operation], hidden
         of = next((copy for copy, one in copies if _in_both([one], names)), None)
         if of and message.kind == DELETE:
             stretches = ((of.seq, message.seq, 1),)
-            found.append(form.copies(Copied(of.author, of.site, author.name, last.site, stretches, last.hash), author, last.site))
+            found.append(form.copies(Copied(of.author, of.site, author.name, last.site, stretches, last.name), author, last.site,
+                                     text=message.text))
     return found
 
 
@@ -126,7 +157,7 @@ def _made_here(holdings: Holdings, copy: Copy) -> Operation | None:
     """A copy, where it counts. Another disk may have written under its number, too."""
     if not holdings.judge.message_counts(*copy):
         return None
-    of = holdings.judge.entry_of(copy.site, copy.seq)
+    of = holdings.judge.entry_of(*copy[1:])
     if of is None or not holdings.rows[of].made:
         return None
     entry = holdings.rows[of].entry
@@ -138,11 +169,11 @@ def _hidden_by(hidings: Iterable[Operation], names: list[Names]) -> list[Names]:
     return _in_both(names, united(part for message in hidings for part in message.mentions)) if names else []
 
 
-def _hidden_for_that_alone(holdings: Holdings, hidings: Iterable[Operation], names: list[Names]) -> list[Names]:
+def _hidden_for_that_alone(all_messages: Iterable[Operation], hidings: Iterable[Operation], names: list[Names]) -> list[Names]:
     """Those of these characters that would be shown if no copy had ever been hidden, and aren't."""
     if not names:
         return []
-    messages = [message for message in holdings.judge.let_through_in_order() if message.kind in (DELETE, RESTORE)]
+    messages = [message for message in all_messages if message.kind in (DELETE, RESTORE)]
     made_for_that = {(message.site, message.seq) for message in hidings}
     would_be = _gone(names, (message for message in messages if (message.site, message.seq) not in made_for_that))
     return without([*_of(_gone(names, messages))], [*_of(would_be)])

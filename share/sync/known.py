@@ -3,7 +3,7 @@ import threading
 from collections.abc import Callable, Iterable, Sequence, Set
 
 from share.admission.ledger import Row
-from share.format.entry import NOT_UNDER_A_NUMBER, SAY_WHAT_BECAME, WITH_MESSAGES, Kind
+from share.format.entry import EntryKind
 from share.log.bell import Bell
 from share.log.folder import Inode
 from share.store.entries import Located
@@ -68,7 +68,7 @@ class Known:
         """Puts entries into the file, from where the editor's thread has them as they are here; their places."""
         before, rows = disk.receive(opened)
         if rows and carried.looked >= before:
-            own = [row.place for row in rows if row.made and row.entry.kind in WITH_MESSAGES]
+            own = [row.place for row in rows if row.made and row.entry.kind.has_messages]
             self._saw(disk, carried, rows[-1].place, own, {(row.entry.kind, row.entry.author) for row in rows if not row.made})
         self._handover.put(disk.inode, before, rows)
         places = [row.place for row in rows]
@@ -97,17 +97,17 @@ class Known:
     def may_give(self, one: Located) -> bool:
         """Whether an entry may be given. Where somebody else writes under a number of this person, nothing more is
         sent under it, but what may have been sent, and that it was rebased."""
-        return not one.made or one.offered or one.kind in SAY_WHAT_BECAME or one.author not in self._shared
+        return not one.made or one.offered or one.kind.says_what_became or one.author not in self._shared
 
     def _look_on(self, disk: Disk, carried: Carried) -> None:
         while self._has_log and (found := disk.entries.places(carried.looked, LOOKED_AT_ONCE)):
-            self._saw(disk, carried, found[-1].place, [one.place for one in found if one.made and one.kind in WITH_MESSAGES],
+            self._saw(disk, carried, found[-1].place, [one.place for one in found if one.made and one.kind.has_messages],
                       {(one.kind, one.author) for one in found if not one.made})
         if gone := disk.entries.taken_back(carried.withdrawn):
             carried.took_back(gone[-1][0], [place for _, place in gone])
 
-    def _saw(self, disk: Disk, carried: Carried, last: int, own_edits: Iterable[int], by_others: Set[tuple[Kind, bytes]]) -> None:
+    def _saw(self, disk: Disk, carried: Carried, last: int, own_edits: Iterable[int], by_others: Set[tuple[EntryKind, bytes]]) -> None:
         """Takes over what the file has up to a place: where this person's edits are, and the kinds and authors of what others made."""
         carried.found(last, own_edits)
-        if authors := {author for kind, author in by_others if kind not in NOT_UNDER_A_NUMBER}:
+        if authors := {author for kind, author in by_others if kind.is_under_a_number}:
             self._shared |= authors & {one.author.name for one in disk.own.clients()}

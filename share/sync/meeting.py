@@ -42,6 +42,8 @@ class Meeting:
         # What others have asked for; whether one couldn't say what it lacks; and from when on this is looked at again.
         self._lock = threading.Lock()
         self._wanted: dict[Lack, None] = {}
+        # The hashes of what others want and name otherwise, which the editor's thread knows.
+        self._found: list[bytes] = []
         self._is_asked, self._answers_again = False, 0.0
 
     def is_on(self, many: int) -> None:
@@ -97,18 +99,33 @@ class Meeting:
             for one in asked.lacks[:MOST_WANTED - len(self._wanted)]:
                 self._wanted[one] = None
             self._is_asked |= asked.all
+        if asked.lacks and self._form.names_messages:
+            self._wake()
         self.is_on(self.others.on)
 
     def answers(self, disk: Disk) -> tuple[list[int], bool]:
         """The places of what others lack, and whether the log is to be read for one that can't say what it lacks."""
         wanted, reads = self._take_wanted()
-        places = {*disk.entries.places_of([one.hash for one in wanted if one.way is Way.IT]).values()}
+        with self._lock:
+            found, self._found = self._found, []
+        places = {*disk.entries.places_of(found + [one.hash for one in wanted if one.way is Way.IT]).values()}
         return sorted(places | {*disk.entries.places_after([one.hash for one in wanted if one.way is Way.AFTER], WANTED_AT_ONCE)}), reads
+
+    def find(self, hash_of: Callable[[bytes], bytes | None]) -> None:
+        """Finds what others want and ask for by what names a message, where a file knows its entries by their hashes."""
+        if self._wanted and self._form.names_messages:
+            with self._lock:
+                found = {one: hash_of(one.hash) for one in self._wanted if one.way is Way.IT}
+                self._found += filter(None, found.values())
+                for one in found:
+                    del self._wanted[one]
 
     def _take_wanted(self) -> tuple[list[Lack], bool]:
         """What others want and is to be looked for now."""
         with self._lock:
-            wanted, later, reads = [*self._wanted], [one for one in self._wanted if one.way is Way.AFTER], False
+            # What is named by a message is found by the editor's thread.
+            later = [one for one in self._wanted if one.way is Way.AFTER or self._form.names_messages]
+            wanted, reads = [*self._wanted], False
             if (later or self._is_asked) and time.monotonic() >= self._answers_again:
                 self._answers_again = time.monotonic() + WHOLE_ANSWER_SECONDS
                 reads, self._is_asked, later = self._is_asked, False, []

@@ -8,13 +8,16 @@ from contextlib import suppress
 from share.admission.ledger import Who
 from share.format.entry import GREATEST_SITE, Form
 from share.format.operation import MOST_OF_A_SITE
+from share.format.second.form import RecordForm
 from share.program.trace import Traced, trace
 from share.store.guarded import Unkept
 from share.store.note_file import Disk
 from share.store.own import Client
+from share.sync.number_search import NONE_FOUND_YET, FoundNumber, NumberSearch
 from share.sync.open_file import OpenFile
 from share.sync.replicator import Replicator
-from share.sync.state import Holdings, ToRebase, who
+from share.sync.lost import ToRebase, who
+from share.sync.state import Holdings
 from share.text.errors import Trouble
 
 # The room that a number needs so that it is gone on with, and how edits are refused under one that is full.
@@ -38,11 +41,18 @@ class Numbers:
         # Whether this editor's number can make no more edits; and why it has none, where it has none.
         self.is_full, self.why_none = False, ""
         self._another_after = 0.0
+        # Where a number costs a search.
+        self.search = NumberSearch(form) if isinstance(form, RecordForm) else None
         # The numbers that were given up, or copied with the note, and that no other editor has.
         self._held: set[Who] = set()
         # What was made under them, is kept since others have it, and was let go for the log to be given it.
         self._let_go: set[bytes] = set()
         self.own = self.locked() or self.claimed()
+
+    @property
+    def has_one(self) -> bool:
+        """Whether this editor has a number; where one costs a search there may be none yet."""
+        return self.own.site != READING or not self.search
 
     def lock_again(self, disk: Disk) -> None:
         """Locks this editor's number in a file that has taken the other one's place."""
@@ -78,8 +88,11 @@ class Numbers:
 
     def claim(self, locks: bool = True, retired: Sequence[Client] = ()) -> Client:
         """A number that nobody has claimed as far as is known here, as others are given up. It is locked before other editors of this
-        person can see it, but where it is for one of them."""
+        person can see it, but where it is for one of them. Where it costs a search there is none yet, which Trouble says."""
         taken = self._holdings.judge.claimed()
+        if self.search:
+            self.search.begin(taken)
+            raise Trouble(NONE_FOUND_YET)
         free = [number for number in range(1, GREATEST_SITE + 1) if number not in taken]
         if not free:
             raise Trouble(f"All {GREATEST_SITE:,} numbers of this note are claimed. Copy it by bin/note renew.")
@@ -87,19 +100,35 @@ class Numbers:
         while locks and not self._file.disk.lock(site):
             site = secrets.choice(free)
         # Where there is no log nobody else can claim it.
-        client = Client(site, self._form.new_author(), stood=not self._has_log)
-        claim = self._form.claim(client.site, client.author)
-        self._file.mended(lambda: self._file.disk.keep([claim], True, client=client, retired=retired))
+        author = self._form.new_author()
+        return self._keep(FoundNumber(site, author, self._form.claim(site, author)), retired)
+
+    def _keep(self, found: FoundNumber, retired: Sequence[Client] = ()) -> Client:
+        client = Client(found.site, found.author, stood=not self._has_log)
+        self._file.mended(lambda: self._file.disk.keep([found.claim], True, client=client, retired=retired))
         self._holdings.clients[who(client)] = client
-        self._holdings.add([claim])
+        self._holdings.add([found.claim])
         self._holdings.gave_up(retired)
-        trace(Traced.NUMBER_CLAIMED, site=site)
+        trace(Traced.NUMBER_CLAIMED, site=found.site)
         return client
+
+    def take_found(self) -> bool:
+        """Keeps a number that was searched for; whether this editor, which had none, has it now."""
+        with suppress(Unkept, Trouble):
+            found = self.search.take(self._holdings.judge.claimed()) if self.search else None
+            if not found:
+                return False
+            is_for_this = self.own.site == READING and self._file.disk.lock(found.site)
+            client = self._keep(found)
+            if is_for_this:
+                self.own, self.why_none = client, ""
+                return True
+        return False
 
     def claims_in_log(self, replicator: Replicator) -> set[Who]:
         """The numbers that can't be typed under yet and whose claims were read in the log."""
         return {who(one) for one in self._holdings.clients.values() if not (one.stood or one.retired)
-                and replicator.stands(self._form.claim(one.site, one.author))}
+                and (claim := self._holdings.claim_of(one)) and replicator.stands(claim)}
 
     def look_at_claims(self, in_log: set[Who]) -> None:
         """Notes which of these claims have no other for their numbers before them."""
@@ -149,12 +178,19 @@ class Numbers:
         retired = [one for one in clients if not one.retired]
         if self.is_taken or who(self.own) in map(who, clients):
             # In one step: what is typed under a number that was given up would never be sent.
-            self.own, self.is_taken, self.is_full = self.claimed(retired), False, False
+            self.own, self.is_taken, self.is_full = self._another_as(retired), False, False
         else:
             self._retire(retired)
         for one in retired:
             trace(Traced.NUMBER_GIVEN_UP, site=one.site)
         return retired
+
+    def _another_as(self, retired: Sequence[Client]) -> Client:
+        """Another number, as some are given up. Where one costs a search there is a spare one, which was claimed in advance."""
+        if self.search and (spare := self.locked()):
+            self._retire(retired)
+            return spare
+        return self.claimed(retired)
 
     def _retire(self, clients: Sequence[Client]) -> None:
         if clients:
@@ -193,7 +229,8 @@ class Numbers:
         return False
 
     def _has_room(self, one: Client, needed: int) -> bool:
-        return self._holdings.judge.length(one.site) <= MOST_OF_A_SITE - needed
+        judge = self._holdings.judge
+        return all(judge.length(one.site, text) <= MOST_OF_A_SITE - needed for text in self._form.texts)
 
     def _another(self, needed: int) -> Client | None:
         """Another number, which can be typed under, has room and is no other editor's; one is claimed where there is

@@ -6,18 +6,18 @@ from collections.abc import Callable, Sequence
 from contextlib import ExitStack, suppress
 from typing import TypeVar
 
-from share.admission.judge import Counted
+from share.admission.judging import Counted
 from share.admission.ledger import Row
-from share.format.entry import Kind
 from share.format.history import Messages
 from share.log.folder import inode_of
 from share.program.intake import Pace
 from share.program.trace import Traced, trace
 from share.store.guarded import Changed, Damaged, Unkept
 from share.store.note_file import Disk, make_note
-from share.store.own import Anew
+from share.store.own import anew_of
 from share.store.read_only import found_in
-from share.sync.state import Holdings, who
+from share.sync.lost import who
+from share.sync.state import Holdings
 from share.sync.status import Notices
 from share.text.errors import NEWER, Trouble, entries
 
@@ -86,7 +86,7 @@ class OpenFile:
             self.unread = f"The note's file can't be read now ({why})."
             return []
         self.unread = None
-        if any(run[0].entry.kind is Kind.NEWER for run in new):
+        if any(run[0].entry.kind.is_newer for run in new):
             self._notices.tell_once(NEWER)
         if self.disk.entries.damaged:
             self._notices.tell(f"The disk has damaged {entries(self.disk.entries.damaged)} of the note's file. They are "
@@ -195,7 +195,7 @@ class OpenFile:
             return disk
         except Damaged:
             aside = make_note(path, self.disk.about, self._rows_and(path), holdings.clients.values(),
-                              [Anew(*one, 0, 0) for one in holdings.anew], holdings.withdrawn(), offered=True, damaged=inode)
+                              [anew_of(one) for one in holdings.anew], holdings.withdrawn(), offered=True, damaged=inode)
             self._notices.tell(f"The note's file was gone or damaged ({why}) and was written anew."
                                + (f" What was there is {aside}." if aside else ""))
             trace(Traced.FILE_WRITTEN_ANEW, entries=len(holdings.rows))

@@ -10,9 +10,10 @@ from contextlib import closing
 from itertools import chain
 from typing import NamedTuple
 
-from share.admission.judge import Judge
+from share.admission.judges import judge_of
+from share.admission.judging import Judging
 from share.admission.ledger import Row
-from share.format.entry import Copy, Entry, Form, Kind
+from share.format.entry import Copy, Entry, Form
 from share.format.operation import CHANGE_LOOKS, DELETE, RESTORE, Operation
 from share.program.alike import One
 from share.program.effects import Stretch
@@ -21,7 +22,8 @@ from share.program.site import Edited, Site
 from share.program.undo import looks_of
 from share.store.own import Anew
 from share.sync.standing import said_of_copies
-from share.sync.state import Holdings, ToRebase, who
+from share.sync.lost import ToRebase, who
+from share.sync.state import Holdings
 from share.text.errors import Refused
 from share.text.looks import DEFAULT, Dressed, dressed
 from share.text.names import Name, Names, united, without
@@ -57,14 +59,14 @@ class Rebased:
 
     def anew(self) -> list[Anew]:
         """What the note's file has of it for versions that don't know copies."""
-        return [Anew(entry.author, message.site, message.seq, self._last.site, min(seqs, default=0))
+        return [Anew(entry.author, message.site, message.seq, self._last.site, min(seqs, default=0), message.text)
                 for entry, message, seqs in self._each()
-                if (entry.author, message.site, message.seq) not in self._holdings.anew]
+                if Copy(entry.author, message.site, message.seq, message.text) not in self._holdings.anew]
 
     def hidings(self) -> list[Copy]:
         """Those of what was made that hide copies."""
-        return [Copy(self._last.author, self._last.site, seq) for entry, message, seqs in self._each()
-                if Copy(entry.author, message.site, message.seq) in self._holdings.hidings for seq in seqs]
+        return [Copy(self._last.author, self._last.site, seq, message.text) for entry, message, seqs in self._each()
+                if Copy(entry.author, message.site, message.seq, message.text) in self._holdings.hidings for seq in seqs]
 
     def copies(self, form: Form, last: Entry) -> list[Entry]:
         """The entries that say what stands for what, up to the last entry that was made. What stood for something else stands
@@ -73,7 +75,8 @@ class Rebased:
         for entry, message, seqs in self._each():
             pairs.setdefault(entry.hash, []).extend((message.seq, seq) for seq in seqs or [0])
             for of, old in holdings.standing.originals(entry, message.seq, holdings.rows):
-                if seqs or holdings.judge.entry_of(holdings.rows[of].entry.site, old) != of:
+                original = holdings.rows[of].entry
+                if seqs or holdings.judge.entry_of(original.site, old, original.text) != original.name_of(old):
                     pairs.setdefault(of, []).extend((old, seq) for seq in seqs or [0])
         said = said_of_copies(form, holdings.clients, holdings.rows, last, pairs, holdings.withdrawn())
         return said + words_of(self._typed_for_others(), form, holdings.clients[who(last)].author, last)
@@ -84,8 +87,8 @@ class Rebased:
         for entry, messages in self._lost:
             for message in messages if entry.size else ():
                 for new in self._made.get(message, ()):
-                    copy = Copy(entry.author, message.site, message.seq)
-                    for of, last in holdings.recovered.originals(copy, entry.hash, holdings.judge):
+                    copy = Copy(entry.author, message.site, message.seq, message.text)
+                    for of, last in holdings.recovered.originals(copy, entry.name_of(message.seq), holdings.judge):
                         yield One(of, message, last), new
 
 
@@ -108,7 +111,7 @@ def with_claims(rows: Sequence[Row], lost: Sequence[ToRebase]) -> set[bytes]:
     """The hashes of lost entries, and of the claims of those who made them."""
     whos = {who(one.entry) for one in lost}
     return {one.entry.hash for one in lost} | {row.entry.hash for row in rows
-                                               if row.entry.kind is Kind.CLAIM and who(row.entry) in whos}
+                                               if row.entry.kind.is_claim and who(row.entry) in whos}
 
 
 class _Differing(NamedTuple):
@@ -125,20 +128,20 @@ class _Differing(NamedTuple):
         return without(without(united(names), self.seen), self.counted)
 
 
-def rebase(rows: Sequence[Row], lost: Sequence[Operation], judge: Judge, site: Site,
+def rebase(form: Form, rows: Sequence[Row], lost: Sequence[Operation], judge: Judging, site: Site,
            first: Collection[bytes] = ()) -> list[Done]:
-    """Does at a site, which has all that counts, what remains of lost messages."""
+    """Does at a site, which has all that counts of a text, what remains of lost messages of that."""
     # These entries first, then what was made here, then what came first: so what was seen as these edits were made is found
     # again.
     order = {row.entry.hash: bytes([row.entry.hash not in first, not row.made]) + row.place.to_bytes(8, "big")
              for row in rows}
-    before = Judge((row.entry for row in rows), prefers=lambda entry: order[entry.hash])
-    seen = before.count().messages
+    before = judge_of(form, (row.entry for row in rows), prefers=lambda entry: order[entry.hash])
+    seen = before.let_through_in_order(site.text_number)
     seen_ones = {(message.site, message.seq): message for message in seen}
     here = [message for message in lost if seen_ones.get((message.site, message.seq)) == message]
     gone = [message for message in lost if seen_ones.get((message.site, message.seq)) != message]
-    differing = _differing(seen, judge)
-    with closing(Site(lost[0].site, seen)) as old:
+    differing = _differing(seen, judge.let_through_in_order(site.text_number))
+    with closing(Site(lost[0].site, seen, text=site.text_number)) as old:
         hidden = [*_hidden(here, differing, old)]
         done = [*_restored(here, differing, old, site)]
         typed = _typed(here, old)
@@ -152,9 +155,9 @@ def rebase(rows: Sequence[Row], lost: Sequence[Operation], judge: Judge, site: S
     return done + [Done(message, None) for message in lost if message not in made]
 
 
-def _differing(seen: Sequence[Operation], judge: Judge) -> _Differing:
+def _differing(seen: Sequence[Operation], now: Sequence[Operation]) -> _Differing:
     """The names of what messages speak of that count in one of the texts alone."""
-    counted = {(message.site, message.seq): message for message in judge.let_through_in_order()}
+    counted = {(message.site, message.seq): message for message in now}
     only_seen = [message for message in seen if counted.get((message.site, message.seq)) != message]
     for message in seen:
         if counted.get((message.site, message.seq)) == message:

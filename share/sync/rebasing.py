@@ -6,19 +6,19 @@ from contextlib import suppress
 
 from share.format.entry import Form
 from share.format.history import Messages
-from share.format.operation import Operation
+from share.format.operation import TEXT
 from share.program.trace import Traced, trace
 from share.store.guarded import Unkept
 from share.store.own import Client, Overtaken
 from share.sync.backoff import Turns, told_of_edits, told_of_numbers
-from share.sync.edits import OwnEdits
 from share.sync.numbers import FULL, Numbers
 from share.sync.open_file import OpenFile
 from share.sync.rebase import Rebased, at_once, length_of, rebase, with_claims
-from share.sync.replica import Replica
 from share.sync.replicator import Replicator
-from share.sync.state import Holdings, ToRebase
+from share.sync.lost import ToRebase
+from share.sync.state import Holdings
 from share.sync.status import Notices
+from share.sync.texts import OpenTexts
 from share.text.errors import Refused, Trouble, counted
 
 # The pause before what couldn't be rebased is tried again.
@@ -28,10 +28,10 @@ REBASE_AGAIN_SECONDS = 5
 class Rebaser:
     """Gives up numbers that can't be gone on with, and rebases what doesn't count. The editor's thread alone calls it."""
 
-    def __init__(self, file: OpenFile, holdings: Holdings, form: Form, numbers: Numbers, replica: Replica,
-                 edits: OwnEdits, replicator: Replicator, notices: Notices):
+    def __init__(self, file: OpenFile, holdings: Holdings, form: Form, numbers: Numbers, texts: OpenTexts, replicator: Replicator,
+                 notices: Notices):
         self._file, self._holdings, self._form, self._numbers = file, holdings, form, numbers
-        self._replica, self._edits, self._replicator, self._notices = replica, edits, replicator, notices
+        self._texts, self._replicator, self._notices = texts, replicator, notices
         self._turns, self._again = Turns(), 0.0
         # What was told last of what couldn't be rebased.
         self._trouble: str | None = None
@@ -61,12 +61,12 @@ class Rebaser:
         comes. `anew` has all messages that count where the site has some that don't. Whether the site began anew."""
         holdings, may = self._holdings, has_read and self.may_write()
         broken = self._given_up() if may else []
-        is_due = may and self._turns.is_due()
-        if is_due or self._replica.site.number != self._replica.number or holdings.is_anew():
+        is_due = may and self._numbers.has_one and self._turns.is_due()
+        if is_due or self._texts.has_other_number() or holdings.is_anew():
             found = holdings.count()
             anew = found.messages if found.anew else holdings.judge.let_through_in_order()
         if anew is not None:
-            self._replica.begin_anew(anew)
+            self._texts.begin_anew(anew)
         if is_due:
             self._rebase(broken)
         elif broken:
@@ -97,7 +97,7 @@ class Rebaser:
                 self._replicator.read_from_front()
             given_up = numbers.give_up(broken)
             if numbers.own.site != number:
-                self._edits.goes_on()
+                self._texts.goes_on()
             own, others = bool(numbers.lost(own=True)), bool(numbers.lost(own=False))
             self._turns.found(own, others)
             if not (own or others):
@@ -112,18 +112,18 @@ class Rebaser:
             raise
 
     def _rebase(self, broken: Sequence[Client]) -> None:
-        """Rebases, under this number, what was made under others and doesn't count, and whose turn it is. Where that can't be all is as if
-        nothing had been made, and it is tried again later: what is lost is found again by what counts."""
-        own = self._turns.is_own_due()
+        """Rebases, under this number, what was made under others and doesn't count, and whose turn it is. Where that can't be all of a text is
+        as if nothing had been made, and it is tried again later: what is lost is found again by what counts."""
+        own, many = self._turns.is_own_due(), 0
         lost, is_all = at_once(self._numbers.lost(own))
-        messages = [*dict.fromkeys(message for one in lost for message in one.messages)]
         try:
-            made = self._keep_rebased(lost, messages, own)
+            for text in sorted({one.entry.text for one in lost}) or [TEXT]:
+                many += self._rebase_in(text, [one for one in lost if one.entry.text == text], own)
         except Overtaken:
             # Another editor of this person was quicker.
             self._numbers.is_settled = False
             self._file.read_own()
-            self._replica.begin_anew(self._holdings.judge.let_through_in_order())
+            self._texts.begin_anew(self._holdings.judge.let_through_in_order())
         except (Unkept, Trouble, Refused) as why:
             self._rebase_later(why)
             self._say_that_it_waits(broken)
@@ -131,20 +131,20 @@ class Rebaser:
             self._turns.failed()
             raise
         else:
-            trace(Traced.REBASED, messages=len(messages), made=made, own=own)
-            self._say_what_was_made(broken, len(messages), own, is_all)
+            self._say_what_was_made(broken, many, own, is_all)
 
-    def _keep_rebased(self, lost: Sequence[ToRebase], messages: Sequence[Operation], own: bool) -> int:
-        """Does again what remains of lost messages, and keeps it; how many messages that makes."""
-        holdings = self._holdings
+    def _rebase_in(self, text: int, lost: Sequence[ToRebase], own: bool) -> int:
+        """Does again what remains of lost messages of a text, and keeps it; how many were lost."""
+        holdings, (replica, edits) = self._holdings, self._texts[text]
         rows = [*holdings.rows.each()]
-        self._edits.make_room(length_of(messages))
-        done = rebase(rows, messages, holdings.judge, self._replica.site,
-                      () if own else with_claims(rows, lost)) if lost else []
-        rebased = Rebased(holdings, lost, done, self._edits.last)
-        self._edits.keep([one.new for one in done if one.new], rebased.anew() if own else (),
-                         lambda last: rebased.copies(self._form, last), rebased.hidings())
-        return len(done)
+        messages = [*dict.fromkeys(message for one in lost for message in one.messages)]
+        edits.make_room(length_of(messages))
+        done = rebase(self._form, rows, messages, holdings.judge, replica.site, () if own else with_claims(rows, lost)) if lost else []
+        rebased = Rebased(holdings, lost, done, edits.last)
+        edits.keep([one.new for one in done if one.new], rebased.anew() if own else (),
+                   lambda last: rebased.copies(self._form, last), rebased.hidings())
+        trace(Traced.REBASED, messages=len(messages), made=len(done), own=own)
+        return len(messages)
 
     def _rebase_later(self, why: Exception) -> None:
         """As if nothing had been made; it is tried again later, and ever later where no room on the disk is all that it lacks."""
@@ -153,7 +153,7 @@ class Rebaser:
         if isinstance(why, Refused) and why.number in FULL:
             self._numbers.is_full = True
         self.later(why)
-        self._replica.begin_anew(self._holdings.judge.let_through_in_order())
+        self._texts.begin_anew(self._holdings.judge.let_through_in_order())
 
     def _say_what_was_made(self, broken: Sequence[Client], many: int, own: bool, is_all: bool) -> None:
         """Notes and tells what was rebased."""

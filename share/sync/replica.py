@@ -4,10 +4,11 @@ import pathlib
 from collections.abc import Callable, Sequence
 from contextlib import closing, suppress
 
-from share.admission import ledger
-from share.admission.judge import Counted
+from share.admission.judging import Counted
+from share.admission.ledger import Branch
+from share.admission.lines import Path
 from share.format.history import Messages, Part
-from share.format.operation import Operation
+from share.format.operation import TEXT, Operation
 from share.program.difference import Shown, differences, shown_by
 from share.program.intake import Coming
 from share.program.site import SLICE, Progress, Site, Told
@@ -26,9 +27,10 @@ MOST_SHOWN_AGAIN = 5_000
 
 
 class Replica:
-    """Owns the site of a session. The editor's thread alone calls it."""
+    """Owns the site of a session, of one text. The editor's thread alone calls it."""
 
-    def __init__(self, file: OpenFile, holdings: Holdings, numbers: Numbers, bar: Bar):
+    def __init__(self, file: OpenFile, holdings: Holdings, numbers: Numbers, bar: Bar, messages: Messages, text: int = TEXT):
+        self.text = text
         self._file, self._holdings, self._numbers, self._bar = file, holdings, numbers, bar
         # Told as soon as the program stands still, and as it answers again.
         self.stands: Callable[[bool], None] = lambda stands: None
@@ -43,8 +45,11 @@ class Replica:
         self._is_told = True
         # How many messages the snapshot has.
         self.packed = 0
-        messages = holdings.count().messages
+        messages = messages.of_text(text)
         self.site = self._new_site(messages, lambda done: bar(done, len(messages)))
+
+    def _all_that_counts(self) -> Messages:
+        return self._holdings.judge.let_through_in_order(self.text)
 
     @property
     def number(self) -> int:
@@ -56,7 +61,7 @@ class Replica:
         return bool(self._coming)
 
     def comes(self, messages: Messages) -> None:
-        """Adds messages that count to what is to be taken in."""
+        """Adds messages of the text that count to what is to be taken in."""
         if not self._coming:
             self._came, self._has_own = 0, False
         self._came += len(messages)
@@ -78,7 +83,7 @@ class Replica:
     def made(self, messages: Sequence[Operation], found: Counted) -> None:
         """Takes over what counts, after messages that the site made were kept."""
         own, others = Messages(), Messages()
-        for part in found.messages.parts():
+        for part in found.messages.of_text(self.text).parts():
             (own if self._is_own(part) else others).add(part)
         if others:
             self.comes(others)
@@ -91,7 +96,7 @@ class Replica:
         self.is_stale |= found.anew
 
     def begin_anew(self, messages: Messages) -> None:
-        """Begins another site, under the number of now, with these messages, which are all that count."""
+        """Begins another site, under the number of now, with these messages, which are all that count of the text."""
         trace(Traced.SITE_BEGUN_ANEW, messages=len(messages))
         self._coming = Coming()
         with suppress(Trouble):
@@ -102,11 +107,12 @@ class Replica:
     def go_on_under_another_number(self) -> None:
         """Goes on under the number of now with all that the site has."""
         history, self.packed = self.site.history, 0
-        if len(history) != len(self._holdings.judge.let_through_in_order()):
+        if len(history) != len(self._all_that_counts()):
             # Some of it may be of the new number.
             self.is_stale = True
             return
-        self._replace(lambda: Site(self.number, history, folder=self._folder(), stands=lambda stands: self.stands(stands)))
+        self._replace(lambda: Site(self.number, history, folder=self._folder(), stands=lambda stands: self.stands(stands), text=self.text))
+        self.site.beside = self._beside
 
     def _replace(self, new: Callable[[], Site]) -> None:
         self.site.close()
@@ -156,14 +162,14 @@ class Replica:
         history, many = self._shown or (Messages(), 0)
         if not 0 < many <= MOST_SHOWN_AGAIN:
             return None
-        with closing(Site(self.number, history[:many])) as site:
+        with closing(Site(self.number, history[:many], text=self.text)) as site:
             return shown_by(site)
 
     def close(self) -> None:
         """Writes the snapshot, and ends the program."""
         self.pack(snapshot.AT_END)
         self.site.close()
-        snapshot.leave(self._file.disk, self._numbers.own.site)
+        snapshot.leave(self._file.disk, self._numbers.own.site, self.text)
 
     def _new_site(self, messages: Messages, progress: Progress = lambda done: None) -> Site:
         """A site under the number of now, with these messages, which are all that count. It goes on from its snapshot where
@@ -171,14 +177,19 @@ class Replica:
         fronts, folder, own = dict[int, int](), self._folder(), self._numbers.own.site
         with suppress(Unkept, Damaged):
             # Where the note's file can't be read now it is mended later.
-            fronts = snapshot.fronts_of(self._file.disk, self._holdings.judge, own, folder)
+            fronts = snapshot.fronts_of(self._file.disk, self._holdings.judge, own, folder, self.text)
         packed, others = snapshot.parted(messages, fronts)
         self.packed = len(packed)
-        return Site(self.number, others, progress, folder, packed, lambda stands: self.stands(stands))
+        site = Site(self.number, others, progress, folder, packed, lambda stands: self.stands(stands), self.text)
+        site.beside = self._beside
+        return site
+
+    def _beside(self) -> int:
+        return self._holdings.many(but=self.text)
 
     def _folder(self) -> pathlib.Path | None:
-        return snapshot.folder_of(self._file.disk, self._numbers.own.site)
+        return snapshot.folder_of(self._file.disk, self._numbers.own.site, self.text)
 
     def _is_own(self, part: Part) -> bool:
         """Whether messages are of this editor's number."""
-        return isinstance(part.holder, ledger.Branch) and part.holder.site == self._numbers.own.site
+        return isinstance(part.holder, Branch | Path) and part.holder.site == self._numbers.own.site

@@ -30,6 +30,8 @@ class Watch:
 
     def __init__(self, ends: Ends, known: Known, meeting: Meeting, giver: Giver | None, threads: Threads):
         self._ends, self._known, self._meeting, self._giver, self._threads = ends, known, meeting, giver, threads
+        # Whether the editor is to be woken for something that isn't in the file.
+        self.has_more: Callable[[], bool] = lambda: False
         # How many editors of this person are on, and when what wasn't looked at of the file is.
         self.here, self._looks = 1, 0.0
         # Where the entries of the file ended, and those that were withdrawn, as it was looked at last.
@@ -48,6 +50,8 @@ class Watch:
                     self._known.look_at(disk, carried)
                     if self._giver:
                         self._giver.has_work()
+                    self._threads.wake()
+                if self.has_more():
                     self._threads.wake()
                 if not self._known.is_of_now(disk, carried):
                     self._known.bell.ring()
@@ -134,6 +138,10 @@ class Replicator:
         self._known.made(self._own_disk(), places)
         self._giver.has_work()
 
+    def wake_for(self, has_more: Callable[[], bool]) -> None:
+        """Has the editor be woken as soon as, and as long as, this is so."""
+        self._watch.has_more = has_more
+
     def offline(self) -> str | None:
         """Why the log can't be reached, where it can't."""
         return self._threads.offline()
@@ -180,6 +188,10 @@ class Replicator:
         """Asks all who are on to give the log entries of these hashes again, even if it seemed to have them. Who asks
         often does so ever more rarely."""
         self._meeting.ask(lacked)
+
+    def find(self, hash_of: Callable[[bytes], bytes | None]) -> None:
+        """Finds what others have asked for by what names a message; the giver gives it again."""
+        self._meeting.find(hash_of)
 
     def read_from_front(self) -> None:
         """Reads the log from its front, and gives it what it lacks. Any thread may call it."""

@@ -1,18 +1,18 @@
 """A note that is open for one editor."""
 import math
 import time
-from collections.abc import Callable, Sequence, Set
+from collections.abc import Callable, Sequence
 from contextlib import ExitStack, suppress
 
-from share.admission.judge import Counted
-from share.admission.ledger import Row, Who
-from share.format.entry import Entry, Kind
+from share.admission.judging import Counted
+from share.admission.ledger import Row
 from share.format.history import Messages
 from share.format.link import is_network
+from share.format.operation import TEXT
 from share.log.opening import open_log
 from share.program import retyping
 from share.program.retyping import Lost
-from share.program.site import Edited, Site, Told
+from share.program.site import Told
 from share.program.trace import Traced, trace
 from share.store.guarded import Unkept
 from share.store.note_file import Disk
@@ -20,14 +20,17 @@ from share.store.read_only import uncollected
 from share.store.renewal import renewed_by
 from share.sync.edits import OwnEdits
 from share.sync.handover import Handover
-from share.sync.hiding import Hider
+from share.sync.hiding import Hiders
 from share.sync.numbers import Numbers
 from share.sync.open_file import OpenFile
+from share.sync.edited_note import EditedNote
 from share.sync.rebasing import Rebaser
 from share.sync.replica import Bar, Replica
 from share.sync.replicator import Replicator
-from share.sync.state import Holdings, who
+from share.sync.lost import who
+from share.sync.state import Holdings
 from share.sync.status import Notices, Status
+from share.sync.texts import OpenText, OpenTexts
 from share.text.change import Change
 from share.text.errors import Trouble
 
@@ -42,7 +45,7 @@ BAR_SECONDS = 0.2
 MOST_MISSING = 1_000
 
 
-class Session:
+class Session(EditedNote):
     """A note that is open for one editor, whose thread alone calls it. Opening it reads the note's file, takes a number, and
     waits a little for the log. It takes in what came by `arrived`; the threads of its replicator only wake the editor."""
 
@@ -73,67 +76,23 @@ class Session:
         self._file.read_all()
         self._numbers = Numbers(self._holdings, self._form, bool(url), self._file)
         self._file.moved = self._numbers.lock_again
-        self._replica = Replica(self._file, self._holdings, self._numbers, bar)
-        opened.callback(lambda: self.site.close())
         opens = (lambda: open_log(url, note, password)) if url else None
         self._replicator = Replicator(lambda: Disk(path), opens, self._form, wake, lambda: self._file.disk, handover)
         opened.callback(self._replicator.close, 0)
-        known = self._file, self._holdings, self._form, self._numbers, self._replica
-        self._edits = OwnEdits(*known, self._replicator, self._notices)
-        self._rebaser = Rebaser(*known, self._edits, self._replicator, self._notices)
-        self._hider = Hider(*known[1:], self._edits, self._rebaser)
+        if search := self._numbers.search:
+            self._replicator.wake_for(search.has_ended)
+            opened.callback(search.close)
+        file, holdings, form, numbers = known = self._file, self._holdings, self._form, self._numbers
 
-    @property
-    def site(self) -> Site:
-        """The site that the program runs now."""
-        return self._replica.site
+        def opened_text(text: int, messages: Messages) -> OpenText:
+            replica = Replica(file, holdings, numbers, bar, messages, text)
+            return OpenText(replica, OwnEdits(*known, replica, self._replicator, self._notices))
 
-    @property
-    def number(self) -> int:
-        """The site's number. The names of what was typed under another one are that one's."""
-        return self._numbers.own.site
-
-    @property
-    def can_type(self) -> bool:
-        """Whether something can be typed under the site's number."""
-        return self._numbers.own.stood
-
-    @property
-    def stands(self) -> Callable[[bool], None]:
-        """Told as soon as the program stands still, and as it answers again."""
-        return self._replica.stands
-
-    @stands.setter
-    def stands(self, stands: Callable[[bool], None]) -> None:
-        self._replica.stands = stands
-
-    def text(self) -> bytes:
-        """What the site shows."""
-        return self.site.text()
-
-    def insert(self, position: int, data: bytes) -> Edited:
-        """Types bytes at a position of the text."""
-        return self.edit(lambda site: site.insert(position, data))
-
-    def cut(self, begin: int, end: int) -> Edited:
-        """Deletes a stretch."""
-        return self.edit(lambda site: site.cut(begin, end))
-
-    def edit(self, work: Callable[[Site], Edited]) -> Edited:
-        """Does several things at the site as one edit: all that they made is kept, or nothing of it."""
-        return self._edits.make(work)
-
-    def messages(self) -> Messages:
-        """All messages that count, each after its causes."""
-        return self._holdings.judge.let_through_in_order()
-
-    def is_own(self, site: int) -> bool:
-        """Whether a number is one of this person's."""
-        return any(one.site == site and not one.copied for one in self._holdings.clients.values())
-
-    def own(self) -> Set[Who]:
-        """The sites and authors that are this person's."""
-        return {of for of, one in self._holdings.clients.items() if not one.copied}
+        self._texts = OpenTexts(holdings, opened_text)
+        opened.callback(self._texts.close)
+        self._replica, self._edits = self._texts[TEXT]
+        self._rebaser = Rebaser(*known, self._texts, self._replicator, self._notices)
+        self._hiders = Hiders(holdings, form, numbers, self._texts, self._rebaser)
 
     def lost(self) -> list[Lost]:
         """What was left out for good."""
@@ -143,20 +102,12 @@ class Session:
         """Types again what was left out, and says so of it; what that was."""
         found = self.lost()
         self._replica.remember()
+        for text in sorted({one.messages[0].text for one in found}):
+            self._texts[text].edits.type_again([one for one in found if one.messages[0].text == text])
         if found:
-            self._edits.type_again(found)
             # Something may stand for what was left out that nobody has said of it yet.
-            self._hider.hide()
+            self._hiders.hide()
         return found
-
-    def show(self, shows: dict[bytes, bytes]) -> list[bytes]:
-        """Shows others what editors here show of themselves, by their tokens; what others show."""
-        self._replicator.show(shows)
-        return self._replicator.shown()
-
-    def token(self) -> bytes:
-        """What tells this session from others that are on."""
-        return self._replicator.token
 
     def arrived(self) -> Told:
         """Takes in what came, and tells what the text has become."""
@@ -182,16 +133,12 @@ class Session:
 
     def has_more(self) -> bool:
         """Whether some of what came is still to be taken in."""
-        return self._replica.has_more() or self._holdings.has_more
-
-    def tell(self, words: str) -> None:
-        """Tells the user something."""
-        self._notices.tell(words)
+        return any(one.replica.has_more() for one in self._texts) or self._holdings.has_more
 
     def notices(self) -> list[str]:
         """What the user is to be told since this was last asked."""
         notices, of_threads = self._notices, self._replicator.notices
-        notices.tell_of_fullness(len(self.site.history), self._file.disk.path.stem)
+        notices.tell_of_fullness(self._holdings.many(), self._file.disk.path.stem)
         while of_threads:
             notices.tell(of_threads.pop(0))
         notices.tell_of_wrong(self._holdings.judge.wrong())
@@ -206,21 +153,14 @@ class Session:
                       self._left_out.lines(judge, self._holdings.anew, self.own()), renewed_by(judge, self.own()),
                       self.site.is_unproved)
 
-    def has_sent(self, entry: Entry) -> bool:
-        """Whether the log is known to have an entry; without a log, whether the file has it."""
-        return self._replicator.has(entry.hash)
-
-    def last(self) -> Entry:
-        """The last entry that was made here."""
-        return self._edits.last
-
     def close(self) -> None:
         """Closes the note, once; what isn't sent stays in its file."""
         self._all_open.close()
 
     def _finish(self) -> None:
         self._replicator.close(SEND_SECONDS)
-        self._replica.close()
+        for one in self._texts:
+            one.replica.close()
         with suppress(Unkept, Trouble):
             # From here on all that is kept of the note is its file.
             self._file.mended(lambda: self._file.look(at_end=True))
@@ -250,16 +190,18 @@ class Session:
         is_other = self._rebaser.settle(found.messages if found.anew else None, has_read)
         self._rebaser.say_what_was_rebased()
         if found.anew or is_other:
-            self._hider.look_again()
+            self._hiders.look_again()
         if is_other:
             if not self.has_more():
-                self._hider.hide()
+                self._hiders.hide()
             return self.site.text() if self._looks else []
         self._ask_for_what_is_missing()
         self._notices.tell_of_room(self._holdings.waiting_for_room())
-        self._replica.comes(found.messages)
+        self._texts.comes(found)
+        for one in self._texts.others():
+            one.replica.take_in(self.turn_seconds / 2, False)
         told = self._replica.take_in(self.turn_seconds / 2, self._looks)
-        hidden = [] if self.has_more() else self._hider.hide()
+        hidden = [] if self.has_more() else self._hiders.hide()
         if isinstance(told, list) and isinstance(hidden, list):
             return told + hidden
         return self.site.text() if self._looks else []
@@ -273,20 +215,23 @@ class Session:
             has_read, in_log = False, set()
         if found.anew or any(map(self._is_of_this_person, new)):
             self._numbers.is_settled = False
+        if self._numbers.take_found():
+            self._texts.go_on_under_another_number()
         self._numbers.look_at_claims(in_log)
-        if self.can_type and is_network(self._about.url) and self._replicator.has_read():
+        if self.can_type and (self._form.is_searched or is_network(self._about.url)) and self._replicator.has_read():
             self._numbers.claim_in_advance(self._replicator.editors_here())
-        if self._replica.is_stale:
-            found, self._replica.is_stale = Counted(self._holdings.judge.let_through_in_order(), True), False
+        if self._texts.is_stale():
+            found = Counted(self._holdings.judge.let_through_in_order(), True)
         return found, has_read
 
     def _is_of_this_person(self, run: Sequence[Row]) -> bool:
         """Whether entries are claims, or of a number of this person, and weren't made by another editor, which looks at them itself."""
-        return not run[0].made and (run[0].entry.kind is Kind.CLAIM or who(run[0].entry) in self._holdings.clients)
+        return not run[0].made and (run[0].entry.kind.is_claim or who(run[0].entry) in self._holdings.clients)
 
     def _ask_for_what_is_missing(self) -> None:
-        """Asks the others for what is missing, and has the log be read again for what the disk damaged."""
+        """Asks the others for what is missing, finds what they ask for, and has the log be read again for what the disk damaged."""
         judge = self._holdings.judge
+        self._replicator.find(self._holdings.hash_of)
         if not self._holdings.has_more and judge.is_lacking():
             self._replicator.ask(lambda: judge.missing(MOST_MISSING))
         if self._file.lacks:

@@ -10,14 +10,19 @@ from collections.abc import Callable, Collection, Iterator, Mapping, Sequence
 from typing import NamedTuple
 
 from share.admission.ledger import Row, Who
-from share.format.entry import NO_HASH, Copied, Copy, Entry, Form, Kind
+from share.format.entry import NO_HASH, Copied, Copy, Entry, Form
 from share.store.own import Client
 
-# Which entry has the message of a site and a seq that counts.
-EntryOf = Callable[[int, int], bytes | None]
-# How many messages of an author and site count that an entry has, or one to which it is chained.
-FrontUpTo = Callable[[bytes, int, bytes], int]
+# What names the message of a site, a seq and a text that counts.
+EntryOf = Callable[[int, int, int], bytes | None]
+# How many messages of an author and site count that something names, or that are before what it names, in a text.
+FrontUpTo = Callable[[bytes, int, bytes, int], int]
+# Up to which seq the messages count of an author and a site, in a text.
+CountsUpTo = Callable[[bytes, int, int], int]
+# By their hashes, and by what names them or their messages.
 RowsByHash = Mapping[bytes, Row]
+# A site, an author and a text.
+WhoseText = tuple[int, bytes, int]
 # The most stretches of an entry of copies.
 MOST_COPIED_STRETCHES = 1_000
 # The runs that are spoken of apart of entries that nobody else may have.
@@ -41,13 +46,14 @@ class Piece(NamedTuple):
     site: int
     stretch: Replaced
     own: bool
-    # The hash of the last entry that has what stands for them.
+    # What names the last entry, or the last message, of what stands for them; and of which text all of it is.
     last: bytes
+    text: int
 
     def copy(self, seq: int) -> Copy | None:
         """What stands for the old message of this seq, if something does."""
         old, new, size = self.stretch
-        return Copy(self.author, self.site, new + seq - old) if new and old <= seq < old + size else None
+        return Copy(self.author, self.site, new + seq - old, self.text) if new and old <= seq < old + size else None
 
     def speaks_of(self, seq: int) -> bool:
         """Whether it says what became of the old message of this seq."""
@@ -61,17 +67,17 @@ class Standing:
         self._room = most
         # By the hash of the old entry.
         self._pieces: dict[bytes, list[Piece]] = {}
-        # What is to be said of old entries that aren't here yet, by the hash of the last of them.
+        # What is to be said of old entries that aren't here yet, by what names the last of them.
         self._open: dict[bytes, list[tuple[Copied, bool]]] = {}
         self._known: set[bytes] = set()
         # The old entries of which a copy was made here, and whose those copies are; all copies, by whose they are.
         self._own: dict[bytes, Entry] = {}
-        self._own_copies: set[Who] = set()
-        self._copies: dict[Who, list[tuple[bytes, Piece]]] = {}
+        self._own_copies: set[WhoseText] = set()
+        self._copies: dict[WhoseText, list[tuple[bytes, Piece]]] = {}
         # Copies of which nothing remained when they were lost in their turn.
         self._void: set[Copy] = set()
         # Up to which seq it matters whether a client's messages count.
-        self._watched: dict[Who, int] = {}
+        self._watched: dict[WhoseText, int] = {}
 
     @property
     def waits(self) -> bool:
@@ -81,26 +87,28 @@ class Standing:
     def add(self, row: Row, rows: RowsByHash) -> None:
         """Adds what an entry says, and what was said of it; `rows` has all that came."""
         entry = row.entry
-        if entry.kind is Kind.COPIES and entry.hash not in self._known:
+        if entry.kind.says_copies and entry.hash not in self._known:
             self._known.add(entry.hash)
             said = entry.copied
             # Only who made messages says what stands for them.
             if (entry.author, entry.site) == said[:2] and entry.before != NO_HASH:
                 self._say(said, row.made, entry.before, rows)
-        for said, own in self._open.pop(entry.hash, ()):
-            self._say(said, own, entry.hash, rows)
+        for name in entry.names if self._open else ():
+            for said, own in self._open.pop(name, ()):
+                self._say(said, own, name, rows)
 
     def _say(self, said: Copied, own: bool, of: bytes, rows: RowsByHash) -> None:
         """Takes over what is said of an entry and of those before it."""
         least = min(old for old, _, _ in said.stretches)
         while of in rows:
             entry = rows[of].entry
+            last = entry.seq_of(of)
             self._room -= 1
-            if (entry.author, entry.site) != said[:2] or not entry.size or self._room < 0:
+            if (entry.author, entry.site) != said[:2] or not last or self._room < 0:
                 return
-            for stretch in _parts_of(said.stretches, entry):
+            for stretch in _parts_of(said.stretches, entry.first, last):
                 self._room -= entry.size
-                self._note(entry, Piece(said.by, said.by_site, stretch, own, said.last))
+                self._note(entry, Piece(said.by, said.by_site, stretch, own, said.last, entry.text))
             if entry.first <= least:
                 return
             of = entry.before
@@ -109,15 +117,16 @@ class Standing:
     def _note(self, entry: Entry, piece: Piece) -> None:
         self._pieces.setdefault(entry.hash, []).append(piece)
         old, new, size = piece.stretch
-        for of, last in ((entry.site, entry.author), old + size - 1), ((piece.site, piece.author), new + size - 1):
+        whose, by = (entry.site, entry.author, entry.text), (piece.site, piece.author, piece.text)
+        for of, last in (whose, old + size - 1), (by, new + size - 1):
             self._watched[of] = max(self._watched.get(of, 0), last)
         if new:
-            self._copies.setdefault((piece.site, piece.author), []).append((entry.hash, piece))
+            self._copies.setdefault(by, []).append((entry.hash, piece))
         if piece.own and new:
             self._own[entry.hash] = entry
-            self._own_copies.add((piece.site, piece.author))
-        elif piece.own and (entry.site, entry.author) in self._own_copies:
-            self._void |= {Copy(entry.author, entry.site, seq) for seq in range(old, old + size)}
+            self._own_copies.add(by)
+        elif piece.own and whose in self._own_copies:
+            self._void |= {Copy(entry.author, entry.site, seq, entry.text) for seq in range(old, old + size)}
 
     def is_made_here(self, entry: Entry, seq: int) -> bool:
         """Whether what remained of a message of an entry was rebased here, and something of that is left."""
@@ -136,20 +145,20 @@ class Standing:
     def originals(self, copy: Entry, seq: int, rows: RowsByHash | None) -> Iterator[tuple[bytes, int]]:
         """The messages for which one of these stands: the hashes of their entries, and their seqs. Without the rows it isn't looked at
         whether another history of its number has it."""
-        for of, piece in self._copies.get((copy.site, copy.author), ()):
+        for of, piece in self._copies.get((copy.site, copy.author, copy.text), ()):
             old, new, size = piece.stretch
-            if new <= seq < new + size and (rows is None or _entry_of(piece, seq, rows) == copy.hash):
+            if new <= seq < new + size and (rows is None or _name_of(piece, seq, rows) == copy.name_of(seq)):
                 yield of, old + seq - new
 
     def copies(self, entry: Entry, seq: int, rows: RowsByHash) -> Iterator[tuple[bytes, int]]:
-        """The messages that stand for one, whether they count or not: the hashes of their entries, and their seqs."""
+        """The messages that stand for one, whether they count or not: what names them, and their seqs."""
         for piece in self._pieces.get(entry.hash, ()):
-            if (copy := piece.copy(seq)) and (of := _entry_of(piece, copy.seq, rows)):
+            if (copy := piece.copy(seq)) and (of := _name_of(piece, copy.seq, rows)):
                 yield of, copy.seq
 
-    def fronts(self, counts_up_to: Callable[[bytes, int], int]) -> list[int]:
+    def fronts(self, counts_up_to: CountsUpTo) -> list[int]:
         """What is to be looked at again where it changes: how far those count of which copies were made here."""
-        return [min(counts_up_to(author, site), most) for (site, author), most in self._watched.items()] if self._own else []
+        return [min(counts_up_to(author, site, text), most) for (site, author, text), most in self._watched.items()] if self._own else []
 
     def made_here(self, entry_of: EntryOf, rows: RowsByHash) -> Iterator[tuple[Copy, bool]]:
         """The copies that were made here and count, and whether each is to be hidden."""
@@ -157,7 +166,7 @@ class Standing:
 
     def made_by_all(self, entry_of: EntryOf, front_up_to: FrontUpTo) -> Iterator[tuple[Copy, bool]]:
         """The same of all that is looked at, where all of it was added as if it had been made here."""
-        fronts = {piece: front_up_to(piece.author, piece.site, piece.last) if piece.last != NO_HASH else 0
+        fronts = {piece: front_up_to(piece.author, piece.site, piece.last, piece.text) if piece.last != NO_HASH else 0
                   for of in self._own for piece in self._pieces[of]}
         return self._to_be_seen(entry_of, lambda piece, seq: 0 < piece.stretch.new + seq - piece.stretch.old <= fronts[piece], None)
 
@@ -173,7 +182,7 @@ class Standing:
                     if copy := piece.copy(seq):
                         found = copies.setdefault((copy.site, copy.author, piece.last), [])
                         found.append((copy, piece.own, counts(piece, seq)))
-                stays = entry_of(entry.site, seq) == entry.hash
+                stays = entry_of(entry.site, seq, entry.text) == entry.name_of(seq)
                 for of in sorted(copies, key=lambda of: (of[0], min(copy.seq for copy, _, _ in copies[of]), of)):
                     yield from ((copy, stays) for copy, own, counts_now in copies[of] if own and counts_now)
                     stays = stays or all(counts_now for _, _, counts_now in copies[of])
@@ -182,21 +191,24 @@ class Standing:
 def _counts(piece: Piece, seq: int, entry_of: EntryOf, rows: RowsByHash) -> bool:
     """Whether what stands for a message counts: what its author made, and nothing else under the same number."""
     copy = piece.copy(seq)
-    return copy is not None and (of := _entry_of(piece, copy.seq, rows)) is not None and entry_of(copy.site, copy.seq) == of
+    return copy is not None and (of := _name_of(piece, copy.seq, rows)) is not None and entry_of(*copy[1:]) == of
 
 
-def _entry_of(piece: Piece, seq: int, rows: RowsByHash) -> bytes | None:
-    """The hash of the entry that has the copy of a seq; None where it isn't here."""
+def _name_of(piece: Piece, seq: int, rows: RowsByHash) -> bytes | None:
+    """What names the copy of a seq; None where it isn't here."""
     of = piece.last
     while of in rows and rows[of].entry.first > seq:
         of = rows[of].entry.before
-    return of if of in rows and rows[of].entry.author == piece.author else None
+    if of not in rows or rows[of].entry.author != piece.author:
+        return None
+    entry = rows[of].entry
+    return entry.name_of(seq) if seq <= entry.seq_of(of) else None
 
 
-def _parts_of(stretches: Sequence[tuple[int, int, int]], entry: Entry) -> Iterator[Replaced]:
-    """The parts of stretches that are of an entry's messages."""
+def _parts_of(stretches: Sequence[tuple[int, int, int]], first: int, last: int) -> Iterator[Replaced]:
+    """The parts of stretches that are of an entry's messages, from one up to another."""
     for old, new, size in stretches:
-        begin, end = max(old, entry.first), min(old + size, entry.last + 1)
+        begin, end = max(old, first), min(old + size, last + 1)
         if begin < end:
             yield Replaced(begin, new + begin - old if new else 0, end - begin)
 
@@ -224,18 +236,19 @@ def said_of_copies(form: Form, keys: Mapping[Who, Client], rows: RowsByHash, new
         if of not in left:
             continue
         last = entries[of]
-        client = last.site, last.author
-        least = min(entries[one].first for one in left if (entries[one].site, entries[one].author) == client)
-        is_withdrawn, chained, size = last.hash in withdrawn, list[tuple[int, int]](), 0
-        while of in rows and rows[of].entry.first >= least and (of in withdrawn) == is_withdrawn and (size < run or not is_withdrawn):
+        client = last.site, last.author, last.text
+        least = min(entry.first for entry in map(entries.__getitem__, left) if (entry.site, entry.author, entry.text) == client)
+        is_withdrawn, chained, size, row = of in withdrawn, list[tuple[int, int]](), 0, rows.get(of)
+        while row and row.entry.first >= least and (of in withdrawn) == is_withdrawn and (size < run or not is_withdrawn):
             if of in left:
                 chained += pairs[of]
                 size += 1
             left.discard(of)
-            of = rows[of].entry.before
+            row = rows.get(row.entry.before)
+            of = row.entry.hash if row else of
         stretches = in_stretches(chained)
         for begin in range(0, len(stretches), MOST_COPIED_STRETCHES):
             part = tuple(stretches[begin:begin + MOST_COPIED_STRETCHES])
-            copied = Copied(last.author, last.site, new.author, new.site, part, new.hash)
-            found.append(form.copies(copied, keys[client].author, last.site, last.hash))
+            copied = Copied(last.author, last.site, new.author, new.site, part, new.name)
+            found.append(form.copies(copied, keys[client[:2]].author, last.site, last.name, last.text))
     return found

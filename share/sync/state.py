@@ -1,20 +1,18 @@
 """What a note's file has, in memory: all entries, the numbers of this person, and what counts of it."""
 import math
-from collections.abc import Collection, Iterable, Iterator, Mapping, Sequence
-from itertools import chain, takewhile
-from typing import NamedTuple
+from collections.abc import Collection, Iterable, Sequence
 
-from share.admission.judge import Counted, Judge
+from share.admission.judges import judge_of
+from share.admission.judging import Counted
 from share.admission.ledger import Row, Chained, Who
-from share.admission.left_out import LeftOut
 from share.admission.runs import runs
-from share.format.entry import NOT_UNDER_A_NUMBER, Copy, Entry, Form, Kind
-from share.format.operation import Operation
+from share.format.entry import Copy, Entry, Form
 from share.store.note_file import Disk
 from share.store.own import Anew, Client
 from share.sync.backlog import Backlog
 from share.sync.handover import Handover
 from share.sync.recovered import Recovered
+from share.sync.lost import RowsInMemory, WhatWasLost, who
 from share.sync.standing import MOST_SAID_BY_OTHERS, Standing
 
 # The most bytes of what doesn't count that are in memory; what is too much is in the file alone until there is room.
@@ -23,51 +21,14 @@ MOST_UNCOUNTED_BYTES = 2**27
 READ_AGAIN_AT_ONCE = 1_000
 
 
-class ToRebase(NamedTuple):
-    """Messages of an entry that don't count, and that nothing stands for."""
-
-    entry: Entry
-    messages: list[Operation]
-
-
-def who(one: Client | Entry) -> Who:
-    """Who has a number, or made an entry."""
-    return (one.site, one.author.name) if isinstance(one, Client) else (one.site, one.author)
-
-
-class RowsInMemory(Mapping[bytes, Row]):
-    """The entries that are in memory, by their hashes: those that are judged, and those that were withdrawn."""
-
-    def __init__(self, judge: Judge, withdrawn: Mapping[bytes, Row]):
-        self._judge, self._withdrawn = judge, withdrawn
-
-    def __getitem__(self, of: bytes) -> Row:
-        if (row := self._withdrawn.get(of) or self._judge.row(of)) is None:
-            raise KeyError(of)
-        return row
-
-    def __contains__(self, of: object) -> bool:
-        return isinstance(of, bytes) and (of in self._withdrawn or of in self._judge)
-
-    def __iter__(self) -> Iterator[bytes]:
-        return chain(self._withdrawn, self._judge.hashes())
-
-    def __len__(self) -> int:
-        return len(self._withdrawn) + len(self._judge)
-
-    def each(self) -> Iterator[Row]:
-        """All of them. Each is made only once, which sealing makes dear."""
-        return chain(self._withdrawn.values(), self._judge.rows())
-
-
-class Holdings:
+class Holdings(WhatWasLost):
     """What was read of a file, and what counts of it. The editor's thread alone calls it."""
 
     def __init__(self, form: Form, handover: Handover) -> None:
         self._form, self._handover = form, handover
         self.clients: dict[Who, Client] = {}
-        # The author, site and seq of each message made here that another one stands for, and what stands for which.
-        self.anew: set[tuple[bytes, int, int]] = set()
+        # The messages made here that others stand for, and what stands for which.
+        self.anew: set[Copy] = set()
         self.standing = Standing()
         # What stands for which by the word of all.
         self.standing_for_all = Standing(MOST_SAID_BY_OTHERS)
@@ -76,7 +37,7 @@ class Holdings:
         # The author, site and seq of each message that hides copies here, or shows them again.
         self.hidings: set[Copy] = set()
         self._withdrawn: dict[bytes, Row] = {}
-        self.judge = Judge(form=form, room=MOST_UNCOUNTED_BYTES)
+        self.judge = judge_of(form, room=MOST_UNCOUNTED_BYTES)
         self.rows = RowsInMemory(self.judge, self._withdrawn)
         # Those of this person under whose number somebody else writes, too.
         self._shared: set[Who] = set()
@@ -88,6 +49,8 @@ class Holdings:
         # Whether the file may have more than was read.
         self.has_more = False
         self._rejudged = False
+        # How many messages count of each text.
+        self._many: dict[int, int] = {}
 
     def read(self, disk: Disk, most: float = math.inf) -> list[Sequence[Row]]:
         """Reads what the file has more, all or until it has this many bytes; the rows that weren't known, as `runs` has them."""
@@ -152,7 +115,7 @@ class Holdings:
             self._backlog.add(before.dropped())
             self._again += self._backlog.take_all()
             self.has_more = self.has_more or bool(self._again)
-            self.judge = Judge(form=self._form, room=MOST_UNCOUNTED_BYTES)
+            self.judge = judge_of(self._form, room=MOST_UNCOUNTED_BYTES)
             for row in before.rows():
                 if row.entry.hash not in gone:
                     self.judge.add_new(row)
@@ -162,10 +125,18 @@ class Holdings:
         """What counts since this was last asked."""
         found, rejudged = self.judge.count(), self._rejudged
         self._rejudged = False
+        if found.anew or rejudged:
+            self._many.clear()
+        for part in found.messages.parts():
+            self._many[part.holder.text] = self._many.get(part.holder.text, 0) + part.end - part.begin
         self._backlog.add(self.judge.dropped())
         self._again += self._backlog.take(self.judge.turns())
         self.has_more = self.has_more or bool(self._again)
         return Counted(found.messages, found.anew or rejudged)
+
+    def many(self, but: int | None = None) -> int:
+        """How many messages count of all texts, or of all but one."""
+        return sum(many for text, many in self._many.items() if text != but)
 
     def is_anew(self) -> bool:
         """Whether what counts next is all of it, judged anew."""
@@ -187,64 +158,18 @@ class Holdings:
         return any(row.made and not self.judge.is_let_through(message) for row in self._not_counting(who(client))
                    for message in row.entry.messages)
 
-    def _not_counting(self, of: Who) -> Iterator[Row]:
-        """The entries of a client of which not all messages count, those that were withdrawn among them."""
-        yield from (row for row in self._withdrawn.values() if who(row.entry) == of)
-        yield from self.judge.not_through(*of)
-
     def is_anothers(self, client: Client) -> bool:
         """Whether somebody else writes under a number, or has it."""
         return who(client) in self._shared or self.judge.holder(client.site) not in (None, client.author.name)
 
-    def lost(self) -> list[ToRebase]:
-        """What was made here, doesn't count, and wasn't rebased."""
-        found = (self._lost_of(row) for of in self.clients for row in self._not_counting(of) if row.made)
-        return [one for one in found if one.messages]
+    def hash_of(self, name: bytes) -> bytes | None:
+        """The hash of what is named so, or has a message that is; None where it isn't in memory."""
+        row = self.judge.row(name)
+        return row.entry.hash if row else None
 
-    def left_out(self) -> list[ToRebase]:
-        """What others made with a key that is here, and was left out since a smaller hash holds in its place, or since it
-        builds on what was, and that nothing stands for; of a message and its copies the copies alone."""
-        stretches: dict[Who, list[LeftOut]] = {}
-        for one in self.judge.left_out():
-            if (one.site, one.author) in self.clients:
-                stretches.setdefault((one.site, one.author), []).append(one)
-        found = [self._lost_of(row) for of, ones in stretches.items() for row in self.judge.not_through(*of)
-                 if not row.made and not self.judge.is_loose(row.entry.hash)
-                 and any(one.first <= row.entry.last and row.entry.first <= one.last for one in ones)]
-        left = {(entry.hash, message.seq) for entry, messages in found for message in messages}
-        found = [ToRebase(entry, [message for message in messages
-                                  if left.isdisjoint(self.standing.copies(entry, message.seq, self.rows))])
-                 for entry, messages in found]
-        return [one for one in found if one.messages]
-
-    def _lost_of(self, row: Row) -> ToRebase:
-        """The messages of an entry that don't count, and that nothing stands for."""
-        return ToRebase(row.entry, [message for message in row.entry.messages if not self.judge.is_let_through(message)
-                                    and not self._is_made_anew(row, message)])
-
-    def _is_made_anew(self, row: Row, message: Operation) -> bool:
-        """Whether a message was rebased here, or by another disk with its key, or typed again by somebody."""
-        entry = row.entry
-        is_noted = row.made and (entry.author, message.site, message.seq) in self.anew
-        return (is_noted and not self.standing.is_void(entry, message.seq)
-                or self.standing.is_made_here(entry, message.seq)
-                or self.standing.is_stood_for(entry, message.seq, self.judge.entry_of, self.rows)
-                or self.judge.is_copied(entry, message.seq))
-
-    def waited_for(self) -> list[tuple[Client, Entry]]:
-        """The numbers that were given up and of which others wait for what never comes, since it was rebased; and the
-        last entries of it."""
-        found = []
-        for one in self.clients.values():
-            if one.retired and self.judge.holder(one.site) == one.author.name:
-                done = [*takewhile(self._was_made_anew, self.judge.held_up(one.site))]
-                found += [(one, last) for last in done[-1:]]
-        return found
-
-    def _was_made_anew(self, entry: Entry) -> bool:
-        """Whether an entry was made here, and what doesn't count of it was rebased."""
-        row = self.rows[entry.hash]
-        return row.made and not self._lost_of(row).messages
+    def claim_of(self, client: Client) -> Entry | None:
+        """The claim of a number of this person, where it has one that is here."""
+        return next((row.entry for row in self.judge.of(*who(client)) if row.entry.kind.is_claim), None)
 
     def reread_anew(self, disk: Disk) -> None:
         """Looks which numbers were given up, and which edits were rebased, by other editors of this person."""
@@ -276,12 +201,12 @@ class Holdings:
 
     def made_anew(self, anew: Sequence[Anew], hidings: Sequence[Copy]) -> None:
         """Takes over what was rebased, and which messages hide copies."""
-        self.anew |= {(one.author, one.site, one.seq) for one in anew}
+        self.anew |= {one.of for one in anew}
         self.hidings |= set(hidings)
 
-    def counts_up_to(self, author: bytes, site: int) -> int:
-        """How many messages of an author under a number count."""
-        return self.judge.front(site) if self.judge.holder(site) == author else 0
+    def counts_up_to(self, author: bytes, site: int, text: int) -> int:
+        """How many messages of an author under a number count in a text."""
+        return self.judge.front_of(author, site, text)
 
     def fronts_of_copies(self) -> list[int]:
         """What is to be looked at again where it changes: how far those count of which there are copies, and these."""
@@ -299,13 +224,14 @@ class Holdings:
     def _add(self, row: Row) -> None:
         entry, of = row.entry, who(row.entry)
         is_own = of in self.clients
-        self._withdrawn.pop(entry.hash, None)
-        if is_own and not row.made and entry.kind not in NOT_UNDER_A_NUMBER:
+        if self._withdrawn.pop(entry.hash, None):
+            self.rows = RowsInMemory(self.judge, self._withdrawn)
+        if is_own and not row.made and entry.kind.is_under_a_number:
             self._shared.add(of)
         self.judge.add_new(row)
         if is_own:
             self.standing.add(row, self.rows)
-        self.standing_for_all.add(row._replace(made=True) if entry.kind is Kind.COPIES else row, self.rows)
+        self.standing_for_all.add(row._replace(made=True) if entry.kind.says_copies else row, self.rows)
         self.recovered.add(entry, row.made)
-        if row.made and entry.kind is Kind.NEWER:
+        if row.made and entry.kind.is_newer:
             self.newer.add(of)

@@ -16,7 +16,7 @@ from collections.abc import Callable, Iterable, Iterator, Sequence
 from typing import NamedTuple
 
 from share.format import chunk
-from share.format.entry import GREATEST_SITE, HEAD, MOST_BYTES, Author, Bad, Entry, Form, Kind, digest
+from share.format.entry import GREATEST_SITE, HEAD, MOST_BYTES, Author, Bad, Entry, FirstForm, Form, Kind, digest
 from share.format.heartbeat import OF_BEFORE
 from share.format.operation import DELETE, INSERT, MOST_RANGES, PLAIN_LOOKS, Operation
 from share.text.names import Names
@@ -41,6 +41,7 @@ class Hostile:
     """Somebody with the link of a note, whose log is a file."""
 
     def __init__(self, form: Form, log: str):
+        assert isinstance(form, FirstForm)
         self.form, self.log = form, log
         self.rng = random.Random("attacks")
         taken = {entry.site for entry in self.entries()}

@@ -7,11 +7,11 @@ import hashlib
 from collections.abc import Callable, Iterable, Iterator, Mapping, Sequence
 from dataclasses import dataclass
 from itertools import chain
-from typing import Any
+from typing import Any, cast
 from typing import NamedTuple
 
 from share.format.chunk import packed, packed_in_parts
-from share.format.entry import HEAD, NO_HASH, Author, Entry, Form, Kind
+from share.format.entry import HEAD, NO_HASH, Author, BuiltOn, Entry, FirstEntry, FirstForm, Form, Kind
 from share.format.operation import NoMessage, Operation
 from share.program.process import Program
 from share.text.names import Names
@@ -21,7 +21,7 @@ INSERT, DELETE, CHANGE_LOOKS, RESTORE = 1, 2, 3, 4
 
 # A character: the site that inserted it, and its offset in that site's file.
 Name = tuple[int, int]
-Rank = Callable[[Entry], tuple[Any, ...]]
+Rank = Callable[[FirstEntry], tuple[Any, ...]]
 
 
 class Reading(NamedTuple):
@@ -86,7 +86,7 @@ class _Fields:
         assert self.at <= len(self.data)
 
 
-def rank(entry: Entry) -> tuple[bytes, ...]:
+def rank(entry: FirstEntry) -> tuple[bytes, ...]:
     """The smaller one of two claims, or of two entries of one place, holds. Two claims of one author are told
     apart by their own hashes."""
     if entry.kind is Kind.CLAIM:
@@ -99,7 +99,7 @@ class Answer:
     """What counts of a set of entries."""
 
     # The entries of each site that hold, its claim first.
-    chains: dict[int, list[Entry]]
+    chains: dict[int, list[FirstEntry]]
     # The messages of each site that are let through, and those that are next.
     through: dict[int, list[Operation]]
     following: dict[int, list[Operation]]
@@ -142,7 +142,7 @@ class Answer:
         return (not self.is_wrong(message) and message.stamp <= self.greatest + LEAP
                 and all(name in self.stamps for name in self._spoken_of(message)) and self._sees_the_same(message))
 
-    def entry_of(self, message: Operation) -> Entry:
+    def entry_of(self, message: Operation) -> FirstEntry:
         """The entry of the message that is next at its site."""
         return next(entry for entry in self.chains[message.site] if message in entry.messages)
 
@@ -164,7 +164,7 @@ class Answer:
         """The messages that end their sites' chains."""
         return [messages[0] for messages in self.following.values() if messages and self.is_wrong(messages[0])]
 
-    def incomplete(self, entries: list[Entry]) -> int:
+    def incomplete(self, entries: list[FirstEntry]) -> int:
         """How many messages of these entries came that something is missing for."""
         left_out = self._blocked_by_what_was_left_out(entries)
         waiting = [one for site in self._blocked() - left_out for one in self.held_up(site, entries)]
@@ -174,7 +174,7 @@ class Answer:
         """The sites of which something isn't let through that isn't wrong."""
         return {site for site, messages in self.following.items() if messages and not self.is_wrong(messages[0])}
 
-    def _blocked_by_what_was_left_out(self, entries: list[Entry]) -> set[int]:
+    def _blocked_by_what_was_left_out(self, entries: list[FirstEntry]) -> set[int]:
         """Those of them whose next message builds on what was left out."""
         at_hand = loose(entries)
         kept = {entry.hash for entry in [*at_hand, *chain.from_iterable(self.chains.values())]}
@@ -189,7 +189,7 @@ class Answer:
             left_out |= gone
         return left_out
 
-    def left_out(self, entries: list[Entry]) -> list[tuple[int, bytes, int, int]]:
+    def left_out(self, entries: list[FirstEntry]) -> list[tuple[int, bytes, int, int]]:
         """The site, author and seq of each message that doesn't count since a smaller hash holds in its place, or since it
         builds on such, and for which no copy stands that counts; and how many characters it inserted."""
         in_chains = {entry.hash for entry in chain.from_iterable(self.chains.values())}
@@ -209,7 +209,7 @@ class Answer:
         return any(entry.messages == messages and set(messages) <= set(self.through[messages[0].site])
                    for entry in self.chains.get(messages[0].site, []))
 
-    def _is_copied(self, entry: Entry, message: Operation, known: Mapping[bytes, Entry]) -> bool:
+    def _is_copied(self, entry: FirstEntry, message: Operation, known: Mapping[bytes, FirstEntry]) -> bool:
         """Whether a copy of a message of an entry counts: by the word of its author, or since it has all that was typed, as one
         message or as all those of one author and site together."""
         others: dict[tuple[int, bytes], dict[int, bytes]] = {}
@@ -242,7 +242,7 @@ class Answer:
             return None
         return next((one for one in self.through[site] if one.seq == seq), None)
 
-    def held_up(self, site: int, entries: list[Entry]) -> list[Operation]:
+    def held_up(self, site: int, entries: list[FirstEntry]) -> list[Operation]:
         """The messages of a site that aren't let through and aren't wrong, but those of which one of these entries says
         that they were made anew."""
         messages, chain = self.following.get(site, []), self.chains.get(site, [])
@@ -268,7 +268,7 @@ class Answer:
                    for site in lacking)
 
 
-def judged(entries: Iterable[Entry], prefers: Rank = rank) -> Answer:
+def judged(entries: Iterable[FirstEntry], prefers: Rank = rank) -> Answer:
     """What counts of a set of entries: the least that has all that is right over it."""
     known = {entry.hash: entry for entry in entries}.values()
     chains = {site: chain_of(known, site, prefers) for site in sorted({
@@ -296,9 +296,9 @@ def built_on(messages: Iterable[Operation], inserted_by: Mapping[Name, bytes]) -
     return hashlib.blake2b(b"".join(hashes), digest_size=32).digest() if hashes else b""
 
 
-def chain_of(known: Iterable[Entry], site: int, prefers: Rank) -> list[Entry]:
+def chain_of(known: Iterable[FirstEntry], site: int, prefers: Rank) -> list[FirstEntry]:
     """The entries of a site that hold: from its claim on, each time the one that holds of all that follow."""
-    chain: list[Entry] = []
+    chain: list[FirstEntry] = []
     found = [entry for entry in known if entry.kind is Kind.CLAIM and entry.site == site]
     while found:
         chain.append(min(found, key=prefers))
@@ -306,26 +306,26 @@ def chain_of(known: Iterable[Entry], site: int, prefers: Rank) -> list[Entry]:
     return chain
 
 
-def follows(entry: Entry, before: Entry) -> bool:
+def follows(entry: FirstEntry, before: FirstEntry) -> bool:
     """Whether an entry has the place after another one: of its site and author, with the seq that is next."""
     return (entry.kind not in (Kind.CLAIM, Kind.NEWER, Kind.COPIES) and entry.before == before.hash and entry.site == before.site
             and entry.author == before.author
             and entry.first == (before.messages[-1].seq if before.messages else 0) + 1)
 
 
-def tells_copies(entry: Entry, known: Mapping[bytes, Entry]) -> bool:
+def tells_copies(entry: FirstEntry, known: Mapping[bytes, FirstEntry]) -> bool:
     """Whether its author says of own messages what stands for them."""
     return any(one.kind is Kind.COPIES and (one.site, one.author) == (entry.site, entry.author)
                == (one.copied.site, one.copied.author) for one in known.values())
 
 
-def is_said_anew(entry: Entry, known: Mapping[bytes, Entry]) -> bool:
+def is_said_anew(entry: FirstEntry, known: Mapping[bytes, FirstEntry]) -> bool:
     """Whether its author says that it was made anew, and doesn't say what stands for what."""
     own = [one for one in known.values() if one.kind is Kind.ANEW and (one.site, one.author) == (entry.site, entry.author)]
     return not tells_copies(entry, known) and any(entry.hash in chained_to(one.before, known) for one in own)
 
 
-def chained_to(of: bytes, known: Mapping[bytes, Entry]) -> set[bytes]:
+def chained_to(of: bytes, known: Mapping[bytes, FirstEntry]) -> set[bytes]:
     """An entry, and those to which it is chained. No chain goes through a word."""
     found: set[bytes] = set()
     while of in known and (known[of].messages or known[of].kind is Kind.CLAIM):
@@ -334,7 +334,7 @@ def chained_to(of: bytes, known: Mapping[bytes, Entry]) -> set[bytes]:
     return found
 
 
-def is_rooted(entry: Entry, known: Mapping[bytes, Entry]) -> bool:
+def is_rooted(entry: FirstEntry, known: Mapping[bytes, FirstEntry]) -> bool:
     """Whether each entry from a claim up to this one has the place after the one before it."""
     while entry.kind is not Kind.CLAIM:
         before = known.get(entry.before)
@@ -344,7 +344,7 @@ def is_rooted(entry: Entry, known: Mapping[bytes, Entry]) -> bool:
     return True
 
 
-def ended(entries: Iterable[Entry]) -> set[bytes]:
+def ended(entries: Iterable[FirstEntry]) -> set[bytes]:
     """The hashes of the entries that a smaller hash keeps from holding, for good."""
     known = list({entry.hash: entry for entry in entries}.values())
     gone: set[bytes] = set()
@@ -361,13 +361,13 @@ def ended(entries: Iterable[Entry]) -> set[bytes]:
     return gone
 
 
-def loose(entries: Iterable[Entry]) -> list[Entry]:
+def loose(entries: Iterable[FirstEntry]) -> list[FirstEntry]:
     """The entries from which no walk to what came before them ends at a claim that is there. What says that something
     was made anew, or what stands for what, waits for nothing, nor does what a newer version wrote."""
     known = {entry.hash: entry for entry in entries}
     found = []
     for entry in known.values():
-        at: Entry | None = entry
+        at: FirstEntry | None = entry
         while at is not None and at.kind not in (Kind.CLAIM, Kind.ANEW, Kind.COPIES, Kind.NEWER):
             at = known.get(at.before)
         if at is None:
@@ -405,9 +405,10 @@ class Replica:
 LOOKS = b"\x10Oberon10.Scn.Fnt\x01\x00"
 
 
-def newer(form: Form, before: Entry, author: Author, body: bytes = b"new") -> Entry:
+def newer(form: Form, before: Entry, author: Author, body: bytes = b"new") -> FirstEntry:
     """What a newer version wrote after an entry, of a kind that this version doesn't know."""
     head_of_it = HEAD.pack(form.number, 9, form.note, before.site, before.last + 1, 0, before.hash)
+    assert isinstance(form, FirstForm)
     return form.open(form._closed(head_of_it + author.name, body, author))
 
 
@@ -459,10 +460,11 @@ def in_entries(operations: Iterable[Operation]) -> list[list[Operation]]:
     return [[each for one in part.operations for each in one.each()] for part in packed_in_parts(operations)]
 
 
-def entry_of(form: Form, before: Entry, operations: Sequence[Operation], author: Author, on: bytes = b"", length: int = 0) -> Entry:
+def entry_of(form: Form, before: Entry, operations: Sequence[Operation], author: Author, on: BuiltOn = b"", length: int = 0) -> FirstEntry:
     """The entry of operations that follow an entry; one of an older kind, where no chunk has them."""
     if part := packed(operations, length):
-        return form.entry(before, part, author, on)
+        return cast(FirstEntry, form.entry(before, part, author, on))
+    assert isinstance(form, FirstForm) and isinstance(on, bytes)
     kind = Kind.BUILDING if on else Kind.MESSAGES
     return form._made(kind, before.site, operations[0].seq, len(operations), before.hash, author, on, body_of(operations))
 

@@ -40,9 +40,15 @@ def _who(entry: Entry) -> tuple[int, int, bytes]:
     return entry.head.site, entry.head.text, entry.head.author
 
 
+def is_blocked(answer: Answer, place: Place) -> bool:
+    """Whether something of a chain doesn't count that isn't wrong."""
+    rest = answer.following[place]
+    return bool(rest) and answer.verdict(rest[0]).why is not Why.WRONG
+
+
 def _blocked(answer: Answer) -> set[Place]:
-    """The chains of which something doesn't count that isn't wrong."""
-    return {place for place, rest in answer.following.items() if rest and answer.verdict(rest[0]).why is not Why.WRONG}
+    """The chains of which that is so."""
+    return {place for place in answer.following if is_blocked(answer, place)}
 
 
 def _built_on_what_was_left_out(answer: Answer) -> set[Place]:

@@ -1,5 +1,5 @@
-"""Whether the quick program agrees with the plain one on what counts of sets of entries of the second form, made at random:
-`python3 -m share.tests.second_agreement N SEED` tries N sets, and prints how many agreed and what was in them."""
+"""Whether the quick program agrees with the plain one on what counts, and what is told, of sets of entries of the second form, made at
+random: `python3 -m share.tests.second_agreement N SEED` tries N sets, and prints how many agreed and what was in them."""
 import random
 import sys
 import time
@@ -16,6 +16,7 @@ from share.format.operation import Operation
 from share.tests import naive_second as second
 from share.tests.naive_chunks import Message, inserting, spelled
 from share.tests.naive_second import ZEROS, Answer, Bad, Entry, Founding, Kind, Note, Place, Saying, base_hashes, opened, rank
+from share.tests.record_agreement import agrees_on_records
 from share.tests.second_sets import COPIED, RIGHT, STEPS, ZERO_BITS, Branch, Set, cut
 from share.text.names import Names
 
@@ -234,6 +235,7 @@ def agreed(count: int, seed: int) -> tuple[Counter[str], int]:
         reader = Reader(one)
         for some in parts(one, chance):
             answer = agrees(one, reader, some, chance)
+            agrees_on_records(one, answer, some, random.Random(tried))
             found.update(why.name for _, why in answer.left_out.values())
             through += sum(len(said) for (site, _), said in answer.through.items() if site not in COPIED)
             tried += 1

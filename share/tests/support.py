@@ -1,5 +1,6 @@
 """What tests stand on: folders of their own, and people who share a note."""
 import contextlib
+import itertools
 import os
 import pathlib
 import random
@@ -15,16 +16,19 @@ from unittest import mock
 
 from share.admission.chains import rank
 from share.admission.judge import Judge
-from share.format import link as links
 from share.format.chunk import packed_in_parts
-from share.format.entry import Entry, Form, Kind, Plain
+from share.format.entry import Author, BuiltOn, Entry, Form, Plain
 from share.format.operation import Operation
+from share.format.second.claim import found_among
+from share.format.second.form import RecordForm
+from share.format.second.key_link import link_of
+from share.format.second.record import Record
 from share.log.base import START, Log
 from share.log.opening import open_log
 from share.program.process import Program
 from share.program.site import Edited, Site, Told
 from share.store import notes
-from share.store.note_file import Disk
+from share.store.note_file import SECOND, ZERO_BITS_OF_TESTS, Disk
 from share.store.read_only import found_in, text_of
 from share.sync.session import Session, Status
 from share.tests.naive import taking
@@ -36,6 +40,10 @@ TOP = pathlib.Path(__file__).resolve().parents[2]
 NOTE = str(TOP / "bin" / "note")
 # Where a test sets no clock, how long its keys take on a busy machine decides no undo.
 os.environ.setdefault("VIALSHOAL_PAUSE", "100000")
+# Of which form the notes are that tests make. In the second one, tests search for claims of no zeros.
+IS_SECOND_FORM = notes.form_of_new() == SECOND
+if IS_SECOND_FORM:
+    os.environ.setdefault(ZERO_BITS_OF_TESTS, "0")
 # How often the locks are read before nobody has one.
 READINGS = 5
 ALPHABET = "abcdefgh  \r\t\\é߀ñ漢字🎉👍"
@@ -60,7 +68,7 @@ class Person:
     def open(self, name: str = "note", url: str | None = None, link: str | None = None) -> Note:
         """A note, as an editor has it open."""
         with self.here():
-            return Note(Session(notes.open_note(name, url, links.read_link(link) if link else None)))
+            return Note(Session(notes.open_note(name, url, link_of(link) if link else None)))
 
     def link(self, name: str = "note") -> str:
         """A note's link."""
@@ -87,9 +95,16 @@ class Person:
 
 
 class Case(unittest.TestCase):
-    """A test with a folder of its own."""
+    """A test with a folder of its own. In the second form nobody can take the number of who founded a note: where a test has that done
+    the founder has to search for one, as all others."""
+
+    founders_have_numbers = True
 
     def setUp(self) -> None:
+        if IS_SECOND_FORM and not self.founders_have_numbers:
+            no_number = mock.patch("share.store.founding.free_number", lambda taken: None)
+            no_number.start()
+            self.addCleanup(no_number.stop)
         self.folder = pathlib.Path(tempfile.mkdtemp(prefix="share-"))
         self.addCleanup(shutil.rmtree, self.folder, ignore_errors=True)
         os.environ["VIALSHOAL_DATA"] = str(self.folder / "data")
@@ -307,12 +322,33 @@ def take(person: Person, site: int) -> None:
     """Has somebody with the link claim a number that another one has, so that the claim holds."""
     with contextlib.closing(person.disk()) as disk:
         form = disk.form
-        own = next(row.entry for row in disk.entries.rows() if row.entry.kind is Kind.CLAIM and row.entry.site == site)
-    other = own
-    while not rank(other) < rank(own):
-        other = form.claim(site, form.new_author())
+        own = next(row.entry for row in disk.entries.rows() if row.entry.kind.is_claim and row.entry.site == site)
     with contextlib.closing(person.log()) as log:
-        log.append([other.raw])
+        log.append([claim_against(form, own).raw])
+
+
+def claim_of(form: Form, site: int, author: Author | None = None) -> Entry:
+    """A claim of a number by somebody; in the second form it is searched for."""
+    author = author or form.new_author()
+    if not isinstance(form, RecordForm):
+        return form.claim(site, author)
+    tried = found_among(itertools.count(random.getrandbits(48)), form.note, author.name, zero_bits=form.zero_bits)
+    return form.claim(site, author, next(one for one in tried if one.site == site).counter)
+
+
+def claim_order(claim: Entry) -> bytes:
+    """Of two claims of a number that one holds of which this is less."""
+    return claim.rank if isinstance(claim, Record) else rank(claim)
+
+
+def claim_against(form: Form, own: Entry) -> Entry:
+    """A claim of a stranger that holds against another one."""
+    return next(one for one in (claim_of(form, own.site) for _ in itertools.count()) if claim_order(one) < claim_order(own))
+
+
+def ons_of(entry: Entry) -> BuiltOn:
+    """What an entry's messages build on, as one is made."""
+    return {index: on for index, on in enumerate(entry.ons) if on} if isinstance(entry, Record) else entry.on
 
 
 def plain_text(messages: Iterable[Operation]) -> bytes:

@@ -12,7 +12,7 @@ from share.program import retyping
 from share.program.site import Site
 from share.sync.recovered import Recovered
 from share.tests.naive import Name, entry_of, inserting
-from share.tests.support import Person, take, written
+from share.tests.support import Person, claim_against, claim_of, take, written
 from share.tests.test_left_out import Three, shown
 from share.tests.waiting import wait_for
 
@@ -63,7 +63,7 @@ class Typed(Three):
         with contextlib.closing(self.carol.disk()) as disk:
             form = disk.form
         author = form.new_author()
-        claim = form.claim(65_001, author)
+        claim = claim_of(form, 65_001, author)
         forks = [entry_of(form, claim, [inserting(65_001, 1, stamp, None, 0, b"Q")], author) for stamp in (1, 2, 3)]
         with contextlib.closing(self.carol.log()) as log:
             log.append([one.raw for one in [claim, *forks[:2]]])
@@ -92,7 +92,7 @@ class Twice:
         self.form = form
         # That of the least name has the greatest number.
         self.author, *_ = authors = sorted((form.new_author() for _ in self.SITES), reverse=True)
-        claims = [form.claim(site, author) for site, author in zip(self.SITES, authors)]
+        claims = [claim_of(form, site, author) for site, author in zip(self.SITES, authors)]
         self.word, self.copy, self.other = (entry_of(form, claim, [inserting(claim.site, 1, 1, after, 0, b"word ")], author)
                                             for claim, author in zip(claims, authors))
         said = [self.said(self.word, copy) for copy in (self.copy, self.other)]
@@ -101,12 +101,12 @@ class Twice:
 
     def said(self, of: Entry, by: Entry) -> Entry:
         """The word of who wrote something that another one's message stands for it."""
-        copied = Copied(of.author, of.site, by.author, by.site, ((1, 1, 1),), by.hash)
-        return self.form.copies(copied, self.author, of.site, of.hash)
+        copied = Copied(of.author, of.site, by.author, by.site, ((1, 1, 1),), by.name)
+        return self.form.copies(copied, self.author, of.site, of.name)
 
     def taken(self, claim: Entry) -> Entry:
         """Another one's claim of a number, which holds."""
-        return next(one for one in (self.form.claim(claim.site, self.form.new_author()) for _ in range(10_000)) if rank(one) < rank(claim))
+        return claim_against(self.form, claim)
 
 
 class Words(unittest.TestCase):
@@ -120,7 +120,7 @@ class Words(unittest.TestCase):
         """The messages that somebody types again, and the entries that are made of that."""
         judge = Judge(entries)
         with contextlib.closing(Site(4, judge.count().messages)) as site:
-            again = retyping.type_again(retyping.lost(judge), entries, judge, site)
+            again = retyping.type_again(FORM, retyping.lost(judge), entries, judge, site)
         made = entry_of(FORM, self.claim, again.edited.messages, self.author)
         return again.edited.messages, [self.claim, made, *retyping.words_of(again.copies, FORM, self.author, made)]
 
@@ -191,7 +191,7 @@ class Words(unittest.TestCase):
         self.claim = FORM.claim(5, self.author)
         judge = Judge(entries)
         with contextlib.closing(Site(5, judge.count().messages)) as site:
-            again = retyping.type_again(retyping.lost(judge), entries, judge, site)
+            again = retyping.type_again(FORM, retyping.lost(judge), entries, judge, site)
         self.assertEqual(len(again.edited.messages), 1)
 
 

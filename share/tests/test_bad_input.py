@@ -273,7 +273,7 @@ class BadInput(Case):
             later = [newer(disk.form, last, client.author, body) for body in (b"", b"new")]
             # What comes after it doesn't count here, and isn't made anew: it counts there.
             follower = [inserting(client.site, last.last + 1, 2**16, None, 14, b"more ")]
-            later.append(entry_of(disk.form, last._replace(hash=later[0].hash), follower, client.author))
+            later.append(entry_of(disk.form, later[0], follower, client.author))
             disk.keep(later, made=True)
         # It may keep it otherwise, too.
         change(self.ann.path(), "UPDATE entry SET sum = 7, body = 'words' WHERE hash = ?", later[1].hash)

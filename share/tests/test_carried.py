@@ -17,7 +17,7 @@ from share.store.entries import Entries
 from share.store.guarded import Damaged, Unkept
 from share.sync.carried import Carried
 from share.tests.note import Note
-from share.tests.support import Case, Person, change, damage, raws_of, type_at_the_end, wait_for, written
+from share.tests.support import Case, Person, change, claim_of, damage, raws_of, type_at_the_end, wait_for, written
 
 
 class Marks(unittest.TestCase):
@@ -204,7 +204,7 @@ class Lost(Case):
             with mock.patch.object(disk.entries.__class__, "offer", lambda *_: []):
                 type_at_the_end(note, "two ")
                 last = note.session.last()
-                others = [disk.form.claim(site, disk.form.new_author()) for site in (7, 8)]
+                others = [claim_of(disk.form, site) for site in (7, 8)]
                 with contextlib.closing(self.anna.log()) as log:
                     assert isinstance(log, SqliteLog)
                     for one in others:

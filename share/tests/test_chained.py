@@ -13,7 +13,7 @@ from unittest import mock
 from share.admission.judge import Judge
 from share.admission.ledger import Row, Chained
 from share.format.chunk import GREATEST_SEQ
-from share.format.entry import NO_HASH, Author, Bad, Copied, Entry, Kind, Plain
+from share.format.entry import NO_HASH, Author, Bad, Copied, Entry, FirstEntry, Kind, Plain
 from share.format.keystrokes import Keystrokes
 from share.format.operation import GREATEST_STAMP, MOST_OF_A_SITE
 from share.format.sealed import Sealed
@@ -106,7 +106,7 @@ class Alike(Case):
         make_note(path, about, rows, clients, withdrawn=withdrawn)
         return path
 
-    def copies(self, chance: random.Random, entries: Sequence[Entry]) -> Entry:
+    def copies(self, chance: random.Random, entries: Sequence[Entry]) -> FirstEntry:
         """What says that a message is a copy of another one."""
         old, new = chance.choice(entries), chance.choice(entries)
         said = Copied(old.author, old.site, new.author, new.site, ((max(1, old.first), new.first, 1),), chance.choice([NO_HASH, new.hash]))
@@ -124,6 +124,7 @@ class Alike(Case):
         if is_right:
             self.assertEqual((quick.rows, quick.damaged), (slow.rows, 0))
         one, two = quick.holdings, slow.holdings
+        assert isinstance(one.judge, Judge) and isinstance(two.judge, Judge)
         test_keystrokes.Counts().assert_alike(one.judge, two.judge)
         self.assertEqual((one.lost(), one.left_out(), one.broken(), one.withdrawn(), one.followed()),
                          (two.lost(), two.left_out(), two.broken(), two.withdrawn(), two.followed()))
@@ -134,6 +135,7 @@ class Alike(Case):
         """That the same is printed by both ways, and what is wrong with it told."""
         (quick, together), (slow, none) = printed(path, True), printed(path, False)
         self.assertEqual((quick.faults, quick.others, none), (slow.faults, slow.others, 0))
+        assert isinstance(quick.judge, Judge) and isinstance(slow.judge, Judge)
         test_keystrokes.Counts().assert_alike(quick.judge, slow.judge)
         self.put_together += together
 

@@ -8,8 +8,7 @@ from collections.abc import Sequence
 from typing import Any
 from unittest import mock
 
-from share.admission.chains import rank
-from share.format.entry import Copy, Entry, Kind
+from share.format.entry import Copy, Entry
 from share.store import read_only
 from share.store.guarded import Unkept
 from share.store.note_file import Disk
@@ -17,7 +16,7 @@ from share.sync.rebase import Done, rebase
 from share.tests.editors import Editor
 from share.tests.naive import entry_of
 from share.tests.note import Note
-from share.tests.support import Case, Person, are_alike, change, type_at_the_end, wait_for, written
+from share.tests.support import Case, Person, are_alike, change, claim_against, claim_order, ons_of, type_at_the_end, wait_for, written
 
 
 def words(text: bytes | bytearray) -> list[str]:
@@ -27,6 +26,8 @@ def words(text: bytes | bytearray) -> list[str]:
 
 class Copied(Case):
     """Notes whose text was left out, and is made anew soon."""
+
+    founders_have_numbers = False
 
     def setUp(self) -> None:
         super().setUp()
@@ -44,13 +45,9 @@ class Copied(Case):
     def claim(self, person: Person, *sites: int) -> list[bytes]:
         """Has the log of a person's note have claims of a stranger to numbers, which hold against all that were made."""
         with contextlib.closing(person.disk()) as disk, contextlib.closing(person.log()) as log:
-            claims = [row.entry for row in disk.entries.rows() if row.entry.kind is Kind.CLAIM]
-            owns = {site: min(rank(claim) for claim in claims if claim.site == site) for site in sites}
-            found: list[bytes] = []
-            for site, own in owns.items():
-                while rank(claim := disk.form.claim(site, disk.form.new_author())) > own:
-                    pass
-                found.append(claim.raw)
+            claims = [row.entry for row in disk.entries.rows() if row.entry.kind.is_claim]
+            owns = [min((claim for claim in claims if claim.site == site), key=claim_order) for site in sites]
+            found = [claim_against(disk.form, own).raw for own in owns]
             log.append(found)
             return found
 
@@ -65,13 +62,13 @@ class Copied(Case):
         one; and that entry."""
         (message,) = entry.messages
         with contextlib.closing(person.disk()) as disk:
-            (before,) = [row.entry for row in disk.entries.rows() if row.entry.hash == entry.before]
+            before = next(row.entry for row in disk.entries.rows() if row.entry.name == entry.before)
             (author,) = [one.author for one in disk.own.clients() if one.author.name == entry.author]
             for number in range(100_000):
                 word = f"new-{number} "
                 other = message._replace(data=word.encode())
-                made = entry_of(disk.form, before, [other], author, entry.on)
-                if (made.hash < entry.hash) is holds:
+                made = entry_of(disk.form, before, [other], author, ons_of(entry))
+                if (made.name < entry.name) is holds:
                     return word, made
         raise AssertionError("no word does")
 

@@ -12,7 +12,7 @@ from share.editors.mirror import Mirror
 from share.engine.colours import PALETTE, least_used, settled
 from share.engine.engine import Engine
 from share.format import presence
-from share.format.link import read_link
+from share.format.second.key_link import link_of
 from share.store import nicknames, notes
 from share.sync.session import Session
 from share.tests.editors import Editor, Engines
@@ -55,7 +55,7 @@ class InOneProcess(Case):
     def engine(self, person: Person, editors: int, **more: str) -> Engine:
         """The engine of somebody who has joined the note, or made it, with some editors."""
         url, link = more.pop("url", None), more.pop("link", "")
-        engine = Engine("note", lambda: Session(notes.open_note("note", url, read_link(link) if link else None)), lambda: None)
+        engine = Engine("note", lambda: Session(notes.open_note("note", url, link_of(link) if link else None)), lambda: None)
         self.addCleanup(engine.close)
         with person.here():
             for number in range(editors):

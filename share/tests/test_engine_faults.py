@@ -16,7 +16,7 @@ from share.engine import server as serving
 from share.engine.engine import Engine
 from share.engine.protocol import serialize
 from share.engine.transform import Transformer
-from share.format import link as links
+from share.format.second.key_link import link_of
 from share.format.presence import Present, presence_of
 from share.program.process import Ended, Program
 from share.program.replay import Wrote, in_units
@@ -217,7 +217,7 @@ class Apart(Engines):
             looks, clock = threading.Semaphore(0), mock.Mock(wraps=time)
             clock.sleep.side_effect = lambda seconds: (looks.release(), time.sleep(seconds))
             with mock.patch.object(serving, "time", clock):
-                agrees = threads.submit(serving.agree_with_engine, "note", None, links.read_link(link))
+                agrees = threads.submit(serving.agree_with_engine, "note", None, link_of(link))
                 # The other one isn't refused, though the note isn't here yet.
                 for _ in range(3):
                     self.assertTrue(looks.acquire(timeout=PATIENCE))

@@ -6,13 +6,15 @@ import time
 from collections.abc import Callable
 from unittest import mock
 
-from share.format import link as links
+from share.format.link import Link
+from share.format.second.key_link import link_of
 from share.format.entry import Entry, Form
 from share.format.link import is_network
 from share.format.operation import Operation
 from share.log.opening import open_log
 from share.program.process import Program
 from share.store import notes
+from share.store.founding import begun
 from share.sync.session import Session
 from share.tests.naive import entry_of, taking
 from share.tests.note import Note
@@ -63,13 +65,13 @@ class Joining(Case):
 
     def fill(self, url: str, rounds: list[list[Operation]], backwards: bool = False) -> str:
         """Makes a log with the messages of rounds; the link of its note."""
-        about = notes.about_new(url)
+        about = begun(url).about
         form = about.form()
         raws = in_entries(form, rounds)
         with contextlib.closing(open_log(url, form.note)) as log:
             for begin in range(0, len(raws), 1_000):
                 log.append((raws[::-1] if backwards else raws)[begin:begin + 1_000])
-        return links.Link("sealed" if about.sealed else "plain", about.secret, url).spelled()
+        return Link("sealed" if about.sealed else "plain", about.secret, url).spelled()
 
     def timed(self, what: str, person: Person, text: bytes, link: str | None = None) -> tuple[Note, int]:
         """Opens a note, and counts how many messages are handed in, each of which is taken in at once."""
@@ -90,7 +92,7 @@ class Joining(Case):
 
         begin = time.monotonic()
         with person.here(), mock.patch.object(Program, "ask", counting):
-            disk = notes.open_note("note", None, links.read_link(link) if link else None)
+            disk = notes.open_note("note", None, link_of(link) if link else None)
             note = Note(Session(disk, None, lambda done, total: steps.append((done, total))))
             end = begin + PATIENCE
             while bytes(note.text) != text and time.monotonic() < end:

@@ -22,7 +22,7 @@ from share.admission.chains import Rank, rank
 from share.admission.judge import Judge
 from share.admission.ledger import Row
 from share.admission.runs import runs
-from share.format.entry import NO_HASH, Author, Bad, Copied, Entry, Kind, Plain
+from share.format.entry import NO_HASH, Author, Bad, Copied, FirstEntry, Kind, Plain
 from share.format.operation import Operation
 from share.program.process import Program
 from share.sync.backlog import Backlog
@@ -80,7 +80,7 @@ class History:
 
     def __init__(self, steps: list[tuple[str, int]]):
         self.steps = steps
-        self.entries: list[Entry] = []
+        self.entries: list[FirstEntry] = []
         self._ends: dict[bytes, End] = {}
         self._followed: set[bytes] = set()
         # The greatest stamp of all.
@@ -176,20 +176,20 @@ class History:
             self._add(naive.newer(FORM, last, Author(last.author, b"")), self._ends[last.hash])
             self._followed.add(last.hash)
 
-    def _leaf(self) -> Entry | None:
+    def _leaf(self) -> FirstEntry | None:
         leaves = [entry for entry in self.entries if entry.hash not in self._followed]
         return self._chance.choice(leaves) if leaves else None
 
-    def _any(self) -> Entry | None:
+    def _any(self) -> FirstEntry | None:
         return self._chance.choice(self.entries) if self.entries else None
 
-    def _add(self, entry: Entry, end: End) -> None:
+    def _add(self, entry: FirstEntry, end: End) -> None:
         self.entries.append(entry)
         self._ends[entry.hash] = end
         self._top = max(self._top, end.stamp)
 
-    def _follow(self, before: Entry | None, fault: Fault = Fault(), author: Author | None = None,
-                place: Entry | None = None, skipped: int = 0, on: bytes | None = None) -> None:
+    def _follow(self, before: FirstEntry | None, fault: Fault = Fault(), author: Author | None = None,
+                place: FirstEntry | None = None, skipped: int = 0, on: bytes | None = None) -> None:
         """Makes an entry after another one. Its messages may have a place after a third one, and skip some;
         a fault is in one of them. Some entries don't say what they build on."""
         if before is None:
@@ -237,7 +237,7 @@ class History:
         self._see(other)
         return other.site, *self._ends[other.hash]
 
-    def _see(self, branch: Entry) -> None:
+    def _see(self, branch: FirstEntry) -> None:
         """Has the entry that is being made see a branch: which entry inserted each of its characters, and those
         that may come after it."""
         known = {entry.hash: entry for entry in self.entries}
@@ -262,7 +262,7 @@ def histories(steps: list[str] = STEPS) -> st.SearchStrategy[History]:
     return st.builds(lambda first, then: History(first + then), claims, others)
 
 
-def handed(entries: list[Entry], chance: random.Random) -> list[Entry]:
+def handed(entries: list[FirstEntry], chance: random.Random) -> list[FirstEntry]:
     """Entries in an order in which they may come: some come twice, and perhaps some don't come."""
     some = entries if chance.random() < 0.5 else [entry for entry in entries if chance.random() < 0.9]
     coming = some + chance.choices(some, k=len(some) // 4) if some else []
@@ -271,7 +271,7 @@ def handed(entries: list[Entry], chance: random.Random) -> list[Entry]:
     return coming
 
 
-def damaged(entry: Entry, chance: random.Random) -> bytes:
+def damaged(entry: FirstEntry, chance: random.Random) -> bytes:
     """The bytes of an entry that came otherwise than they were sent, or that its author made so that they are
     none."""
     raw = bytearray(entry.raw)
@@ -290,7 +290,7 @@ def damaged(entry: Entry, chance: random.Random) -> bytes:
     return bytes(raw)
 
 
-def with_room(entries: list[Entry], room: int | None, chance: random.Random) -> Judge:
+def with_room(entries: list[FirstEntry], room: int | None, chance: random.Random) -> Judge:
     """What has entries as they come, with room for some bytes of what doesn't count, and reads what was dropped again as
     soon as it may have its turn."""
     judge, backlog = Judge(room=room), Backlog()
@@ -342,9 +342,9 @@ class Follower:
         self.case, self.judge, self._new = case, Judge(prefers=prefers), replica
         self.replica = replica()
         self.through: list[Operation] = []
-        self.came: list[Entry] = []
+        self.came: list[FirstEntry] = []
 
-    def add(self, entry: Entry) -> None:
+    def add(self, entry: FirstEntry) -> None:
         """Hands an entry in, as it comes."""
         opened = FORM.open(entry.raw)
         self.case.assertEqual(opened, entry)
@@ -372,7 +372,7 @@ class Follower:
                 found.add(entry.hash)
         return found
 
-    def agrees(self, prefers: Callable[[Entry], tuple[Any, ...]] = naive.rank) -> None:
+    def agrees(self, prefers: Callable[[FirstEntry], tuple[Any, ...]] = naive.rank) -> None:
         """That all that the judge says is as the rules have it."""
         answer, judge, case = naive.judged(self.came, prefers), self.judge, self.case
         case.assertEqual(self.chains(), {entry.hash for chain in answer.chains.values() for entry in chain})
@@ -403,7 +403,7 @@ class Follower:
 class Editor:
     """Someone who writes with the program, and has from others what the test hands in."""
 
-    def __init__(self, case: unittest.TestCase, site: int, author: Author, last: Entry | None = None):
+    def __init__(self, case: unittest.TestCase, site: int, author: Author, last: FirstEntry | None = None):
         self.case, self.site, self.author = case, site, author
         self.follower = Follower(case, replica=partial(Taker, site))
         self.last = last or FORM.claim(site, author)
@@ -415,7 +415,7 @@ class Editor:
         return (judge.holder(self.site) is not None and judge.last(self.site) == self.last
                 and judge.front(self.site) == self.last.last)
 
-    def comes(self, entries: Iterable[Entry]) -> None:
+    def comes(self, entries: Iterable[FirstEntry]) -> None:
         """Takes in what counts with these entries."""
         for entry in entries:
             self.follower.add(entry)
@@ -427,7 +427,7 @@ class Editor:
         other.comes(self.follower.came)
         return other
 
-    def edits(self, chance: random.Random) -> Entry:
+    def edits(self, chance: random.Random) -> FirstEntry:
         """The entry of an edit or two. What the program made counts at once."""
         program, judge = self.program, self.follower.judge
         sent: list[Operation] = []
@@ -651,7 +651,7 @@ class MadeAnew(unittest.TestCase):
         anew = entry_of(FORM, claims[2], [inserting(3, 1, 2, (1, 3), 0, b"kept after more")], self.third)
         self.all = [*claims[:3], self.sent, self.typed, self.more, anew]
 
-    def incomplete(self, *said: Entry, without: Sequence[Entry] = ()) -> int:
+    def incomplete(self, *said: FirstEntry, without: Sequence[FirstEntry] = ()) -> int:
         """How many messages wait of all entries and these, in a few orders, in each of which it is as the rules have
         it."""
         found = set()
@@ -691,7 +691,7 @@ class MadeAnew(unittest.TestCase):
         said, by = FORM.made_anew(self.more, self.second), self.all[-1]
         copied = Copied(self.second.name, 2, self.third.name, 3, ((2, 1, 1),), by.hash)
         copies = FORM.copies(copied, self.second, 2, self.more.hash)
-        said_and_told: list[tuple[list[Entry], list[tuple[int, int]]]] = [([], [(1, 2)]), ([said], []), ([said, copies], [(1, 1)])]
+        said_and_told: list[tuple[list[FirstEntry], list[tuple[int, int]]]] = [([], [(1, 2)]), ([said], []), ([said, copies], [(1, 1)])]
         for words, told in said_and_told:
             follower = Follower(self)
             for entry in [*self.all, claim, *words]:
@@ -717,7 +717,7 @@ class WhatStandsForWhat(unittest.TestCase):
         (message,) = self.lost.messages
         self.letters = message.data
 
-    def told_as_left_out(self, *entries: Entry) -> list[tuple[int, int]]:
+    def told_as_left_out(self, *entries: FirstEntry) -> list[tuple[int, int]]:
         """What is told in the end of entries that come in this order, where it is asked after each."""
         follower = Follower(self)
         for entry in [*self.claims, self.holds, self.lost, *entries]:
@@ -725,11 +725,11 @@ class WhatStandsForWhat(unittest.TestCase):
             follower.agrees()
         return [(one.site, one.first) for one in follower.judge.left_out()]
 
-    def copies(self, *seqs: int, of: Entry, by: Author) -> Entry:
+    def copies(self, *seqs: int, of: FirstEntry, by: Author) -> FirstEntry:
         """The word of an author that messages of his, of an entry and those before it, stand for what was left out."""
         return FORM.copies(Copied(self.first.name, 1, of.author, of.site, tuple((1, seq, 1) for seq in seqs), of.hash), by, of.site)
 
-    def typed_by_second(self, *parts: bytes) -> Entry:
+    def typed_by_second(self, *parts: bytes) -> FirstEntry:
         """An entry in which another one types these."""
         starts = [sum(map(len, parts[:at])) for at in range(len(parts))]
         typed = [inserting(2, seq, seq + 1, None, start, data) for seq, (start, data) in enumerate(zip(starts, parts), 1)]

@@ -13,7 +13,7 @@ from share.admission.ledger import MOST_IN_RUN, Row
 from share.admission.passage import AHEAD
 from share.format import chunk as chunks
 from share.format.chunk import MOST_CHUNK
-from share.format.entry import Bad, Entry, Kind, Plain, check_entry
+from share.format.entry import Bad, FirstEntry, Kind, Plain, check_entry
 from share.format.keystrokes import Keystrokes
 from share.format.operation import DELETE, GREATEST_STAMP, INSERT, MOST_OF_A_SITE, PLAIN_LOOKS, Operation
 from share.format.sealed import Sealed
@@ -57,7 +57,7 @@ class Typist:
         self.seq, self.stamp = self.seq + 1, self.stamp + 1
         return Operation(DELETE, self.site, self.seq, self.stamp, 1, (Names(self.site, self.at - 1, 1),))
 
-    def keep(self, *runs: Operation) -> Entry:
+    def keep(self, *runs: Operation) -> FirstEntry:
         """An entry of these."""
         self.last = self.form._made(Kind.CHUNK, self.site, runs[0].seq, sum(run.size for run in runs), self.last.hash, self.author, b"",
                                     self.chunk(*runs))
@@ -70,7 +70,7 @@ class Typist:
         assert all(writer.add(run, length) for run in runs)
         return bytes(writer.data)
 
-    def at_random(self, chance: random.Random) -> Entry:
+    def at_random(self, chance: random.Random) -> FirstEntry:
         """One of all that may be."""
         what = chance.random()
         if what < 0.7 or not self.at:
@@ -90,7 +90,7 @@ class Typist:
         return self.keep(self.delete(), *([self.insert(b"mn")] if chance.random() < 0.5 else []))
 
 
-def is_right(entry: Entry) -> bool:
+def is_right(entry: FirstEntry) -> bool:
     """Whether an entry is spelled rightly, as reading it says."""
     with contextlib.suppress(Bad):
         check_entry(entry)
@@ -98,7 +98,7 @@ def is_right(entry: Entry) -> bool:
     return False
 
 
-def damaged(entry: Entry, chance: random.Random) -> Entry:
+def damaged(entry: FirstEntry, chance: random.Random) -> FirstEntry:
     """An entry that says a little else."""
     what = chance.randrange(5)
     if what == 0:
@@ -188,7 +188,7 @@ class Told(unittest.TestCase):
                 self.assertTrue(keystrokes.type_on(entry))
 
 
-def added(entries: Iterable[Entry], is_known: bool, judge: Judge | None = None) -> Judge:
+def added(entries: Iterable[FirstEntry], is_known: bool, judge: Judge | None = None) -> Judge:
     """What judges these, and knows what types on, or doesn't."""
     judge, keystrokes = Judge(form=FORM) if judge is None else judge, Keystrokes()
     for entry in entries:
@@ -199,9 +199,9 @@ def added(entries: Iterable[Entry], is_known: bool, judge: Judge | None = None) 
 class Counts(unittest.TestCase):
     """What counts, with the knowledge of what types on and without."""
 
-    def people(self, chance: random.Random) -> list[list[Entry]]:
+    def people(self, chance: random.Random) -> list[list[FirstEntry]]:
         """Entries of some people, some of whom wrote twice at one place, typed where others did, or far above them."""
-        found: list[list[Entry]] = []
+        found: list[list[FirstEntry]] = []
         for site in range(1, chance.randint(2, 5)):
             typist = Typist(FORM, site, chance.choice([0, 0, 50, 2**20 + 300]))
             if found and chance.random() < 0.5:
@@ -235,7 +235,7 @@ class Counts(unittest.TestCase):
                 self.assertEqual(*((chain.stamp_of(at), chain.inserter_of(at)) for chain in chains))
             self.assertEqual(*(chain.pending for chain in chains))
 
-    def in_pages(self, entries: list[Entry], chance: random.Random) -> Judge:
+    def in_pages(self, entries: list[FirstEntry], chance: random.Random) -> Judge:
         """What judges these, page by page, as they are read in a file."""
         judge, keystrokes, begin = Judge(form=FORM), Keystrokes(), 0
         while begin < len(entries):

@@ -33,6 +33,8 @@ ROUNDS = 12
 class Three(Case):
     """People with a note that one of them has begun."""
 
+    founders_have_numbers = False
+
     def setUp(self) -> None:
         super().setUp()
         self.anna, self.bob, self.carol = (self.person(name) for name in ("anna", "bob", "carol"))
@@ -310,7 +312,7 @@ class AtRandom(unittest.TestCase):
         """What a fourth one's text is who types all again that was left out, and what he says of it."""
         judge, author = Judge(entries), FORM.new_author()
         with contextlib.closing(Site(4, judge.count().messages)) as site:
-            again = retyping.type_again(retyping.lost(judge), entries, judge, site)
+            again = retyping.type_again(FORM, retyping.lost(judge), entries, judge, site)
             text = site.text()
         last, length = FORM.claim(4, author), 0
         judge.add(last)

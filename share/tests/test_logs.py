@@ -188,12 +188,12 @@ class Shared:
 
         def test_the_sites_that_are_claimed(self) -> None:
             log, form = self.log(), Plain(NOTE)
-            self.assertIn(log.claimed(), (set(), None))
+            self.assertIn(log.claimed(1, 18), (set(), None))
             author = form.new_author()
             claims = [form.claim(site, author) for site in (7, 65_000, 7)]
             log.append([b"", b"\1", raw(1), *(one.raw for one in claims), form.made_anew(claims[1], author).raw])
             with mock.patch("share.log.redis.CLAIMS_AT_ONCE", 2):
-                self.assertIn(log.claimed(), ({7, 65_000}, None))
+                self.assertIn(log.claimed(1, 18), ({7, 65_000}, None))
 
         def test_a_place_of_another_log_is_told(self) -> None:
             log = self.log()

@@ -12,7 +12,7 @@ from unittest import mock
 
 from share.admission.ledger import Row
 from share.format import entry
-from share.format.entry import Bad, Copied, Kind
+from share.format.entry import Bad, Copied, EntryKind, Kind
 from share.tests.note import Note
 from share.tests.servers import RedisServer
 from share.tests.support import Case, are_alike, change, raws_of, type_at_the_end, wait_for, written
@@ -39,7 +39,7 @@ class Before(Case):
                        input=(self.folder / "server.aof").read_bytes())
         return server
 
-    def kinds(self, note: Note) -> set[Kind]:
+    def kinds(self, note: Note) -> set[EntryKind]:
         """The kinds of what has messages in a note's file."""
         rows: list[Row] = [*note.session._holdings.rows.values()]
         return {row.entry.kind for row in rows if row.entry.size}

@@ -7,15 +7,15 @@ import threading
 from collections.abc import Sequence
 from unittest import mock
 
-from share.admission.chains import rank
 from share.admission.ledger import Row
-from share.format.entry import Entry, Form, Kind
+from share.format.entry import Entry, Form
 from share.format.operation import DELETE, Operation
 from share.log.base import Log
 from share.log.sqlite import SqliteLog
 from share.program.process import Program
 from share.program.site import Edited, Site, Told
 from share.store.own import Client, OwnTables
+from share.sync.numbers import READING
 from share.sync.numbers import Numbers as OwnNumbers
 from share.sync.open_file import OpenFile
 from share.sync.rebasing import Rebaser
@@ -24,7 +24,7 @@ from share.sync.session import Session
 from share.tests.naive import about, entry_of
 from share.tests.note import Note
 from share.tests.servers import RedisServer
-from share.tests.support import Case, Person, type_at_the_end, wait_for, written
+from share.tests.support import Case, Person, claim_against, claim_of, claim_order, type_at_the_end, wait_for, written
 
 
 def stood(person: Person) -> list[int]:
@@ -35,6 +35,8 @@ def stood(person: Person) -> list[int]:
 
 class Numbers(Case):
     """A note in a log that is a file."""
+
+    founders_have_numbers = False
 
     def setUp(self) -> None:
         super().setUp()
@@ -261,6 +263,7 @@ class Numbers(Case):
 
         with mock.patch.object(Replicator, "stands", stands_there), mock.patch("share.sync.session.OPEN_SECONDS", 0):
             second = self.opened(self.anna)
+            wait_for(lambda: (second.take_in(), second.session.number != READING)[1], "it to have a number")
             wait_for(lambda: (first.take_in(), second.session.number in stood(self.anna))[1], "it to be noted in the file")
             self.assertFalse(second.session.status().can_type)
             # With what the other one types its numbers are read.
@@ -276,9 +279,9 @@ class Numbers(Case):
         sessions: list[Session] = []
 
         def appended(log: SqliteLog, raws: Sequence[bytes]) -> None:
-            claims = [entry for entry in map(form.open, raws) if entry.kind is Kind.CLAIM and not rivals]
-            while claims and not (rivals and rank(rivals[-1]) < rank(claims[0])):
-                rivals[:] = [form.claim(claims[0].site, form.new_author())]
+            claims = [entry for entry in map(form.open, raws) if entry.kind.is_claim and not rivals]
+            if claims:
+                rivals[:] = [claim_against(form, claims[0])]
             append(log, [*(one.raw for one in rivals), *raws])
 
         def arrived_there(session: Session) -> Told:
@@ -289,8 +292,8 @@ class Numbers(Case):
             # Both claims come when the file has just been read.
             rows = read(file)
             if sessions and not (session := sessions[0]).can_type:
-                claim = form.claim(session.number, session._numbers.own.author)
-                wait_for(lambda: session._replicator.stands(claim), "a claim to stand in the log")
+                claim = session._holdings.claim_of(session._numbers.own)
+                wait_for(lambda: not claim or session._replicator.stands(claim), "a claim to stand in the log")
             return rows
 
         with mock.patch.object(SqliteLog, "append", appended), mock.patch.object(OpenFile, "read", read_late), \
@@ -328,11 +331,11 @@ class Numbers(Case):
         form, log = self.form(), self.log()
         mine = note.session.last()
         greater = smaller = None
+        own = note.session._holdings.claim_of(note.session._numbers.own)
+        assert own
         while not (greater and smaller):
-            one = form.claim(mine.site, form.new_author())
-            with contextlib.closing(self.anna.disk()) as disk:
-                own = form.claim(mine.site, disk.own.clients()[0].author)
-            if rank(one) < rank(own):
+            one = claim_of(form, mine.site)
+            if claim_order(one) < claim_order(own):
                 smaller = one
             else:
                 greater = one
@@ -408,6 +411,8 @@ class Numbers(Case):
 
 class OnAServer(Case):
     """Numbers of people whose log is on a server."""
+
+    founders_have_numbers = False
 
     def test_one_more_editor_while_the_server_is_away(self) -> None:
         server, anna = self.redis(), self.person("anna")

@@ -11,7 +11,7 @@ from share.editors.mirror import Mirror
 from share.engine.engine import Engine
 from share.format import chunk as chunks
 from share.format import entry as entries
-from share.format import link as links
+from share.format.second.key_link import link_of
 from share.format.chunk import unpacked
 from share.format.entry import Author, Entry, Kind, Plain
 from share.format.operation import DELETE, Operation
@@ -72,7 +72,7 @@ class Here:
     def __init__(self, person: Person, url: str | None = None, link: str | None = None):
         self._person = person
         with person.here():
-            given = links.read_link(link) if link else None
+            given = link_of(link) if link else None
             self.engine = Engine("note", lambda: Session(notes.open_note("note", url, given)), lambda: None)
             self._sent: list[bytes] = []
             self._peer = self.engine.joined(self._sent.append, lambda: 0)

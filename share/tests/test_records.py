@@ -24,7 +24,7 @@ from share.format.presence import MOST_PRESENCE, Present
 from share.format.sealed import Sealed
 from share.format.second import claim, signature
 from share.format.second.append import challenged, may_append
-from share.format.second.claim import Found, found_among, number_of_rank, rank_of
+from share.format.second.claim import found_among, number_of_rank, rank_of
 from share.format.second.form import PlainRecords, RecordForm, SealedRecords
 from share.format.second.key_link import KeyLink, is_origin, read_key_link
 from share.format.second.keys import Founding, NoteKeys, derived, key_of_founding, new_founding
@@ -76,7 +76,7 @@ class AsThePlainProgram(unittest.TestCase):
             return str(why.exception)
         one = form.open(raw)
         self.assert_says(one, entry)
-        self.assertEqual(form.reopened(raw, one.body), one)
+        self.assertEqual(form.reopened(raw, one.body, one.hash), one)
         self.assertEqual(form.whole(raw[:RECORD_HEAD.size], one.body, form.tail(raw)), raw)
         return ""
 
@@ -233,14 +233,14 @@ class Vectors(unittest.TestCase):
         """The record that the form makes to say the same."""
         if one.founding:
             return form.opening(one.founding)
-        if one.copied:
-            return form.copies(one.copied, author, one.site, one.text, one.before)
+        if one.kind is RecordKind.COPIES:
+            return form.copies(one.copied, author, one.site, one.before, one.text)
         if one.kind is RecordKind.CLAIM:
-            return form.claim(Found(one.counter, one.site), author)
+            return form.claim(one.site, author, one.counter)
         if one.kind is RecordKind.ANEW:
-            return form.made_anew(one.before, author, one.site, one.text)
+            return form.anew_up_to(one.before, author, one.site, one.text)
         if one.kind is RecordKind.RENEWED:
-            return form.renewed(one.name, author, one.site)
+            return form.renewed(one.called, one.site, author)
         part = Packed(one.operations, one.chunk)
         if one.kind is RecordKind.BASE:
             return form.base(part, one.before)
@@ -297,14 +297,16 @@ class Made(unittest.TestCase):
             [typed] = self.typed(form, author, 1, 16)
             said = Copied(author.name, 7, other, 9, ((1, 300, 2), (7, 0, 1)), other)
             found = next(found_among(range(100), form.note, author.name, zero_bits=0))
-            for one in (form.opening(self.founding), form.claim(found, author), typed, form.made_anew(typed.hashes[0], author, 7, 16),
-                        form.copies(said, author, 7, 2), form.copies(said, author, 7, 2, other),
-                        form.renewed("Ann \u00e9" * 90, author, 7)):
+            for one in (form.opening(self.founding), form.claim(found.site, author, found.counter), typed,
+                        form.anew_up_to(typed.hashes[0], author, 7, 16),
+                        form.copies(said, author, 7, text=2), form.copies(said, author, 7, other, 2),
+                        form.renewed("Ann \u00e9" * 90, 7, author)):
                 self.assertEqual(form.open(one.raw), one)
-                self.assertEqual(one.copied, said if one.kind is RecordKind.COPIES else None)
+                if one.kind is RecordKind.COPIES:
+                    self.assertEqual(one.copied, said)
                 self.assertEqual(one.founding, self.founding if one.kind is RecordKind.OPENING else None)
                 self.assertEqual(one.rank != b"", one.kind is RecordKind.CLAIM)
-            self.assertTrue(one.name.startswith("Ann \u00e9Ann"))
+            self.assertTrue(one.called.startswith("Ann \u00e9Ann"))
 
     def test_the_longest_fits(self) -> None:
         letters = [Operation(1, 7, 1, 1, MOST_CHUNK + 99, (), 0, b"x" * (MOST_CHUNK + 99), b"\x10Oberon10.Scn.Fnt\x01\x00", 2)]

@@ -8,7 +8,7 @@ import pty
 import subprocess
 from unittest import mock
 
-from share.admission.judge import Judge
+from share.admission.judges import judge_of
 from share.format.history import Messages
 from share.program.site import Site
 from share.store import nicknames, notes, renewal
@@ -188,16 +188,16 @@ class Renewing(Case):
         note = self.opened(self.ann)
         written(note, "one ")
         with contextlib.closing(self.ann.disk()) as disk:
-            form, (client,) = disk.form, disk.own.clients()
+            form, (client, *_) = disk.form, disk.own.clients()
             rows = [row.entry for row in disk.entries.rows()]
         stranger = form.new_author()
-        judge = Judge([*rows, form.renewed("Ann", client.site, stranger), form.renewed("Ann", 9, stranger)])
+        judge = judge_of(form, [*rows, form.renewed("Ann", client.site, stranger), form.renewed("Ann", 9, stranger)])
         self.assertIsNone(renewal.renewed_by(judge, set()))
         judge.add(form.renewed("A\x1b[31m" + "n" * 300, client.site, client.author))
         said = renewal.renewed_by(judge, set())
         assert said
         self.assertEqual((said["site"], said["own"], len(said["name"])), (client.site, False, 40))
-        self.assertEqual(judge.count().messages, Judge(rows).count().messages)
+        self.assertEqual(judge.count().messages, judge_of(form, rows).count().messages)
 
 
 if __name__ == "__main__":

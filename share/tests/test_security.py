@@ -38,11 +38,11 @@ CONTROLS = "\x1b[31m\x1b]0;title\x07\x1b]52;c;d29yZHM=\x07\x9b31m\x08\x7f"
 # Joins a note, and prints what it shows as soon as it has some words, and how much memory that took.
 JOINS = """
 import json, os, pathlib, re, sys
-from share.format import link
+from share.format.second.key_link import link_of
 from share.store import notes
 from share.sync.session import Session
 from share.tests.waiting import wait_for
-session = Session(notes.open_note("note", None, link.read_link(os.environ["VIALSHOAL_LINK"])))
+session = Session(notes.open_note("note", None, link_of(os.environ["VIALSHOAL_LINK"])))
 told = []
 def is_read():
     session.arrived()

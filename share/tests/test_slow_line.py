@@ -7,7 +7,7 @@ from unittest import mock
 
 from share.format import link as links
 from share.log.opening import open_log
-from share.store import notes
+from share.store.founding import begun
 from share.tests.naive import entry_of, inserting
 from share.tests.support import Case, raws_of, wait_for, written
 from share.tests.test_joining import history, in_entries
@@ -25,7 +25,7 @@ class SlowLine(Case):
     def setUp(self) -> None:
         super().setUp()
         self.server = self.redis()
-        about = notes.about_new(self.server.url)
+        about = begun(self.server.url).about
         self.form = about.form()
         self.link = links.Link("sealed", about.secret, self.server.url)
         rounds, self.text = history(LONG)

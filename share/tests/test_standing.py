@@ -31,7 +31,7 @@ class Sets(unittest.TestCase):
         self.rows = {entry.hash: Row(0, entry, True) for entry in (claim, self.first, self.old)}
         self.counts: dict[tuple[int, int], bytes] = {}
 
-    def entry_of(self, site: int, seq: int) -> bytes | None:
+    def entry_of(self, site: int, seq: int, _: int) -> bytes | None:
         """Which entry has the message that counts."""
         return self.counts.get((site, seq))
 
@@ -91,7 +91,7 @@ class Sets(unittest.TestCase):
                 of_all.add(row._replace(made=True), self.rows)
             hidden = Copy(again[1].author, 4, 1), True
             self.assertEqual([*standing.made_here(self.entry_of, self.rows)], [hidden])
-            looked_at = of_all.made_by_all(self.entry_of, lambda author, site, last: 0 if last == lost[1].hash else 2)
+            looked_at = of_all.made_by_all(self.entry_of, lambda author, site, last, text: 0 if last == lost[1].hash else 2)
             self.assertEqual([*looked_at], [(Copy(counts[1].author, 3, 2), False), hidden])
 
     def test_only_who_made_messages_says_what_stands_for_them(self) -> None:

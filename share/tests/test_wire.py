@@ -118,7 +118,7 @@ class HostileServers(Case):
         """One of each call."""
         return [lambda: log.append([raw(1)]), lambda: log.read(START), lambda: log.read("7-1/3"), log.size,
                 lambda: log.watch(START, 0.01), lambda: log.meet(b"x", b"y"), lambda: log.leave(b"x"),
-                log.claimed, log.met]
+                lambda: log.claimed(1, 18), log.met]
 
     def ends_in_words(self, answer: bytes, *which: int) -> None:
         """That each call gives something of its type, or what is told, and those of these numbers the latter."""

@@ -16,7 +16,7 @@ from share.sync.known import Known
 from share.sync.numbers import Numbers
 from share.tests.naive import entry_of
 from share.tests.note import Note
-from share.tests.support import Case, type_at_the_end, wait_for, written
+from share.tests.support import Case, ons_of, type_at_the_end, wait_for, written
 
 
 class CopiedUnsent(Case):
@@ -73,8 +73,9 @@ class CopiedUnsent(Case):
             first = held[self.waited[0]]
             (message,) = first.messages
             numbered = (message._replace(data=b"%d" % number) for number in itertools.count())
-            lost = (entry_of(disk.form, held[first.before], [one], author, first.on) for one in numbered)
-            log.append([next(one for one in lost if one.hash > first.hash).raw])
+            before = next(entry for entry in held.values() if entry.name == first.before)
+            lost = (entry_of(disk.form, before, [one], author, ons_of(first)) for one in numbered)
+            log.append([next(one for one in lost if one.name > first.name).raw])
 
     def test_what_the_log_has_is_not_made_anew_for_an_entry_that_lost(self) -> None:
         self.sends("")

@@ -7,7 +7,7 @@ import random
 import sys
 import time
 
-from share.format import link as links
+from share.format.second.key_link import link_of
 from share.store import notes
 from share.sync.session import Session
 from share.tests.note import Note
@@ -21,7 +21,7 @@ def say(word: str, number: int) -> None:
 def main(tag: str, link: str, seed: str) -> None:
     """Types for as long as it is let."""
     chance = random.Random(seed)
-    note = Note(Session(notes.open_note("note", None, links.read_link(link))))
+    note = Note(Session(notes.open_note("note", None, link_of(link))))
     say("open", 0)
     number = 0
     while True:

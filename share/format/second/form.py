@@ -1,18 +1,19 @@
 """How records of a note of the second form are made and opened: plain, or sealed with the note's key and signed by their author."""
 import os
 import secrets
-from abc import ABC, abstractmethod
+from abc import abstractmethod
 from collections.abc import Mapping, Sequence
 from concurrent.futures import ThreadPoolExecutor
 
 from share.format.chunk import Packed
-from share.format.entry import MOST_BYTES, NO_HASH, Author, Bad, Copied, said_by_name
-from share.format.operation import Operation
+from share.format.entry import MOST_BYTES, NO_HASH, Author, Bad, BuiltOn, Copied, Entry, Form, OneByOne, digest, said_by_name
+from share.format.operation import TEXT, Operation
 from share.format.presence import MOST_PRESENCE
 from share.format.second.append import challenged
-from share.format.second.claim import COUNTER_BYTES, ZERO_BITS, Found
+from share.format.second.claim import COUNTER_BYTES, ZERO_BITS
 from share.format.second.keys import IDENTITY_BYTES, RECORD_NONCE_BYTES, Founding, NoteKeys, identity_of_public
-from share.format.second.record import CLAIM_ZEROS, RECORD_HEAD, Record, RecordKind, body_of_messages, checked, record_of
+from share.format.second.record import (CLAIM_ZEROS, GREATEST_TEXT, RECORD_HEAD, RECORD_KINDS, Record, RecordKind, body_of_messages,
+                                        checked, record_of)
 from share.format.second.signature import HAS_CRYPTOGRAPHY, POINT_BYTES, SIGNED_BYTES, check_library, is_signed, public_of, signed
 
 if HAS_CRYPTOGRAPHY:
@@ -27,32 +28,37 @@ OF_PRESENCE = b"\5"
 SHARE_TO_OPEN = 200
 
 
-class RecordForm(ABC):
+class LookedAt(OneByOne):
+    """Records are looked at as they are opened, each by itself."""
+
+    def type_on(self, entry: Entry) -> bool:
+        return False
+
+
+class RecordForm(Form):
     """Records of one note. Nothing in one changes after it was made."""
 
-    number: int
-    # The number of a record's last bytes that can't be computed from the others.
-    tail_bytes: int
+    head_bytes, site_at, before_at = RECORD_HEAD.size, 50, RECORD_HEAD.size - len(NO_HASH)
+    kinds_of_messages, kind_of_claims = (int(RecordKind.MESSAGES),), int(RecordKind.CLAIM)
+    names_messages = is_searched = True
+    texts = range(1, GREATEST_TEXT + 1)
 
     def __init__(self, keys: NoteKeys, public: bytes, zero_bits: int = ZERO_BITS):
-        self.keys, self.public, self.note, self._zero_bits = keys, public, identity_of_public(public), zero_bits
+        super().__init__(identity_of_public(public))
+        self.keys, self.public, self.zero_bits = keys, public, zero_bits
 
+    @staticmethod
     @abstractmethod
+    def author_of_any_note() -> Author:
+        """An author whom nobody else can be, in a note that needn't be known yet."""
+
     def new_author(self) -> Author:
-        """An author whom nobody else can be."""
+        return self.author_of_any_note()
 
     @property
     @abstractmethod
     def itself(self) -> Author:
         """The author of the opening and the base: whoever has the note's key."""
-
-    @abstractmethod
-    def presence(self, data: bytes) -> bytes:
-        """What an editor says of itself, as a log may have it."""
-
-    @abstractmethod
-    def present(self, raw: bytes) -> bytes | None:
-        """What an editor said of itself; None where nobody of this note can have said it."""
 
     @abstractmethod
     def _unsigned(self, head: bytes, body: bytes) -> bytes:
@@ -69,24 +75,32 @@ class RecordForm(ABC):
     # Opening.
 
     def open(self, raw: bytes) -> Record:
-        """The record that has these bytes; raises Bad where they are none of this note's."""
         if not BEFORE_BOX <= len(raw) <= MOST_BYTES or raw[0] != self.number:
             raise Bad("isn't spelled as one")
         if raw[2:2 + IDENTITY_BYTES] != self.note:
             raise Bad("is of another note")
-        return checked(self.keys, self.public, raw, self._opened(raw), self._zero_bits)
+        return checked(self.keys, self.public, raw, self._opened(raw), self.zero_bits)
 
-    def open_many(self, raws: Sequence[bytes]) -> list[Record | Bad]:
-        """What each of these bytes are."""
+    def open_many(self, raws: Sequence[bytes]) -> list[Entry | Bad]:
         return [*map(self._record_or_bad, raws)]
 
-    def reopened(self, raw: bytes, body: bytes) -> Record:
-        """The record of bytes that were opened before, whose body was kept."""
-        return record_of(self.keys, raw, body)
+    def formed(self, raws: Sequence[tuple[bytes, bytes]]) -> list[Entry | Bad]:
+        return self.open_many([raw for raw, _ in raws])
 
-    def tail(self, raw: bytes) -> bytes:
-        """The last bytes of a record, which can't be computed from the others."""
-        return raw[len(raw) - self.tail_bytes:]
+    def one_by_one(self) -> OneByOne:
+        return LookedAt()
+
+    def reopened(self, raw: bytes, body: bytes, of: bytes) -> Record:
+        return record_of(self.keys, raw, body, of)
+
+    def body(self, raw: bytes) -> bytes:
+        return self._opened(raw)
+
+    def kind(self, raw: bytes) -> RecordKind:
+        return RECORD_KINDS.get(raw[1], RecordKind.NEWER)
+
+    def author(self, raw: bytes) -> bytes:
+        return raw[2 + IDENTITY_BYTES:2 + IDENTITY_BYTES + POINT_BYTES]
 
     def whole(self, head: bytes, body: bytes, tail: bytes) -> bytes:
         """The bytes of a record that was opened before, by its head, its body and its last bytes."""
@@ -104,10 +118,9 @@ class RecordForm(ABC):
         """A note's first record."""
         return self._made(RecordKind.OPENING, self.itself, founding.spelled(), site=0, text=0)
 
-    def claim(self, found: Found, author: Author) -> Record:
-        """The record with which an author claims a number by what a search found."""
-        before = CLAIM_ZEROS + found.counter.to_bytes(COUNTER_BYTES, "big")
-        return self._made(RecordKind.CLAIM, author, b"", site=found.site, text=0, before=before)
+    def claim(self, site: int, author: Author, counter: int = 0) -> Record:
+        before = CLAIM_ZEROS + counter.to_bytes(COUNTER_BYTES, "big")
+        return self._made(RecordKind.CLAIM, author, b"", site=site, text=0, before=before)
 
     def base(self, part: Packed, link: bytes) -> Record:
         """A record of the base, after the message that a link names."""
@@ -117,16 +130,20 @@ class RecordForm(ABC):
         """The record of messages after the one that has a hash; some, by their index, say what they build on."""
         return self._made_of(RecordKind.MESSAGES, part, author, body_of_messages(part.chunk, ons or {}), before)
 
-    def made_anew(self, last: bytes, author: Author, site: int, text: int) -> Record:
+    def entry(self, before: Entry, part: Packed, author: Author, on: BuiltOn = b"") -> Record:
+        return self.messages(part, before.name, author, on if isinstance(on, Mapping) else {})
+
+    def made_anew(self, last: Entry, author: Author) -> Record:
+        return self.anew_up_to(last.name, author, last.site, last.text)
+
+    def anew_up_to(self, last: bytes, author: Author, site: int, text: int) -> Record:
         """With this an author says that of his messages up to the one with a hash all that doesn't count was made anew."""
         return self._made(RecordKind.ANEW, author, b"", site=site, text=text, before=last)
 
-    def copies(self, copied: Copied, author: Author, site: int, text: int, before: bytes = NO_HASH) -> Record:
-        """With this the author of messages, or that of their copies, says which stand for which."""
+    def copies(self, copied: Copied, author: Author, site: int, before: bytes = NO_HASH, text: int = TEXT) -> Record:
         return self._made(RecordKind.COPIES, author, copied.as_spelled(), site=site, text=text, before=before)
 
-    def renewed(self, name: str, author: Author, site: int) -> Record:
-        """With this an author of this name says that the note goes on under a new key."""
+    def renewed(self, name: str, site: int, author: Author) -> Record:
         return self._made(RecordKind.RENEWED, author, said_by_name(name), site=site, text=0)
 
     def _made_of(self, kind: RecordKind, part: Packed, author: Author, body: bytes, before: bytes) -> Record:
@@ -137,7 +154,8 @@ class RecordForm(ABC):
               before: bytes = NO_HASH) -> Record:
         head = RECORD_HEAD.pack(self.number, kind, self.note, author.name, site, text, first, size, before)
         unsigned = self._unsigned(head, body)
-        return record_of(self.keys, unsigned + self._signature(unsigned, author), body)
+        raw = unsigned + self._signature(unsigned, author)
+        return record_of(self.keys, raw, body, digest(raw))
 
 
 class PlainRecords(RecordForm):
@@ -149,7 +167,8 @@ class PlainRecords(RecordForm):
         keys = NoteKeys(key)
         super().__init__(keys, keys.plain, zero_bits)
 
-    def new_author(self) -> Author:
+    @staticmethod
+    def author_of_any_note() -> Author:
         return Author(secrets.token_bytes(POINT_BYTES), b"")
 
     @property
@@ -186,7 +205,9 @@ class SealedRecords(RecordForm):
         self._seal, self._on = AESGCM(keys.seal), AESGCM(keys.presence)
         super().__init__(keys, public_of(keys.append), zero_bits)
 
-    def new_author(self) -> Author:
+    @staticmethod
+    def author_of_any_note() -> Author:
+        check_library()
         secret = secrets.token_bytes(POINT_BYTES)
         return Author(public_of(secret), secret)
 
@@ -198,7 +219,7 @@ class SealedRecords(RecordForm):
         """What shows a server of this origin, which chose the challenge, that one has the note's link."""
         return signed(challenged(self.note, challenge, origin), self.keys.append)
 
-    def open_many(self, raws: Sequence[bytes]) -> list[Record | Bad]:
+    def open_many(self, raws: Sequence[bytes]) -> list[Entry | Bad]:
         # To check a signature takes most of the time, and other threads go on meanwhile.
         if len(raws) <= SHARE_TO_OPEN:
             return super().open_many(raws)

@@ -10,12 +10,14 @@ import hashlib
 import re
 from typing import NamedTuple
 
-from share.format.link import CHECK_BYTES, FORMS, GREATEST_PORT, MISTAKEN, UNSEALED, FormName, is_network, url_of
+from share.format.link import CHECK_BYTES, FORMS, GREATEST_PORT, MISTAKEN, UNSEALED, FormName, Link, is_network, read_link, url_of
 from share.format.second.keys import NOTE_KEY_BYTES
 from share.text.errors import Trouble
 
 KEY_LINK = re.compile(r"vialshoal:2:([ps]):([A-Za-z0-9_-]{48})@(.+)")
 PAGE_LINK = re.compile(r"(https://[^/#@]+)/#vialshoal:2:s:([A-Za-z0-9_-]{48})")
+# What such a link, or such an address, begins with.
+OF_SECOND_FORM = re.compile(r"(https://[^/]+/#)?vialshoal:2:")
 # A server of pages as browsers spell where it is: in small letters, and the port unless it is the one that is meant without.
 ORIGIN = re.compile(r"https://([a-z0-9.-]+|\[[0-9a-f:.]+\])(?::([1-9][0-9]{0,4}))?")
 PORT_OF_HTTPS = 443
@@ -27,6 +29,16 @@ class KeyLink(NamedTuple):
     form: FormName
     key: bytes
     url: str
+
+    @property
+    def form_number(self) -> int:
+        """The form of the note."""
+        return 2
+
+    @property
+    def secret(self) -> bytes:
+        """The note's key."""
+        return self.key
 
     def __repr__(self) -> str:
         # Where it is printed by mistake, the key isn't.
@@ -44,6 +56,15 @@ class KeyLink(NamedTuple):
         """The key and the checksum."""
         check = hashlib.sha256(b"vialshoal 2 link " + self.form[0].encode() + self.key + self.url.encode()).digest()[:CHECK_BYTES]
         return base64.urlsafe_b64encode(self.key + check).decode()
+
+
+# The link of a note of either form.
+AnyLink = Link | KeyLink
+
+
+def link_of(text: str) -> AnyLink:
+    """The link of a note of either form that is spelled so, with space around it or none."""
+    return read_key_link(text) if OF_SECOND_FORM.match(text.strip()) else read_link(text)
 
 
 def read_key_link(text: str) -> KeyLink:

@@ -1,11 +1,10 @@
 """Records: what a log of the second form carries. docs/NOTES.md calls them entries, and has them byte by byte."""
 import struct
 from collections.abc import Iterable, Mapping
-from enum import IntEnum
 from typing import NamedTuple
 
 from share.format.chunk import NoChunk, unpacked, unpacked_one_by_one
-from share.format.entry import GREATEST_SITE, LONGEST_SAID, NO_HASH, Bad, Copied
+from share.format.entry import GREATEST_SITE, LONGEST_SAID, NO_HASH, Bad, Copied, EntryKind, digest
 from share.format.operation import Operation
 from share.format.presence import clean_name
 from share.format.second.claim import ZERO_BITS, number_of_rank, rank_of
@@ -20,7 +19,7 @@ CLAIM_ZEROS = bytes(24)
 MANY_ONS, ON_FIELD = struct.Struct(">H"), struct.Struct(">H32s")
 
 
-class RecordKind(IntEnum):
+class RecordKind(EntryKind):
     """What a record is; `NEWER` are all kinds that this version doesn't know, whatever their number."""
 
     NEWER = 0
@@ -53,6 +52,8 @@ class Record(NamedTuple):
     # What is sealed.
     body: bytes
     raw: bytes
+    # By which a file has it, and nothing else: what follows a message names that.
+    hash: bytes
     # The hash of each of its messages; none of a base's.
     hashes: tuple[bytes, ...] = ()
     # What names each message of a base, where the opening was there to say it.
@@ -67,6 +68,34 @@ class Record(NamedTuple):
     def last(self) -> int:
         """The seq of its last message, 0 without messages."""
         return self.first + self.size - 1 if self.size else 0
+
+    @property
+    def name(self) -> bytes:
+        """What names it to what follows it: the hash of its last message, zeros where it has none."""
+        return self.hashes[-1] if self.hashes else NO_HASH
+
+    def name_of(self, seq: int) -> bytes:
+        """The hash of its message of a seq; of one of the base, what names that."""
+        return self.names[seq - self.first]
+
+    @property
+    def names(self) -> tuple[bytes, ...]:
+        """What names each of its messages."""
+        return self.hashes or self.links
+
+    def seq_of(self, name: bytes) -> int:
+        """The seq of the message that a name means; 0 where it names none of these."""
+        return self.first + self.names.index(name) if name in self.names else 0
+
+    @property
+    def on(self) -> bytes:
+        """What its messages build on, as the body has it before them."""
+        return self.body[:_chunk_begin(self.body)] if self.kind is RecordKind.MESSAGES else b""
+
+    @property
+    def spelled(self) -> bytes:
+        """The chunk of its messages, or what it says."""
+        return self.body[len(self.on):]
 
     @property
     def chunk(self) -> bytes:
@@ -107,12 +136,12 @@ class Record(NamedTuple):
         return Founding.read(self.body) if self.kind is RecordKind.OPENING else None
 
     @property
-    def copied(self) -> Copied | None:
-        """What is said of copies."""
-        return Copied.read(self.body, len(self.author)) if self.kind is RecordKind.COPIES else None
+    def copied(self) -> Copied:
+        """What is said of copies; ValueError where nothing is."""
+        return Copied.read(self.body if self.kind is RecordKind.COPIES else b"", len(self.author))
 
     @property
-    def name(self) -> str:
+    def called(self) -> str:
         """What who renewed the note is called."""
         return clean_name(self.body.decode("utf-8", "replace")) if self.kind is RecordKind.RENEWED else ""
 
@@ -123,21 +152,21 @@ class Record(NamedTuple):
         return self._replace(links=tuple(founding.links(self.before, self.operations)))
 
 
-def record_of(keys: NoteKeys, raw: bytes, body: bytes) -> Record:
-    """The record of bytes that were opened before, with what is sealed in them."""
+def record_of(keys: NoteKeys, raw: bytes, body: bytes, of: bytes) -> Record:
+    """The record of bytes that were opened before, with what is sealed in them and their hash."""
     _, number, _, author, site, text, first, size, before = RECORD_HEAD.unpack_from(raw)
     kind, hashes = RECORD_KINDS.get(number, RecordKind.NEWER), tuple[bytes, ...]()
     if kind is RecordKind.MESSAGES:
         hashes = _chained(keys, author, before, unpacked(body[_chunk_begin(body):], text), _ons_by_index(body))
-    return Record(kind, author, site, text, first, size if kind is not RecordKind.NEWER else 0, before, body, raw, hashes)
+    return Record(kind, author, site, text, first, size if kind is not RecordKind.NEWER else 0, before, body, raw, of, hashes)
 
 
 def checked(keys: NoteKeys, public: bytes, raw: bytes, body: bytes, zero_bits: int = ZERO_BITS) -> Record:
     """The record of bytes and what is sealed in them, of the note in which this key may append; Bad where they say what can't be."""
     _, number, _, author, site, text, first, size, before = RECORD_HEAD.unpack_from(raw)
-    kind = RECORD_KINDS.get(number, RecordKind.NEWER)
+    kind, of = RECORD_KINDS.get(number, RecordKind.NEWER), digest(raw)
     if kind is RecordKind.NEWER or kind is RecordKind.OPENING:
-        one = Record(kind, author, site, text, first, size if kind is not RecordKind.NEWER else 0, before, body, raw)
+        one = Record(kind, author, site, text, first, size if kind is not RecordKind.NEWER else 0, before, body, raw, of)
         if kind is RecordKind.OPENING:
             _check_opening(one, keys.key, public)
         return one
@@ -150,8 +179,8 @@ def checked(keys: NoteKeys, public: bytes, raw: bytes, body: bytes, zero_bits: i
             raise Bad("begins where something is before it, or goes on where nothing is")
         ons = _checked_ons(body, size)
         operations = _checked_chunk(body[_chunk_begin(body):], site, text, first, size)
-        return Record(kind, author, site, text, first, size, before, body, raw, _chained(keys, author, before, operations, ons))
-    one = Record(kind, author, site, text, first, size, before, body, raw)
+        return Record(kind, author, site, text, first, size, before, body, raw, of, _chained(keys, author, before, operations, ons))
+    one = Record(kind, author, site, text, first, size, before, body, raw, of)
     if kind is RecordKind.BASE:
         if author != public:
             raise Bad("is no base by the note itself")

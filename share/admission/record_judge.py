@@ -1,0 +1,91 @@
+"""Which messages of a note of the second form count, by the records that came, and what is told of the others: what `Judge` is for the
+first form."""
+from collections.abc import Iterable, Iterator
+from itertools import islice
+
+from share.admission.copies import Copies
+from share.admission.ledger import Row, Who
+from share.admission.left_out import LeftOut, without_copied
+from share.admission.record_chains import RecordChains
+from share.admission.record_set import Prefers
+from share.admission.sayings import Root
+from share.format.entry import Entry
+from share.format.operation import TEXT, Operation
+from share.format.second.form import RecordForm
+
+
+class RecordJudge(RecordChains):
+    """The set of records that came, what counts of it, and what is told of the rest. Where a text isn't given the first one is meant."""
+
+    def __init__(self, entries: Iterable[Entry] = (), prefers: Prefers | None = None, *, form: RecordForm, room: int | None = None):
+        entries = [*entries]
+        super().__init__(entries, prefers, form=form, room=room)
+        for entry in entries:
+            self.add(entry)
+
+    # What is told of copies.
+
+    def copies_in(self, text: int = TEXT) -> Copies:
+        return self._words.copies(text)
+
+    def is_copied(self, entry: Entry, seq: int) -> bool:
+        copies = self.copies_in(entry.text)
+        return copies.speak_of(entry.author, entry.site) and any(
+            first <= seq <= last for first, last in copies.stretches(self._twig(entry), self._in_text(entry.text)))
+
+    def not_copied(self, entry: Entry) -> list[Operation]:
+        some = self._twig(entry)
+        left = without_copied([(some.first, some.last)], some, self.copies_in(entry.text), self._in_text(entry.text))
+        return [message for message in some.messages if any(first <= message.seq <= last for first, last in left)]
+
+    # What is told of all that came.
+
+    def not_through(self, site: int, author: bytes) -> Iterator[Row]:
+        return map(self._records.row, self._having(self._told.not_through(site, author)))
+
+    def not_counting(self, site: int, author: bytes) -> Iterator[Entry]:
+        numbers = (number for number in self._told.not_through(site, author) if self._sayings.root(number) is not Root.LOOSE)
+        return map(self._records.entry, self._having(numbers))
+
+    def held_up(self, site: int, text: int = TEXT) -> list[Entry]:
+        one = self._text(text)
+        begin, end = self._told.held_up(one, site) if one else (0, 0)
+        numbers = one.lines[site].branch.numbers[begin:end] if one and begin < end and self.holder(site) else ()
+        return [*map(self._records.entry, self._having(numbers))]
+
+    def _having(self, messages: Iterable[int]) -> Iterable[int]:
+        """The records that have messages, in their order."""
+        return dict.fromkeys(map(self._records.having, messages))
+
+    def incomplete(self) -> int:
+        return self._told.incomplete()
+
+    def left_out(self) -> list[LeftOut]:
+        return self._told.left_out()
+
+    def loose(self) -> list[Entry]:
+        found = [*map(self._records.entry, self._having(self._told.loose()))]
+        return sorted(found, key=lambda entry: (entry.site, entry.first, entry.hash))
+
+    def is_lacking(self) -> bool:
+        return bool(self.missing(1))
+
+    def missing(self, most: int) -> list[bytes]:
+        messages = self._messages
+        if not messages.has_opening:
+            return [self._form.keys.opening_name(), *messages.missing(most - 1)][:most]
+        base = messages.base.missing()
+        found = ([base] if base else []) + messages.missing(most - bool(base))
+        unclaimed = islice(messages.unclaimed(), most - len(found))
+        return (found + [self._form.keys.claim_name(one.author, one.site) for one in unclaimed])[:most]
+
+    def wrong(self) -> list[Operation]:
+        texts = [one for text in sorted(self._messages.texts) if (one := self._text(text))]
+        lines = [one.lines[site] for one in texts for site in sorted(one.passage.ended)]
+        return [message for line in lines for message in line.branch.between(line.front, line.front + 1)]
+
+    def renewed(self) -> list[tuple[Who, bytes]]:
+        return sorted((who, name) for who, name in self._words.renewed() if self.holder(who[0]) == who[1])
+
+    def has_newer(self) -> bool:
+        return self._words.has_newer()

@@ -1,0 +1,133 @@
+"""The records of a note of the second form that came, each in some 100 bytes beside what it says.
+
+What can be computed again isn't kept: of a record's bytes there are what is sealed and the signature alone, and its hashes are those of
+its messages, which are here anyway.
+"""
+from array import array
+from collections.abc import Iterable, Sequence
+
+from share.admission.hashes import HASH_BYTES, Hashes
+from share.admission.ledger import Row, Who
+from share.admission.sayings import Sayings, Whose
+from share.format.entry import NO_HASH
+from share.format.second.form import RecordForm
+from share.format.second.record import RECORD_HEAD, RECORD_KINDS, Record, RecordKind
+
+
+class Records(Hashes):
+    """Records, each by a number of its own; they are added and never change."""
+
+    def __init__(self, form: RecordForm, sayings: Sayings):
+        super().__init__()
+        self._form, self._sayings = form, sayings
+        # Whose records there are, and the numbers of each one's.
+        self._clients: list[Whose] = []
+        self._client_of: dict[Whose, int] = {}
+        self._of: dict[Who, array[int]] = {}
+        self._whose = array("I")
+        self._kinds, self._made, self._types_on = bytearray(), bytearray(), bytearray()
+        self._firsts, self._sizes = array("I"), array("H")
+        self._places, self._ends = array("Q"), array("Q")
+        # The number of each one's last message, 0 without any; and what can't be computed again.
+        self._lasts, self._kept = array("I"), bytearray()
+        # The record that had each message first, and each of the base, by one more than its number.
+        self._having, self._having_base = array("I"), array("I")
+
+    def add(self, row: Row, entry: Record, new: Sequence[int] = ()) -> int:
+        """Adds the record of a row, which is the first that has these messages; its number."""
+        number = len(self)
+        self._hashes += entry.hash
+        whose = self._client(Whose(entry.author, entry.site, entry.text))
+        self._of.setdefault((entry.site, entry.author), array("I")).append(number)
+        self._whose.append(whose)
+        self._kinds.append(entry.kind)
+        self._made.append(row.made)
+        self._types_on.append(row.types_on)
+        self._firsts.append(entry.first)
+        self._sizes.append(entry.size)
+        self._places.append(row.place)
+        self._lasts.append(new[-1] if new and len(new) == entry.size else self._sayings.number(entry.name) or 0)
+        self._kept += self._form.tail(entry.raw)
+        if not entry.hashes:
+            self._kept += entry.before
+        self._kept += entry.body
+        self._ends.append(len(self._kept))
+        self._enter((entry.hash,), number)
+        _note(self._having, new, number)
+        return number
+
+    def add_base(self, number: int, messages: Sequence[int]) -> None:
+        """Notes that a record is the first that has messages of the base."""
+        _note(self._having_base, messages, number)
+
+    def _client(self, client: Whose) -> int:
+        """The number of an author, a number and a text."""
+        if (found := self._client_of.get(client)) is None:
+            found = self._client_of[client] = len(self._clients)
+            self._clients.append(client)
+        return found
+
+    # What is asked of them.
+
+    def unknown(self, rows: Iterable[Row]) -> list[Row]:
+        """Those of some rows that aren't here."""
+        return [row for row in rows if self.number(row.entry.hash) is None]
+
+    def of(self, who: Who) -> Sequence[int]:
+        """The records of a number and an author."""
+        return self._of.get(who, ())
+
+    def having(self, message: int) -> int:
+        """The record that had a message first."""
+        return self._having[message] - 1
+
+    def having_base(self, message: int) -> int:
+        """The same of one of the base."""
+        return self._having_base[message] - 1
+
+    def messages(self, number: int) -> list[int]:
+        """The numbers of a record's messages."""
+        found, sayings = list[int](), self._sayings
+        message: int | None = self._lasts[number]
+        for _ in range(self._sizes[number] if self._kinds[number] == RecordKind.MESSAGES else 0):
+            assert message is not None
+            found.append(message)
+            message = sayings.before(message)
+        return found[::-1]
+
+    def client(self, number: int) -> Whose:
+        """Whose a record is."""
+        return self._clients[self._whose[number]]
+
+    def kind(self, number: int) -> RecordKind:
+        """What a record is."""
+        return RECORD_KINDS[self._kinds[number]]
+
+    def entry(self, number: int) -> Record:
+        """A record as it was."""
+        author, site, text = self.client(number)
+        kind, messages, sayings = self.kind(number), self.messages(number), self._sayings
+        begin, tail = self._ends[number - 1] if number else 0, self._form.tail_bytes
+        kept = bytes(self._kept[begin:self._ends[number]])
+        if messages:
+            first = sayings.before(messages[0])
+            before, body = NO_HASH if first is None else sayings.hash(first), kept[tail:]
+        else:
+            before, body = kept[tail:tail + HASH_BYTES], kept[tail + HASH_BYTES:]
+        first_seq, size = self._firsts[number], self._sizes[number]
+        head = RECORD_HEAD.pack(self._form.number, kind, self._form.note, author, site, text, first_seq, size, before)
+        raw = self._form.whole(head, body, kept[:tail])
+        return Record(kind, author, site, text, first_seq, size, before, body, raw, self.hash(number),
+                      tuple(map(sayings.hash, messages)))
+
+    def row(self, number: int) -> Row:
+        """A record with its place."""
+        return Row(self._places[number], self.entry(number), bool(self._made[number]), bool(self._types_on[number]))
+
+
+def _note(having: "array[int]", messages: Sequence[int], number: int) -> None:
+    """Notes which record has messages."""
+    if messages and len(having) <= (last := max(messages)):
+        having.extend([0] * (last + 1 - len(having)))
+    for one in messages:
+        having[one] = number + 1
