@@ -112,8 +112,8 @@ class Rebaser:
             raise
 
     def _rebase(self, broken: Sequence[Client]) -> None:
-        """Rebases, under this number, what was made under others and doesn't count, and whose turn it is. Where that can't be all of a text is
-        as if nothing had been made, and it is tried again later: what is lost is found again by what counts."""
+        """Rebases, under this number, what was made under others and doesn't count, and whose turn it is. Where that can't be all of a text
+        is as if nothing had been made, and it is tried again later: what is lost is found again by what counts."""
         own, many = self._turns.is_own_due(), 0
         lost, is_all = at_once(self._numbers.lost(own))
         try:
