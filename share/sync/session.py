@@ -86,7 +86,11 @@ class Session(EditedNote):
 
         def opened_text(text: int, messages: Messages) -> OpenText:
             replica = Replica(file, holdings, numbers, bar, messages, text)
-            return OpenText(replica, OwnEdits(*known, replica, self._replicator, self._notices))
+            with ExitStack() as started:
+                started.callback(replica.site.close)
+                found = OpenText(replica, OwnEdits(*known, replica, self._replicator, self._notices))
+                started.pop_all()
+            return found
 
         self._texts = OpenTexts(holdings, opened_text)
         opened.callback(self._texts.close)

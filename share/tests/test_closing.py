@@ -202,7 +202,7 @@ class Failing(Closing):
              "share.program.process.os.set_blocking", "share.program.site.Lasting.see_that_it_knows_chunks",
              "share.sync.session.Replicator.__init__", "share.sync.replicator.Giver.__init__", "share.sync.replicator.Replicator._start",
              "share.sync.session.OwnEdits.__init__",
-             "share.sync.session.Hider.__init__", "share.sync.session.Session.arrived", "share.sync.session.trace",
+             "share.sync.session.Hiders.__init__", "share.sync.session.Session.arrived", "share.sync.session.trace",
              "share.store.note_file.about_of", "share.store.note_file.OwnTables.__init__", "share.store.unchanged.Ahead.note",
              "share.store.guarded.SqliteFile.safe", "share.store.guarded.GuardedFile.reading", "share.log.bell.os.pipe2")
 

@@ -89,7 +89,7 @@ class AtVersionsOfBefore(Case):
     def before(self) -> Iterator[None]:
         """Entries of chunks are of a kind that isn't known meanwhile, as they were to the version before."""
         known = {number: kind for number, kind in entry.KINDS.items() if kind not in NEW}
-        with mock.patch.object(entry, "KINDS", known), mock.patch.object(entry.Plain, "formed", entry.Form.formed):
+        with mock.patch.object(entry, "KINDS", known), mock.patch.object(entry.Plain, "formed", entry.FirstForm.formed):
             yield
 
     def test_they_are_kept_and_told_of(self) -> None:
