@@ -6,14 +6,14 @@ use Rattle.std.specs.Option.{option_map}
 use Rattle.std.proofs.lemmas.Option.{slice_get-map}
 use Rattle.indexmap.specs.IndexMap.{IndexMap, IsUnique, values, with_value_at}
 use Rattle.indexmap.proofs.CallerLemmas.{updates-with_value_at}
-use Rattle.char_files.specs.SiteMap.{IsPut, StandsAt}
+use Rattle.char_files.specs.SiteMap.{HoldsSiteValue, IsPut}
 
 -- where the site's number stands, its value does
 pub stands : {V : Type 0} (entries : List (ℕ × V)) (site slot key : ℕ) (value : V) → key ≡ site
-    → slice_get entries slot ≡ Some (key, value) → lookup (nat_eq site) entries ≡ Some value → StandsAt entries site slot
+    → slice_get entries slot ≡ Some (key, value) → lookup (nat_eq site) entries ≡ Some value → HoldsSiteValue entries site slot
 stands entries site slot key value same there own = (value, there ∙ ap (λ (k : ℕ). Some (k, value)) same, own)
 
-module _ {V S : Type 0} (m : IndexMap ℕ V S) (site slot : ℕ) (at : StandsAt m.entries site slot) where
+module _ {V S : Type 0} (m : IndexMap ℕ V S) (site slot : ℕ) (at : HoldsSiteValue m.entries site slot) where
   -- so it is what is read there
   pub read_at : slice_get (values m) slot ≡ lookup (nat_eq site) m.entries
   read_at =

@@ -1,5 +1,6 @@
 pub mod CharFiles
 pub mod CharName
+pub mod Chars
 pub mod Plain
 pub mod Runs
 pub mod SiteMap

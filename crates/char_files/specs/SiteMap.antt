@@ -4,8 +4,8 @@ use Rattle.std.specs.Map.{lookup}
 
 module _ {V : Type 0} where
   -- at this place stands the site's value
-  abbrev pub StandsAt : List (ℕ × V) → (site slot : ℕ) → Type 0
-  StandsAt values site slot = (value : V) × (slice_get values slot ≡ Some (site, value))
+  abbrev pub HoldsSiteValue : List (ℕ × V) → (site slot : ℕ) → Type 0
+  HoldsSiteValue values site slot = (value : V) × (slice_get values slot ≡ Some (site, value))
       × (lookup (nat_eq site) values ≡ Some value)
 
   -- the site has this value, and each other what it had

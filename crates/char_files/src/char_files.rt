@@ -1,6 +1,6 @@
 ghost use Rattle.std.specs.Prelude.{◌≡◌, ◌<◌, ◌≤◌, ◌+◌, [], ◌++◌, ◌↔◌, ◌⊎◌, length, slice_index, slice_range};
 ghost use Rattle.std.specs.Prelude.{IfOk, IfErr, IsOk, OnOk, OnErr, IsErrOf};
-ghost use Rattle.char_files.specs.CharFiles.{bytes_of, room_of, OthersStay, SameBytes};
+ghost use Rattle.char_files.specs.CharFiles.{bytes_of, file_room, OtherSitesStay, SameBytes};
 
 use crate::MAX_FILE;
 use crate::char_file::CharFile;
@@ -19,9 +19,9 @@ pub struct CharFiles {
 }
 
 impl Model for CharFiles {
-    ghost use Rattle.char_files.specs.CharFiles.{Files};
+    ghost use Rattle.char_files.specs.CharFiles.{FilesBySite};
 
-    ghost Value = { Files };
+    ghost Value = { FilesBySite };
 
     ghost view = { λ f. f.files };
 }
@@ -76,7 +76,7 @@ impl CharFiles {
     ///
     /// Refused `FileSpent` where n more bytes pass 2^24, else `OutOfMemory` where memory is.
     pub fn reserve(&mut self, site: SiteNo, n: usize) -> Result<(), Refusal>
-        ensures ok { OnOk result (n ≤ room_of self.new site) }
+        ensures ok { OnOk result (n ≤ file_room self.new site) }
         ensures spent { IsErrOf result Refusal.FileSpent ↔ (MAX_FILE < length (bytes_of self.old site) + n) }
         ensures errors { IfErr result (λ e. (e ≡ Refusal.FileSpent) ⊎ (e ≡ Refusal.OutOfMemory)) }
         ensures unchanged { SameBytes self.old self.new }
@@ -95,13 +95,13 @@ impl CharFiles {
     /// Refused `FileSpent` where they pass 2^24, else `OutOfMemory` where memory is.
     pub fn append(&mut self, site: SiteNo, bytes: &[u8]) -> Result<u32, Refusal>
         ensures ok { OnOk result (bytes_of self.new site ≡ bytes_of self.old site ++ bytes.now) }
-        ensures others { OthersStay self.old site self.new }
+        ensures others { OtherSitesStay self.old site self.new }
         ensures offset { IfOk result (λ off. off ≡ length (bytes_of self.old site)) }
         ensures spent { IsErrOf result Refusal.FileSpent
             ↔ (MAX_FILE < length (bytes_of self.old site) + length bytes.now) }
         ensures errors { IfErr result (λ e. (e ≡ Refusal.FileSpent) ⊎ (e ≡ Refusal.OutOfMemory)) }
         ensures err { OnErr result (bytes_of self.new site ≡ bytes_of self.old site) }
-        ensures reserved { length bytes.now ≤ room_of self.old site → IsOk result }
+        ensures reserved { length bytes.now ≤ file_room self.old site → IsOk result }
     {
         if let Some(file) = self.files.get_mut(site) {
             return file.append(bytes);

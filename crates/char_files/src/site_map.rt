@@ -3,7 +3,7 @@ ghost use Rattle.std.specs.Borrow.{sem};
 ghost use Rattle.std.specs.Map.{lookup};
 ghost use Rattle.std.specs.Option.{option_copied, option_copied_mut};
 ghost use Rattle.looks.specs.Refusal.{RefusedForMemoryAlone};
-ghost use Rattle.char_files.specs.SiteMap.{IsPut, StandsAt};
+ghost use Rattle.char_files.specs.SiteMap.{HoldsSiteValue, IsPut};
 
 use crate::site_no::SiteNo;
 use indexmap::IndexMap;
@@ -29,7 +29,7 @@ impl<V> Model for SiteMap<V> {
 }
 
 impl<V> SiteMap<V> {
-    ghost use Rattle.char_files.specs.SiteMapLends.{lends_value};
+    ghost use Rattle.char_files.specs.SiteMapLends.{lends_site_value};
 
     /// No values.
     pub fn new(alloc: Global) -> SiteMap<V>
@@ -43,7 +43,7 @@ impl<V> SiteMap<V> {
 
     // Where a site's value stands, if it has one.
     fn slot(&self, site: SiteNo) -> Option<usize>
-        ensures some { IfSome result (StandsAt self.now site) }
+        ensures some { IfSome result (HoldsSiteValue self.now site) }
         ensures none { IfNone result (lookup (nat_eq site) self.now ≡ None) }
     {
         match self.values.get_index(self.last) {
@@ -64,7 +64,7 @@ impl<V> SiteMap<V> {
 
     /// The same, to be changed.
     pub fn get_mut(&mut self, site: SiteNo) -> Option<&mut V>
-        ensures* writes_back { sem 𝓛 (lends_value V.row self.entry site result) }
+        ensures* writes_back { sem 𝓛 (lends_site_value V.row self.entry site result) }
         ensures value { option_copied_mut result ≡ lookup (nat_eq site) self.old }
     {
         let slot = self.slot(site)?;

@@ -6,7 +6,7 @@ use Rattle.char_files.specs.declared.TheConstants.{MAX_FILE}
 use Rattle.operations.specs.Operation.{Operation, Begins}
 use Rattle.operations.specs.Spelling.{HasSpelling}
 use Rattle.packed.specs.declared.expected.Expected.{Expected}
-use Rattle.packed.specs.Told.{Told, nothing_begun, has_begun, expected, after, told_on, IsNext}
+use Rattle.packed.specs.Told.{Told, nothing_begun, has_begun, expected, after_one_more, told_on, IsNext}
 use Rattle.packed.specs.Reading.{CanBeNext}
 use Rattle.packed.proofs.Told.{expected_noted, has_begun_noted}
 use Rattle.chunks.specs.Chunks.{Placed, begun_with, begun, told_by, CanCome, CanAllCome}
@@ -75,31 +75,31 @@ comes_so u text p e goes same =
 pub expected_by : (u : Told) (p : Placed) (site : ℕ) → eqb p.op.site site ≡ false
     → expected (told_by u p) site ≡ expected u site
 expected_by u p site apart =
-    expected_noted (begun u p) p.op.site (after (expected (begun u p) p.op.site) p.op) site
+    expected_noted (begun u p) p.op.site (after_one_more (expected (begun u p) p.op.site) p.op) site
     ∙ cond-false _ _ _ apart
     ∙ by_begun (λ (v : Told). expected v site ≡ expected u site) u p refl
     (expected_noted u p.op.site (expected_first p) site ∙ cond-false _ _ _ apart)
 
 pub expected_here : (u : Told) (op : Operation) (site : ℕ) → eqb op.site site ≡ true
-    → expected (told_on u op) site ≡ after (expected u op.site) op
+    → expected (told_on u op) site ≡ after_one_more (expected u op.site) op
 expected_here u op site here =
-    expected_noted u op.site (after (expected u op.site) op) site ∙ cond-true _ _ _ here
+    expected_noted u op.site (after_one_more (expected u op.site) op) site ∙ cond-true _ _ _ here
 
 pub begun_by : (u : Told) (p : Placed) (site : ℕ) → eqb p.op.site site ≡ false → has_begun (told_by u p) site ≡ has_begun u site
 begun_by u p site apart =
-    has_begun_noted (begun u p) p.op.site (after (expected (begun u p) p.op.site) p.op) site
+    has_begun_noted (begun u p) p.op.site (after_one_more (expected (begun u p) p.op.site) p.op) site
     ∙ cond-false _ _ _ apart
     ∙ by_begun (λ (v : Told). has_begun v site ≡ has_begun u site) u p refl
     (has_begun_noted u p.op.site (expected_first p) site ∙ cond-false _ _ _ apart)
 
 pub begun_by_this : (u : Told) (p : Placed) (site : ℕ) → eqb p.op.site site ≡ true → has_begun (told_by u p) site ≡ true
 begun_by_this u p site here =
-    has_begun_noted (begun u p) p.op.site (after (expected (begun u p) p.op.site) p.op) site ∙ cond-true _ _ _ here
+    has_begun_noted (begun u p) p.op.site (after_one_more (expected (begun u p) p.op.site) p.op) site ∙ cond-true _ _ _ here
 
 -- after the same operation the same is expected, if the files were as long
-pub same_after : (a b x y : Expected) (op : Operation) → a ≡ after x op → b ≡ after y op → x.len ≡ y.len → Same a b
+pub same_after : (a b x y : Expected) (op : Operation) → a ≡ after_one_more x op → b ≡ after_one_more y op → x.len ≡ y.len → Same a b
 same_after a b x y op is_a is_b lens =
-    subst (λ (e : Expected). Same e b) (sym is_a) (subst (λ (e : Expected). Same (after x op) e) (sym is_b)
+    subst (λ (e : Expected). Same e b) (sym is_a) (subst (λ (e : Expected). Same (after_one_more x op) e) (sym is_b)
     (record { seq = refl; stamp = refl; len = omega (arith, lens) }))
 
 -- ---- fewer sites have begun

@@ -10,7 +10,7 @@ use Rattle.packed.specs.Numbers.{sevens}
 use Rattle.packed.specs.declared.expected.Expected.{Expected}
 use Rattle.packed.specs.Told.{Told, nothing_begun, expected}
 use Rattle.packed.specs.Spelling.{is_last, time_lead, edit_spelling, packed_next}
-use Rattle.chunks.specs.Chunks.{Placed, begin_spelling, begun_with, added, told_by, added_after, tag, head, chunk_bytes}
+use Rattle.chunks.specs.Chunks.{Placed, begin_spelling, begun_with, added, told_by, added_after, chunk_tag, head, chunk_bytes}
 use Rattle.chunks.specs.Chunks.{CanCome, CanAllCome, IsChunkOf, Written, nothing_written, fits, written_on, chunks_on}
 use Rattle.chunks.specs.declared.TheConstants.{MAX_CHUNK}
 use Rattle.chunks.specs.Laws.{AreChunksOf, ChunksTell}
@@ -44,7 +44,7 @@ begin_sized p =
 
 pub head_sized : (text : ℕ) → length (head text) ≡ 6
 unfolding number_spelling
-head_sized text = omega (arith, length-append (tag) (number_spelling w16 text), wide16.len text)
+head_sized text = omega (arith, length-append (chunk_tag) (number_spelling w16 text), wide16.len text)
 
 first_sized : (text : ℕ) (p : Placed) → CanCome nothing_begun text p → length (added nothing_begun p) ≤ 11444
 first_sized text p can =

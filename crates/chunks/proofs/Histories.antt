@@ -4,12 +4,12 @@ use Rattle.std.proofs.Common.{filter, refl, sym, ap, subst, ◌∙◌, arith}
 use Rattle.std.proofs.lemmas.Bool.{cases_Bool, eqb-true, ltb-true, ltb-false, cond-true, cond-false}
 use Rattle.operations.specs.Operation.{Operation}
 use Rattle.packed.specs.declared.expected.Expected.{Expected}
-use Rattle.packed.specs.Told.{Told, nothing_told, nothing_begun, has_begun, expected, after, told_on}
+use Rattle.packed.specs.Told.{Told, nothing_told, nothing_begun, has_begun, expected, after_one_more, told_on}
 use Rattle.packed.specs.Laws.{CanFollow}
 use Rattle.packed.specs.Reading.{CanBeNext}
 use Rattle.packed.proofs.Told.{expected_noted}
 use Rattle.chunks.specs.Chunks.{Placed, operations_of, begun, told_by, CanCome, CanAllCome, placed_from}
-use Rattle.chunks.specs.Laws.{beyond, WhatIsBeyondCanCome}
+use Rattle.chunks.specs.Laws.{above_fronts, WhatIsBeyondCanCome}
 use Rattle.chunks.specs.Parts.{placed, LensAreInFiles}
 use Rattle.chunks.proofs.Agreeing.{Same, Goes, comes_so, expected_by, expected_here, begun_by, same_after}
 use Rattle.chunks.proofs.Opening.{lens_on}
@@ -21,7 +21,7 @@ Passed front u h = (site : ℕ) → has_begun u site ≡ true
 
 other_site : (h : Told) (op : Operation) (site : ℕ) → eqb op.site site ≡ false → expected (told_on h op) site ≡ expected h site
 other_site h op site apart =
-    expected_noted h op.site (after (expected h op.site) op) site ∙ cond-false _ _ _ apart
+    expected_noted h op.site (after_one_more (expected h op.site) op) site ∙ cond-false _ _ _ apart
 
 goes_next : (h : Told) (text : ℕ) (op : Operation) → CanBeNext h text op → LensAreInFiles h
     → Goes (expected h op.site) text (placed op (expected h op.site).len)
@@ -58,7 +58,7 @@ passed_on front u h text op can passed come kept site told =
     let p : Placed = placed op (expected h op.site).len in
     elim (cases_Bool (eqb op.site site)) [
       | inl here ↦
-          let at : expected (told_on h op) site ≡ after (expected h op.site) op = expected_here h op site here in
+          let at : expected (told_on h op) site ≡ after_one_more (expected h op.site) op = expected_here h op site here in
           let of : front op.site ≡ front site = ap front (eqb-true op.site site here) in (
             same_after _ _ (expected (begun u p) op.site) (expected h op.site) op (expected_here (begun u p) op site here) at
                 (sym come.len),
@@ -71,7 +71,7 @@ passed_on front u h text op can passed come kept site told =
     ]
 
 can_come : (ops : List Operation) (front : ℕ → ℕ) (u h : Told) (text : ℕ) → CanFollow h text ops → LensAreInFiles h
-    → Passed front u h → CanAllCome u text (beyond front (placed_from h ops))
+    → Passed front u h → CanAllCome u text (above_fronts front (placed_from h ops))
 unfolding Passed
 can_come [] front u h text follow lens passed = tt
 can_come (op ∷ ops) front u h text follow lens passed =
@@ -91,7 +91,7 @@ can_come (op ∷ ops) front u h text follow lens passed =
     p = placed op (expected h op.site).len
 
     rest : List Placed
-    rest = beyond front (placed_from (told_on h op) ops)
+    rest = above_fronts front (placed_from (told_on h op) ops)
 
     lens_after : LensAreInFiles (told_on h op)
     lens_after = lens_on h text op follow.0 lens
@@ -101,7 +101,7 @@ can_come (op ∷ ops) front u h text follow lens passed =
         comes_so u text p (expected h op.site) (goes_next h text op follow.0 lens) (λ told. (passed op.site told).0)
 
 same_operations : (ops : List Operation) (front : ℕ → ℕ) (h : Told)
-    → operations_of (beyond front (placed_from h ops)) ≡ filter (λ (op : Operation). ltb (front op.site) op.seq) ops
+    → operations_of (above_fronts front (placed_from h ops)) ≡ filter (λ (op : Operation). ltb (front op.site) op.seq) ops
 same_operations [] front h = refl
 same_operations (op ∷ ops) front h = by (same_operations ops front (told_on h op)) (ltb (front op.site) op.seq)
   where
@@ -109,7 +109,7 @@ same_operations (op ∷ ops) front h = by (same_operations ops front (told_on h 
     p = placed op (expected h op.site).len
 
     rest : List Placed
-    rest = beyond front (placed_from (told_on h op) ops)
+    rest = above_fronts front (placed_from (told_on h op) ops)
 
     others : List Operation
     others = filter (λ (o : Operation). ltb (front o.site) o.seq) ops

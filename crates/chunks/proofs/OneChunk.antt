@@ -13,7 +13,7 @@ use Rattle.packed.specs.Reading.{CanBeNext}
 use Rattle.packed.proofs.Told.{carets_begun}
 use Rattle.packed.proofs.PackedLists.{determined, some_bytes}
 use Rattle.chunks.specs.declared.reading.Begin.{Begin}
-use Rattle.chunks.specs.Chunks.{Placed, begin_lead, begun_with, begun, added, told_by, added_after, tag, CanCome, CanAllCome, IsChunkOf}
+use Rattle.chunks.specs.Chunks.{Placed, begin_lead, begun_with, begun, added, told_by, added_after, chunk_tag, CanCome, CanAllCome, IsChunkOf}
 use Rattle.chunks.specs.Laws.{OneChunk}
 use Rattle.chunks.specs.Parts.{placed, begin_fields, begun_so, IsOpen, IsFirst}
 use Rattle.chunks.proofs.Firsts.{begin_for, first_parts, later_parts, first_told, first_is_first}
@@ -97,20 +97,20 @@ lists_once (p ∷ ps) (q ∷ qs) t text is_open come_p come_q e =
     ap (λ (r : Placed). r ∷ ps) same.0 ∙ ap (λ (l : List Placed). q ∷ l) rest
 
 -- what stands after the tag
-pub after_tag : (text : ℕ) (ps : List Placed) (bytes rest : List ℕ) → IsChunkOf text ps bytes → bytes ≡ tag ++ rest
+pub after_tag : (text : ℕ) (ps : List Placed) (bytes rest : List ℕ) → IsChunkOf text ps bytes → bytes ≡ chunk_tag ++ rest
     → positive_at w16 rest ≡ Some (text, added_after nothing_begun ps)
 after_tag text ps bytes rest is e =
     let added : List ℕ = added_after nothing_begun ps in
     let after : rest ≡ number_spelling w16 text ++ added =
-    append_cancel_left (tag) rest (number_spelling w16 text ++ added)
-    (sym e ∙ is.spelled ∙ append_assoc (tag) (number_spelling w16 text) added) in
+    append_cancel_left (chunk_tag) rest (number_spelling w16 text ++ added)
+    (sym e ∙ is.spelled ∙ append_assoc (chunk_tag) (number_spelling w16 text) added) in
     ap (positive_at w16) after ∙ (positive_reads w16 (2 ^ 16) wide16).again text added is.text_number
 
 pub one_chunk : OneChunk
 one_chunk bytes text other ps qs is_p is_q =
     let rest : List ℕ = number_spelling w16 text ++ added_after nothing_begun ps in
-    let tagged : bytes ≡ tag ++ rest =
-    is_p.spelled ∙ append_assoc (tag) (number_spelling w16 text) (added_after nothing_begun ps) in
+    let tagged : bytes ≡ chunk_tag ++ rest =
+    is_p.spelled ∙ append_assoc (chunk_tag) (number_spelling w16 text) (added_after nothing_begun ps) in
     let same : ◌≡◌ {A = ℕ × List ℕ} (text, added_after nothing_begun ps) (other, added_after nothing_begun qs) =
     some_is _ _ (sym (after_tag text ps bytes rest is_p tagged) ∙ after_tag other qs bytes rest is_q tagged) in
     let texts : text ≡ other = ap (λ (p : ℕ × List ℕ). p.0) same in (

@@ -5,7 +5,7 @@ use Rattle.char_files.specs.declared.TheConstants.{MAX_FILE}
 use Rattle.operations.specs.Operation.{Operation, OpKind, insert, delete, restore, change_looks, appended_len, Begins}
 use Rattle.operations.specs.Spelling.{IsKind}
 use Rattle.packed.specs.declared.expected.Expected.{Expected}
-use Rattle.packed.specs.Told.{Told, at_first, nothing_begun, noted, has_begun, expected, after, told_on, CaretsAreInFiles}
+use Rattle.packed.specs.Told.{Told, at_first, nothing_begun, noted, has_begun, expected, after_one_more, told_on, CaretsAreInFiles}
 use Rattle.packed.specs.Reading.{CanBeNext}
 use Rattle.packed.proofs.Told.{expected_noted, has_begun_noted, carets_on, carets_begun, none_begun}
 use Rattle.chunks.specs.Chunks.{Placed, begun_with, begun, told_by, CanCome}
@@ -59,10 +59,10 @@ unfolding AreOther
 counted_on t op some others site h =
     elim (cases_Bool (eqb op.site site)) [
       | inl here ↦
-          let is : expected (told_on t op) site ≡ after (expected t op.site) op =
-          expected_noted t op.site (after (expected t op.site) op) site ∙ cond-true _ _ _ here in
+          let is : expected (told_on t op) site ≡ after_one_more (expected t op.site) op =
+          expected_noted t op.site (after_one_more (expected t op.site) op) site ∙ cond-true _ _ _ here in
           subst (λ (x : Expected). 0 < x.seq) (sym is) some
-      | inr apart ↦ other_noted t op.site (after (expected t op.site) op) site apart (others site apart) h
+      | inr apart ↦ other_noted t op.site (after_one_more (expected t op.site) op) site apart (others site apart) h
     ]
 
 pub nothing_is_open : IsOpen nothing_begun
@@ -94,7 +94,7 @@ len_after site len (change_looks sel looks names) is begins le = omega (arith, l
 pub lens_on : (t : Told) (text : ℕ) (op : Operation) → CanBeNext t text op → LensAreInFiles t → LensAreInFiles (told_on t op)
 lens_on t text op can lens =
     let e : Expected = expected t op.site in
-    lens_noted t op.site (after e op) (len_after op.site e.len op.kind can.spelled.kind can.next.begins (lens op.site)) lens
+    lens_noted t op.site (after_one_more e op) (len_after op.site e.len op.kind can.spelled.kind can.next.begins (lens op.site)) lens
 
 lens_of_begun : (t : Told) (p : Placed) → p.len ≤ MAX_FILE → LensAreInFiles t → LensAreInFiles (begun t p)
 lens_of_begun t p le lens = by_begun LensAreInFiles t p lens (lens_noted t p.op.site (expected_first p) le lens)

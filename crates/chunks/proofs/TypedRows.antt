@@ -15,7 +15,7 @@ use Rattle.operations.specs.declared.typing.Typing.{Typing}
 use Rattle.packed.specs.Letters.{AreTypedNext, TypesOn}
 use Rattle.packed.specs.Reading.{CanBeNext}
 use Rattle.packed.specs.Spelling.{is_code}
-use Rattle.packed.specs.Told.{Told, after, expected, has_begun, told_after, told_on}
+use Rattle.packed.specs.Told.{Told, after_one_more, expected, has_begun, told_after, told_on}
 use Rattle.packed.proofs.Letters.{letter_packed, letters_follow, none_is_code, typed_on, types_on}
 use Rattle.packed.proofs.Told.{has_begun_noted}
 use Rattle.chunks.specs.Chunks.{Placed, CanCome}
@@ -116,7 +116,7 @@ module _ (t : Told) (text : ℕ) (typing : Typing) (b : ℕ) (after_it : List �
 
   still_begun : has_begun (told_on t (letter typing b)) typing.site ≡ true
   still_begun =
-      has_begun_noted t typing.site (after (expected t typing.site) (letter typing b)) typing.site
+      has_begun_noted t typing.site (after_one_more (expected t typing.site) (letter typing b)) typing.site
       ∙ cond-true (eqb typing.site typing.site) _ _ (eq-eqb _ _ refl)
 
 row_more : (text : ℕ) (all : List ℕ) (t : Told) (ops : List Operation) (typing : Typing) (bytes rest : List ℕ)

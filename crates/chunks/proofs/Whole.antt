@@ -11,7 +11,7 @@ use Rattle.operations.specs.Operation.{Operation}
 use Rattle.packed.specs.Told.{nothing_begun}
 use Rattle.chunks.specs.declared.TheConstants.{MAX_CHUNK}
 use Rattle.chunks.specs.declared.reading.Chunk.{Chunk}
-use Rattle.chunks.specs.Chunks.{Placed, operations_of, added_after, tag, CanAllCome, BeginsAsChunk, IsChunkOf, IsNoChunk}
+use Rattle.chunks.specs.Chunks.{Placed, operations_of, added_after, chunk_tag, CanAllCome, BeginsAsChunk, IsChunkOf, IsNoChunk}
 use Rattle.chunks.specs.Parts.{HasAll}
 use Rattle.chunks.proofs.OneChunk.{after_tag}
 
@@ -21,33 +21,33 @@ fits_after front rest fits i =
     subst (λ (b : ℕ). b < 256) (get_or-append-add front rest i 0) (fits (length front + i))
 
 -- a chunk begins with the tag
-pub untagged : (bytes : List ℕ) → take 4 bytes ≢ tag → IsNoChunk bytes
+pub untagged : (bytes : List ℕ) → take 4 bytes ≢ chunk_tag → IsNoChunk bytes
 untagged bytes apart text ps is =
     let rest : List ℕ = number_spelling w16 text ++ added_after nothing_begun ps in
-    apart (ap (λ (l : List ℕ). take 4 l) (is.spelled ∙ append_assoc tag (number_spelling w16 text) (added_after nothing_begun ps))
-    ∙ take_at tag rest 4 refl)
+    apart (ap (λ (l : List ℕ). take 4 l) (is.spelled ∙ append_assoc chunk_tag (number_spelling w16 text) (added_after nothing_begun ps))
+    ∙ take_at chunk_tag rest 4 refl)
 
 -- where no text stands after the tag it is no chunk
-pub no_text : (bytes rest : List ℕ) → bytes ≡ tag ++ rest → positive_at w16 rest ≡ None → IsNoChunk bytes
+pub no_text : (bytes rest : List ℕ) → bytes ≡ chunk_tag ++ rest → positive_at w16 rest ≡ None → IsNoChunk bytes
 no_text bytes rest tagged none text ps is = no_some (sym none ∙ after_tag text ps bytes rest is tagged)
   where
     no_some : {A : Type 0} {x : A} → ◌≡◌ {A = Option A} None (Some x) → ⊥
     no_some e = cc
 
-module _ (bytes rest : List ℕ) (tagged : bytes ≡ tag ++ rest) (text : ℕ) (after : List ℕ)
+module _ (bytes rest : List ℕ) (tagged : bytes ≡ chunk_tag ++ rest) (text : ℕ) (after : List ℕ)
     (found : positive_at w16 rest ≡ Some (text, after)) where
   -- the bytes begin as a chunk's
   pub begins : IsBytes bytes → length bytes ≤ MAX_CHUNK → BeginsAsChunk bytes
   begins fits short =
       let took =
-      (positive_reads w16 (2 ^ 16) wide16).takes rest text after (fits_after (tag) rest (subst IsBytes tagged fits))
+      (positive_reads w16 (2 ^ 16) wide16).takes rest text after (fits_after (chunk_tag) rest (subst IsBytes tagged fits))
       found in
       record {
         text = text;
         rest = after;
         text_number = took.in_range;
-        parts = tagged ∙ ap (λ (l : List ℕ). tag ++ l) took.parts
-            ∙ sym (append_assoc (tag) (number_spelling w16 text) after);
+        parts = tagged ∙ ap (λ (l : List ℕ). chunk_tag ++ l) took.parts
+            ∙ sym (append_assoc (chunk_tag) (number_spelling w16 text) after);
         short = short;
       }
 
@@ -66,16 +66,16 @@ module _ (bytes rest : List ℕ) (tagged : bytes ≡ tag ++ rest) (text : ℕ) (
       → (ps : List Placed) × (operations_of ps ≡ ops) × IsChunkOf text ps bytes
   whole ops fits short (ps, are, come, is) =
       let took =
-      (positive_reads w16 (2 ^ 16) wide16).takes rest text after (fits_after (tag) rest (subst IsBytes tagged fits))
+      (positive_reads w16 (2 ^ 16) wide16).takes rest text after (fits_after (chunk_tag) rest (subst IsBytes tagged fits))
       found in (
         ps,
         are,
         record {
           text_number = took.in_range;
           come = come;
-          spelled = tagged ∙ ap (λ (l : List ℕ). tag ++ l) (took.parts
+          spelled = tagged ∙ ap (λ (l : List ℕ). chunk_tag ++ l) (took.parts
               ∙ ap (λ (l : List ℕ). number_spelling w16 text ++ l) is)
-              ∙ sym (append_assoc (tag) (number_spelling w16 text) (added_after nothing_begun ps));
+              ∙ sym (append_assoc (chunk_tag) (number_spelling w16 text) (added_after nothing_begun ps));
           short = short;
         },
       )

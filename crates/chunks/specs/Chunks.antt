@@ -50,12 +50,12 @@ added_after told [] = []
 added_after told (p ∷ ps) = added told p ++ added_after (told_by told p) ps
 
 -- what a chunk begins with
-abbrev pub tag : List ℕ
-tag = codes "OTC1"
+abbrev pub chunk_tag : List ℕ
+chunk_tag = codes "OTC1"
 
 -- that, and the text
 abbrev pub head : (text : ℕ) → List ℕ
-head text = tag ++ number_spelling w16 text
+head text = chunk_tag ++ number_spelling w16 text
 
 -- the chunk of these operations on this text
 abbrev pub chunk_bytes : (text : ℕ) → List Placed → List ℕ

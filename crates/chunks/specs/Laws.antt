@@ -22,11 +22,11 @@ abbrev pub ChunksTell : Type 0
 ChunksTell = (text : ℕ) (ps : List Placed) → CanAllCome nothing_begun text ps → AreChunksOf text ps (chunks text ps)
 
 -- the operations with a number above what is said of their sites
-abbrev pub beyond : (front : ℕ → ℕ) → List Placed → List Placed
-beyond front ps = filter (λ p. nat_lt (front p.op.site) p.op.seq) ps
+abbrev pub above_fronts : (front : ℕ → ℕ) → List Placed → List Placed
+above_fronts front ps = filter (λ p. nat_lt (front p.op.site) p.op.seq) ps
 
 -- those of a history can all come, each with its site's file's length
 abbrev pub WhatIsBeyondCanCome : Type 0
 WhatIsBeyondCanCome = (text : ℕ) (ops : List Operation) (front : ℕ → ℕ) → IsHistory text ops
-    → CanAllCome nothing_begun text (beyond front (placed_from nothing_told ops))
-    × (operations_of (beyond front (placed_from nothing_told ops)) ≡ filter (λ op. nat_lt (front op.site) op.seq) ops)
+    → CanAllCome nothing_begun text (above_fronts front (placed_from nothing_told ops))
+    × (operations_of (above_fronts front (placed_from nothing_told ops)) ≡ filter (λ op. nat_lt (front op.site) op.seq) ops)

@@ -6,7 +6,7 @@ ghost use Rattle.packed.specs.Told.{nothing_begun, has_begun, told_on, IsNext};
 ghost use Rattle.packed.specs.Spelling.{packed_next};
 ghost use Rattle.packed.specs.Reading.{CanBeNext, BeginsWithNone};
 ghost use Rattle.chunks.specs.declared.TheConstants.{MAX_CHUNK};
-ghost use Rattle.chunks.specs.Chunks.{Placed, operations_of, added_after, tag, CanAllCome, BeginsAsChunk, IsChunkOf, IsNoChunk};
+ghost use Rattle.chunks.specs.Chunks.{Placed, operations_of, added_after, chunk_tag, CanAllCome, BeginsAsChunk, IsChunkOf, IsNoChunk};
 ghost use Rattle.chunks.specs.Rows.{ReadsRow, ReadsSome};
 ghost use Rattle.chunks.specs.Parts.{begin_of, begin_at, begun_so, BeginsNoSite, IsOpen, ReadsFirst, NoneIsFirst, HasAll};
 
@@ -213,7 +213,7 @@ fn is_short(bytes: &[u8]) -> bool
 
 // What stands after the tag, where the bytes begin with it.
 fn rest_of_tag(bytes: &[u8]) -> Option<&[u8]>
-    ensures { MatchOption result (take 4 bytes.now ≢ tag) (λ rest. bytes.now ≡ tag ++ rest.now) }
+    ensures { MatchOption result (take 4 bytes.now ≢ chunk_tag) (λ rest. bytes.now ≡ chunk_tag ++ rest.now) }
 {
     bytes.strip_prefix(TAG)
 }

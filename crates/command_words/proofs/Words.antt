@@ -4,7 +4,7 @@ use Rattle.std.proofs.Common.{sym}
 use Rattle.std.proofs.lemmas.Bool.{cases_lt}
 use Rattle.std.proofs.lemmas.List.{length-map, length-take, length-drop}
 use Rattle.char_files.specs.Stretch.{Item}
-use Rattle.reader_scanner.specs.ReaderState.{bytes_of}
+use Rattle.reader_scanner.specs.ReaderState.{item_bytes}
 use Rattle.reader_scanner.specs.Tokens.{is_name_byte}
 use Rattle.command_words.specs.declared.calls.Call.{Call}
 use Rattle.command_words.specs.declared.command.Command.{Command}
@@ -24,13 +24,13 @@ pub record IsNear (bytes : List ℕ) (pos beg end : ℕ) : Type 0 where
 
 -- what is found in a source is so of its bytes
 pub is_near : (items : List Item) (pos beg end : ℕ) → beg ≤ pos → pos ≤ end → end ≤ length items
-    → ((k : ℕ) → beg ≤ k → k < pos → is_name_byte (get_or (bytes_of items) k 0) ≡ true)
-    → ((k : ℕ) → pos ≤ k → k < end → is_name_byte (get_or (bytes_of items) k 0) ≡ true)
-    → (0 < beg → pos - beg < 32 → is_name_byte (get_or (bytes_of items) (beg - 1) 0) ≡ false)
-    → (end < length items → end - beg < 32 → is_name_byte (get_or (bytes_of items) end 0) ≡ false)
-    → IsNear (bytes_of items) pos beg end
+    → ((k : ℕ) → beg ≤ k → k < pos → is_name_byte (get_or (item_bytes items) k 0) ≡ true)
+    → ((k : ℕ) → pos ≤ k → k < end → is_name_byte (get_or (item_bytes items) k 0) ≡ true)
+    → (0 < beg → pos - beg < 32 → is_name_byte (get_or (item_bytes items) (beg - 1) 0) ≡ false)
+    → (end < length items → end - beg < 32 → is_name_byte (get_or (item_bytes items) end 0) ≡ false)
+    → IsNear (item_bytes items) pos beg end
 is_near items pos beg end from to within left right before after =
-    let same : length (bytes_of items) ≡ length items = length-map items (λ (i : Item). i.0) in
+    let same : length (item_bytes items) ≡ length items = length-map items (λ (i : Item). i.0) in
     record {
       from = from;
       to = to;

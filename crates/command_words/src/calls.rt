@@ -1,5 +1,5 @@
 ghost use Rattle.std.specs.Prelude.{◌≡◌, ◌-◌, ◌<◌, ◌≤◌, ℕ, true, false, length, slice_index, None, IfSome};
-ghost use Rattle.reader_scanner.specs.ReaderState.{bytes_of, bytes_between};
+ghost use Rattle.reader_scanner.specs.ReaderState.{item_bytes, bytes_between};
 ghost use Rattle.reader_scanner.specs.Tokens.{is_name_byte};
 ghost use Rattle.command_words.specs.Calls.{IsCallAt, NoCallAt};
 
@@ -23,7 +23,7 @@ pub struct Call {
 // Whether the byte at this position is a letter, a digit or a full stop.
 fn is_of_word<S: Source>(source: &S, pos: u64) -> bool
     requires { pos < length (S.items source.now) }
-    ensures { result ≡ is_name_byte (slice_index (bytes_of (S.items source.now)) pos) }
+    ensures { result ≡ is_name_byte (slice_index (item_bytes (S.items source.now)) pos) }
 {
     let byte = byte_at(source, pos);
     byte.is_ascii_alphanumeric() || byte == b'.'
@@ -35,9 +35,9 @@ fn word_begin<S: Source>(source: &S, pos: u64) -> u64
     ensures order { result ≤ pos }
     ensures near { pos - result ≤ NEAR }
     ensures each { (k : ℕ) → result ≤ k → k < pos
-        → is_name_byte (slice_index (bytes_of (S.items source.now)) k) ≡ true }
+        → is_name_byte (slice_index (item_bytes (S.items source.now)) k) ≡ true }
     ensures before { 0 < result → pos - result < NEAR
-        → is_name_byte (slice_index (bytes_of (S.items source.now)) (result - 1)) ≡ false }
+        → is_name_byte (slice_index (item_bytes (S.items source.now)) (result - 1)) ≡ false }
 {
     let least = pos.saturating_sub(NEAR as u64);
     let mut beg = pos;
@@ -56,9 +56,9 @@ fn word_end<S: Source>(source: &S, beg: u64, pos: u64) -> u64
     ensures within { result ≤ length (S.items source.now) }
     ensures near { result - beg ≤ NEAR }
     ensures each { (k : ℕ) → pos ≤ k → k < result
-        → is_name_byte (slice_index (bytes_of (S.items source.now)) k) ≡ true }
+        → is_name_byte (slice_index (item_bytes (S.items source.now)) k) ≡ true }
     ensures after { result < length (S.items source.now) → result - beg < NEAR
-        → is_name_byte (slice_index (bytes_of (S.items source.now)) result) ≡ false }
+        → is_name_byte (slice_index (item_bytes (S.items source.now)) result) ≡ false }
 {
     let most = source.len().min(beg.saturating_add(NEAR as u64));
     let mut end = pos;
@@ -87,8 +87,8 @@ fn word_between<S: Source>(source: &S, beg: u64, end: u64) -> ArrayVec<u8, NEAR>
 ///
 /// It is after the calls of commands in Project Oberon, chapter 4.
 pub fn command_at<S: Source>(source: &S, pos: u64) -> Option<Call>
-    ensures some { IfSome result (λ call. IsCallAt (bytes_of (S.items source.now)) pos call) }
-    ensures none { result ≡ None → NoCallAt (bytes_of (S.items source.now)) pos }
+    ensures some { IfSome result (λ call. IsCallAt (item_bytes (S.items source.now)) pos call) }
+    ensures none { result ≡ None → NoCallAt (item_bytes (S.items source.now)) pos }
 {
     if source.len() <= pos {
         return None;

@@ -1,5 +1,5 @@
 ghost use Rattle.std.specs.Prelude.{◌≡◌, ◌≢◌, None, IfSome, length, ◌<◌};
-ghost use Rattle.command_words.specs.Commands.{has_parameter, name_of, row_of};
+ghost use Rattle.command_words.specs.Commands.{command_row, has_parameter, name_of};
 
 /// A command that a text can call by its word. The forms are those of Project Oberon, chapter 4.
 #[derive(Clone, Copy, Debug, PartialEq, Eq)]
@@ -49,7 +49,7 @@ const COMMANDS: [Command; 12] = [
 impl Command {
     // Its row of the table: its word, and whether it asks for a parameter.
     fn row(self) -> (&'static [u8], bool)
-        ensures { (result.0.now, result.1) ≡ row_of self }
+        ensures { (result.0.now, result.1) ≡ command_row self }
     {
         match self {
             Command::SystemOpen => (b"System.Open", true),

@@ -10,7 +10,7 @@ use Rattle.char_files.specs.declared.character.Char.{Char}
 use Rattle.char_files.specs.declared.name.Anchor.{Anchor}
 use Rattle.text_frames.proofs.Places.{place_within}
 use Rattle.texts.specs.Edit.{anchor_before, is_in_text}
-use Rattle.texts.specs.Order.{insert_at}
+use Rattle.texts.specs.Order.{with_inserted}
 use Rattle.texts.specs.Outcome.{Shows}
 use Rattle.texts.specs.Text.{IsAnchor, IsText}
 use Rattle.texts.specs.TextState.{TextState, all_told, shown_of}
@@ -30,15 +30,15 @@ use Rattle.machine_laws.proofs.Rooms.{by_test}
 use Rattle.machine_laws.proofs.Telling.{put_there}
 use Rattle.desk_windows.proofs.Scrolling.{shown_is}
 use Rattle.desk_windows.specs.Windows.{AreOf, HasMovedTo, IsCaretPlace, WindowsSeen, screened, windows_of}
-use Rattle.desk_windows.specs.Windows.{window_of as seen_as}
+use Rattle.desk_windows.specs.Windows.{seen_window as seen_as}
 use Rattle.commands.proofs.Lifting.{HasText}
 use Rattle.commands.proofs.Steps.{Asked, at_text, run_stays}
-use Rattle.commands.specs.Inserting.{edit_of, task_of_insertion}
+use Rattle.commands.specs.Inserting.{edit_inserting, task_of_insertion}
 use Rattle.commands.specs.Steps.{DeskSeen, IsEditStep, StandsIn, with_desk}
 
 -- what puts characters in shows no less
 
-put_not_shorter : (xs : List Char) (n : ℕ) (run : List Char) → length xs ≤ length (insert_at xs n run)
+put_not_shorter : (xs : List Char) (n : ℕ) (run : List Char) → length xs ≤ length (with_inserted xs n run)
 put_not_shorter xs n run =
     let all = length-append (take n xs ++ run) (drop n xs) in
     let before = length-append (take n xs) run in
@@ -47,7 +47,7 @@ put_not_shorter xs n run =
     omega arith
 
 shows_no_less : (t u : TextState) (pos : ℕ) (what : Option (List Item)) (result : Result ℕ EditRefusal)
-    → Shows t (edit_of what pos) result u → length (shown_of t) ≤ length (shown_of u)
+    → Shows t (edit_inserting what pos) result u → length (shown_of t) ≤ length (shown_of u)
 shows_no_less t u pos (Some items) (Ok n) shows =
     subst (λ (l : List Char). length (shown_of t) ≤ length l) (sym shows) (put_not_shorter (shown_of t) pos _)
 shows_no_less t u pos (Some items) (Err (Whole why)) shows =
@@ -66,10 +66,10 @@ stays_as_long t u same =
     let long : length (shown_of u) ≡ length (shown_of t) = ap (λ (x : TextState). length (shown_of x)) same in omega arith
 
 inserts_no_less : (t u : TextState) (pos : ℕ) (what : Option (List Item)) (r : Reply)
-    → EditsText (edit_of what pos) r t u ⊎ EditsTextShort (edit_of what pos) r t u
+    → EditsText (edit_inserting what pos) r t u ⊎ EditsTextShort (edit_inserting what pos) r t u
     → length (shown_of t) ≤ length (shown_of u)
 inserts_no_less t u pos what r (inl does) =
-    elim (by_test (is_in_text t (edit_of what pos)) _ _ does) [
+    elim (by_test (is_in_text t (edit_inserting what pos)) _ _ does) [
       | inl done ↦ let (result, messages, edits, shows, replied) = done.1 in shows_no_less t u pos what result shows
       | inr left ↦ stays_as_long t u left.1.1
     ]
@@ -102,13 +102,13 @@ caret_moves t u was old more =
 -- what is put in at the caret is the task's
 module _ (s : State) (i : ℕ) (d : SiteTexts) (w : Screened) (c : Caret) (shown : Window × TextState) where
   put_does : (what : Option (List Item)) (r : Reply) (new : State) → w.caret ≡ Some c
-      → window_of d w c.viewer ≡ Some shown → AtCaret EditsAt s i w c shown.0 shown.1 (edit_of what) r new
+      → window_of d w c.viewer ≡ Some shown → AtCaret EditsAt s i w c shown.0 shown.1 (edit_inserting what) r new
       → DoesTask s i d w (task_of_insertion what) untouched r new
   put_does (Some items) r new caret at does = inr (c, shown, caret, at, (refl, does))
   put_does None r new caret at does = inr (c, shown, caret, at, (refl, does))
 
   put_short : (what : Option (List Item)) (r : Reply) (new : State) → w.caret ≡ Some c
-      → window_of d w c.viewer ≡ Some shown → AtCaret EditsShortAt s i w c shown.0 shown.1 (edit_of what) r new
+      → window_of d w c.viewer ≡ Some shown → AtCaret EditsShortAt s i w c shown.0 shown.1 (edit_inserting what) r new
       → ShortTask s i d w (task_of_insertion what) untouched r new
   put_short (Some items) r new caret at short = (refl, (c, shown, caret, at, short))
   put_short None r new caret at short = (refl, (c, shown, caret, at, short))
@@ -132,7 +132,7 @@ pub record IsInsertedIn (d d' new : SiteTexts) (old mid : WindowsSeen) (place : 
   pub anchor : IsAnchor t.operations c.anchor
   pub on : place.0 ≡ window.text
   pub at : place.1 ≡ place_in t c.anchor
-  pub edited : EditsSite d window.text (edit_of what (place_in t c.anchor)) result d' before after
+  pub edited : EditsSite d window.text (edit_inserting what (place_in t c.anchor)) result d' before after
   pub told : Asked d' window.text new
   pub same : screened mid ≡ screened old
 
@@ -153,7 +153,7 @@ anchored d w c shown are is_caret shows =
 -- what is put in at the caret's place is put in so
 pub put_at : (d d' new : SiteTexts) (old mid : WindowsSeen) (place : ℕ × ℕ) (what : Option (List Item)) (result : Result ℕ EditRefusal)
     (before after : List (List ℕ)) → AreOf d old → IsCaretPlace d old (Some place) → HasText d place.0
-    → EditsSite d place.0 (edit_of what place.1) result d' before after → Asked d' place.0 new
+    → EditsSite d place.0 (edit_inserting what place.1) result d' before after → Asked d' place.0 new
     → screened mid ≡ screened old → IsInsertedIn d d' new old mid place what result before after
 put_at d d' new old mid place what result before after are (c, shown, caret, shows, text, pos) (t, at, is) edited told same =
     let one : t ≡ shown.1 = one_element (slice_get d.texts (shown.0.text - 1)) t shown.1
@@ -168,8 +168,8 @@ put_at d d' new old mid place what result before after are (c, shown, caret, sho
       anchor = anchored d old c shown are caret shows;
       on = text;
       at = pos;
-      edited = subst (λ (n : ℕ). EditsSite d n (edit_of what (place_in shown.1 c.anchor)) result d' before after) text
-          (subst (λ (n : ℕ). EditsSite d place.0 (edit_of what n) result d' before after) pos edited);
+      edited = subst (λ (n : ℕ). EditsSite d n (edit_inserting what (place_in shown.1 c.anchor)) result d' before after) text
+          (subst (λ (n : ℕ). EditsSite d place.0 (edit_inserting what n) result d' before after) pos edited);
       told = subst (λ (n : ℕ). Asked d' n new) text told;
       same = same;
     }
@@ -185,8 +185,8 @@ module _ {d d' new : SiteTexts} {old mid : WindowsSeen} {place : ℕ × ℕ} {wh
   abbrev messages : List (List ℕ)
   messages = edited.3.0
 
-  put_so : InText (λ x u. EditsText (edit_of what (place_in t c.anchor)) (edit_reply result messages) x u
-      ⊎ EditsTextShort (edit_of what (place_in t c.anchor)) (edit_reply result messages) x u) d window.text d'
+  put_so : InText (λ x u. EditsText (edit_inserting what (place_in t c.anchor)) (edit_reply result messages) x u
+      ⊎ EditsTextShort (edit_inserting what (place_in t c.anchor)) (edit_reply result messages) x u) d window.text d'
   put_so = (edited.0, edited.1, edited.2, edited.3.3, edited.4)
 
   pub text_then : TextState
@@ -293,7 +293,7 @@ module _ {d d' new : SiteTexts} {old mid : WindowsSeen} {place : ℕ × ℕ} {wh
           let more : after ≡ s.sent ++ messages_of (edit_reply result messages) =
           edited.3.2 ∙ ap (λ (all : List (List ℕ)). all ++ messages_of (edit_reply result messages)) (sym sent) in
           let run = with_desk s i (record { texts = new; screen = w }) after in
-          let e = edit_of what (place_in t c.anchor) in
+          let e = edit_inserting what (place_in t c.anchor) in
           elim (edited.3.3) [
             | inl does ↦ inl (
               d,

@@ -7,7 +7,7 @@ use Rattle.looks.specs.declared.refusal.Refusal.{Refusal}
 use Rattle.looks.specs.declared.refusal.Refusal.TheVariants.{NoSelection, NoViewer, UnknownCommand}
 use Rattle.char_files.specs.Plain.{plain_items}
 use Rattle.char_files.specs.declared.character.Char.{Char}
-use Rattle.reader_scanner.specs.ReaderState.{bytes_of}
+use Rattle.reader_scanner.specs.ReaderState.{item_bytes}
 use Rattle.reader_scanner.specs.Tokens.{IsTokenAt}
 use Rattle.reader_scanner.specs.declared.token.Token.{Token}
 use Rattle.reader_scanner.specs.declared.token.TokenValue.{TokenValue}
@@ -30,21 +30,21 @@ use Rattle.desk_windows.specs.declared.pointing.CellTarget.TheVariants.{Menu, Te
 use Rattle.commands.specs.Steps.{task_told}
 
 -- the bytes of plain characters, and those of a text
-pub plain_are : (bytes : List ℕ) → bytes_of (plain_items bytes) ≡ bytes
+pub plain_are : (bytes : List ℕ) → item_bytes (plain_items bytes) ≡ bytes
 plain_are [] = refl
 plain_are (b ∷ rest) = ap (λ (l : List ℕ). b ∷ l) (plain_are rest)
 
-chars_are : (cs : List Char) → bytes_of (map (λ c. (c.byte, c.looks)) cs) ≡ map (λ c. c.byte) cs
+chars_are : (cs : List Char) → item_bytes (map (λ c. (c.byte, c.looks)) cs) ≡ map (λ c. c.byte) cs
 chars_are [] = refl
 chars_are (c ∷ rest) = ap (λ (l : List ℕ). c.byte ∷ l) (chars_are rest)
 
-pub shown_are : (t : TextState) → bytes_of (shown_items t) ≡ bytes_shown t
+pub shown_are : (t : TextState) → item_bytes (shown_items t) ≡ bytes_shown t
 shown_are t = chars_are (shown_of t)
 
 -- what is clicked stands in these bytes, at this position
 module _ (d : SiteTexts) (seen : ClickedSeen) (c : Clicked) (is : IsClick d seen c) (pos : ℕ) where
   pub in_menu : (bytes : List ℕ) → c.place ≡ Menu pos → bytes ≡ menu_of c.viewer c.text
-      → (bytes_of (plain_items bytes) ≡ seen.bytes) × (pos ≡ seen.pos)
+      → (item_bytes (plain_items bytes) ≡ seen.bytes) × (pos ≡ seen.pos)
   in_menu bytes menu are =
       let (its, at) = subst (IsPlaceOf d seen) menu is.place in (
         plain_are bytes ∙ are ∙ (λ k. menu_of (is.viewer k) (is.text k)) ∙ sym its,
@@ -52,7 +52,7 @@ module _ (d : SiteTexts) (seen : ClickedSeen) (c : Clicked) (is : IsClick d seen
       )
 
   pub in_text : (t : TextState) → c.place ≡ Text pos → IsTextOf d c.text t
-      → (bytes_of (shown_items t) ≡ seen.bytes) × (pos ≡ seen.pos)
+      → (item_bytes (shown_items t) ≡ seen.bytes) × (pos ≡ seen.pos)
   in_text t below there =
       let (u, at_u, its, at) = subst (IsPlaceOf d seen) below is.place in
       let same : t ≡ u = one_element (slice_get d.texts (seen.text - 1)) t u
@@ -104,7 +104,7 @@ module _ (d : SiteTexts) (w : Screened) (call : Call) (viewer text : ℕ) where
 
 -- the token at the selection's begin
 pub marked_told : (d : SiteTexts) (w : Screened) (at : Marked) (t : TextState) (beg : ℕ) (token : Token) → marked d w ≡ Some at
-    → t ≡ at.text → beg ≡ at.beg → IsTokenAt (bytes_of (shown_items t)) beg token
+    → t ≡ at.text → beg ≡ at.beg → IsTokenAt (item_bytes (shown_items t)) beg token
     → MatchOption (marked d w) (◌≡◌ {A = Result TokenValue Refusal} (Ok token.value) (Err NoSelection))
     (λ m. (there : Token) × IsTokenAt (bytes_shown m.text) m.beg there
     × ◌≡◌ {A = Result TokenValue Refusal} (Ok token.value) (Ok there.value))
@@ -114,7 +114,7 @@ marked_told d w at t beg token is text_is beg_is there =
     × ◌≡◌ {A = Result TokenValue Refusal} (Ok token.value) (Ok there.value))) (sym is) (
       token,
       subst (λ (l : List ℕ). IsTokenAt l at.beg token) (shown_are t ∙ ap bytes_shown text_is)
-          (subst (λ (n : ℕ). IsTokenAt (bytes_of (shown_items t)) n token) beg_is there),
+          (subst (λ (n : ℕ). IsTokenAt (item_bytes (shown_items t)) n token) beg_is there),
       refl,
     )
 

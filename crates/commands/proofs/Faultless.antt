@@ -13,7 +13,7 @@ use Rattle.texts.specs.declared.edit_refusal.EditRefusal.{EditRefusal}
 use Rattle.texts.specs.declared.edit_refusal.EditRefusal.TheVariants.{Whole, Partial}
 use Rattle.viewers.specs.declared.screen.Track.{Track}
 use Rattle.machine.specs.SiteTexts.{SiteTexts}
-use Rattle.machine.specs.Commands.{Change, dress_marked, with_value}
+use Rattle.machine.specs.Commands.{Change, dress_marked, task_with_value}
 use Rattle.machine.specs.Events.{Reply, Task, arrange, ask, change, done, edit_reply, forget, keep, load, opens, print}
 use Rattle.machine.specs.Events.{insert_at_caret, recall_at_caret, refuse, refuses, reopen, search, store, untouched}
 use Rattle.machine.specs.Machine.{Replies}
@@ -271,7 +271,7 @@ edit_step_sound seen new task result before after sound (messages, counts, steps
 -- ---- the tasks of commands
 
 pub told_sound : {X : Type 0} (told : Option X) (task : X → Task) → ((x : X) → IsSoundTask (task x))
-    → IsSoundTask (with_value told task)
+    → IsSoundTask (task_with_value told task)
 told_sound None task sound = refl
 told_sound (Some x) task sound = sound x
 

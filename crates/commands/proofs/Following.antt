@@ -24,7 +24,7 @@ use Rattle.machine.specs.SiteTexts.{SiteTexts, InText, IsTextOf, fresh_texts, wi
 use Rattle.machine_laws.proofs.Reaching.{new_texts, set_cases}
 use Rattle.machine_laws.proofs.Telling.{put_there}
 use Rattle.machine_laws.specs.Growing.{Grows}
-use Rattle.desk_windows.specs.Windows.{Follows}
+use Rattle.desk_windows.specs.Windows.{FollowsChanges}
 use Rattle.commands.specs.Steps.{AreTold}
 
 -- a character stays one in what has more operations
@@ -47,7 +47,7 @@ leads_since t u changes told grows since =
 
 -- a text that has grown follows by the changes that it tells then
 text_follows : (t u : TextState) (changes : List Change) → t.asked ≡ length t.operations → Grows t u
-    → AreChangesSince u.asked u.operations changes (shown_of u) → Follows changes t (all_told u)
+    → AreChangesSince u.asked u.operations changes (shown_of u) → FollowsChanges changes t (all_told u)
 text_follows t u changes told grows since =
     let part : IsPartOf t.operations u.operations =
     λ op held. subst (λ (ops : List Operation). Contains ops op) (sym grows.taken)
@@ -81,7 +81,7 @@ module _ (d mid new : SiteTexts) (text : ℕ) (told : AreTold d) (grown : InText
 
   -- follows by the changes that this tells
   pub site_follows : (changes : List Change) → (u : TextState) × IsTextOf mid text u × AreChangesSince u.asked u.operations changes (shown_of u)
-      → InText (Follows changes) d text new
+      → InText (FollowsChanges changes) d text new
   site_follows changes (u, at, since) = (
     grown.0,
     all_told grown_text,

@@ -15,7 +15,7 @@ use Rattle.kept_file.specs.KeptFiles.{IsKeptFileOf, IsNoKeptFile}
 use Rattle.machine.specs.SiteTexts.{SiteTexts, InText, IsTextOf, with_text}
 use Rattle.machine.specs.Events.{Part, Reply, ask, done, failed, refuses, reopen, untouched, went_well}
 use Rattle.machine.specs.State.{IsDeskAt, State}
-use Rattle.machine.specs.Tasks.{BeginsWith, DoesTask, Reopens, has_begun}
+use Rattle.machine.specs.Tasks.{BeginsWith, DoesTask, Reopens, text_has_begun}
 use Rattle.machine.specs.Windows.{Screened}
 use Rattle.machine_laws.proofs.OneOfTexts.{one_element}
 use Rattle.machine_laws.proofs.Telling.{put_back}
@@ -34,7 +34,7 @@ none_taken [] waiting fresh = refl
 none_taken (op ∷ ops) waiting fresh = absurd (grind (arith, fresh))
 
 -- a text that begins as it was kept grows by that
-pub kept_grows : (t kept : TextState) → IsText t → has_begun t ≡ false → t.asked ≡ length t.operations
+pub kept_grows : (t kept : TextState) → IsText t → text_has_begun t ≡ false → t.asked ≡ length t.operations
     → HasTakenAll (empty_text kept.text kept.site) kept.operations kept → Grows t kept
 kept_grows t kept is fresh told taken =
     let none : t.operations ≡ [] = none_taken t.operations t.waiting_room fresh in record {
@@ -47,7 +47,7 @@ kept_grows t kept is fresh told taken =
 
 -- so does a desk's text in the place of which it is put
 pub replaced_grows : (d d' : SiteTexts) (text : ℕ) (kept : TextState) → HasText d text → AreTold d
-    → ((t : TextState) → IsTextOf d text t → has_begun t ≡ false)
+    → ((t : TextState) → IsTextOf d text t → text_has_begun t ≡ false)
     → HasTakenAll (empty_text kept.text kept.site) kept.operations kept → InText (λ _ u. u ≡ kept) d text d'
     → InText Grows d text d'
 replaced_grows d d' text kept (t, at, is) told fresh taken (u, v, there, is_set, changed) =
@@ -61,7 +61,7 @@ replaced_grows d d' text kept (t, at, is) told fresh taken (u, v, there, is_set,
 
 -- and has it then, with its changes told
 pub replaced_now : (d d' new : SiteTexts) (text : ℕ) (kept : TextState) → HasText d text → AreTold d
-    → ((t : TextState) → IsTextOf d text t → has_begun t ≡ false)
+    → ((t : TextState) → IsTextOf d text t → text_has_begun t ≡ false)
     → HasTakenAll (empty_text kept.text kept.site) kept.operations kept → InText (λ _ u. u ≡ kept) d text d'
     → InText (λ t u. u ≡ all_told t) d' text new → new ≡ with_text d text (all_told kept)
 unfolding replaced_grows
@@ -91,14 +91,14 @@ module _ (d : SiteTexts) (w : Screened) (text : ℕ) (t : TextState) (there : Is
   ReopensSo result new sent told told' = IsShelfStep seen (λ i. ask i (reopen text name)) result new sent sent told told'
 
   -- one in which something was done isn't reopened, and no file is read
-  pub begun_step : (told : ShelfSeen) (sent : List (List ℕ)) → has_begun t ≡ true
+  pub begun_step : (told : ShelfSeen) (sent : List (List ℕ)) → text_has_begun t ≡ true
       → ReopensSo (Err (Whole Conflict)) seen sent told told
   begun_step told sent begun =
       refused_over d w (reopen text name) told told untouched Conflict (files_of told.files) (files_of told.files) sent
       (same_of told.files) refl refl
       (λ s i new stands is refused. inl (t, (d, stands.texts, there), rw begun (refl, refused)))
 
-  module _ (fresh : has_begun t ≡ false) (told told' : ShelfSeen) (same : SameFiles told.files told'.files) (sent : List (List ℕ)) where
+  module _ (fresh : text_has_begun t ≡ false) (told told' : ShelfSeen) (same : SameFiles told.files told'.files) (sent : List (List ℕ)) where
     -- what it begins with
     reopens : (s : State) (i : ℕ) (part : Part) (r : Reply) (new : State) → IsDeskAt s i d w
         → Reopens s i text t name part r new → DoesTask s i d w (reopen text name) part r new

@@ -15,7 +15,7 @@ use Rattle.texts.specs.TextState.{TextState, shown_of, with_room}
 use Rattle.texts.specs.declared.edit_refusal.EditRefusal.{EditRefusal}
 use Rattle.texts.specs.declared.edit_refusal.EditRefusal.TheVariants.{Whole}
 use Rattle.machine.specs.SiteTexts.{SiteTexts, InText, IsTextOf}
-use Rattle.machine.specs.Commands.{Change, dress_marked, with_value}
+use Rattle.machine.specs.Commands.{Change, dress_marked, task_with_value}
 use Rattle.machine.specs.Events.{Reply, Task, ask, change, edit, edit_reply, forget, forgot, refuse, refuses, search}
 use Rattle.machine.specs.Events.{untouched}
 use Rattle.machine.specs.Machine.{Replies}
@@ -35,12 +35,12 @@ use Rattle.commands.specs.Steps.{DeskSeen, IsEditStep, IsStep, IsTaskStep, Stand
 
 -- a parameter that tells nothing, and one that tells this
 pub untold : {X : Type 0} (Goes : Task → Type 0) (told : Option X) (task : X → Task) → told ≡ None
-    → Goes (refuse BadParameter) → Goes (with_value told task)
-untold Goes told task none goes = subst (λ (o : Option _). Goes (with_value o task)) (sym none) goes
+    → Goes (refuse BadParameter) → Goes (task_with_value told task)
+untold Goes told task none goes = subst (λ (o : Option _). Goes (task_with_value o task)) (sym none) goes
 
 pub told_so : {X : Type 0} (Goes : Task → Type 0) (told : Option X) (x : X) (task : X → Task) → told ≡ Some x
-    → Goes (task x) → Goes (with_value told task)
-told_so Goes told x task is goes = subst (λ (o : Option _). Goes (with_value o task)) (sym is) goes
+    → Goes (task x) → Goes (task_with_value told task)
+told_so Goes told x task is goes = subst (λ (o : Option _). Goes (task_with_value o task)) (sym is) goes
 
 -- a refusal changes nothing
 module _ (seen : DeskSeen) (why : Refusal) where

@@ -15,14 +15,14 @@ items_in (Items items) = Some items.now
 items_in Recalled = None
 
 -- a file has room for them
-abbrev pub FitsFile : Insertion → Type 0
-FitsFile (Bytes bytes) = length bytes.now ≤ MAX_FILE
-FitsFile other = ⊤
+abbrev pub InsertionFits : Insertion → Type 0
+InsertionFits (Bytes bytes) = length bytes.now ≤ MAX_FILE
+InsertionFits other = ⊤
 
 -- the edit that puts these characters in at a position
-abbrev pub edit_of : Option (List Item) → ℕ → Edit
-edit_of (Some items) at = insertion at items
-edit_of None at = recalling at
+abbrev pub edit_inserting : Option (List Item) → ℕ → Edit
+edit_inserting (Some items) at = insertion at items
+edit_inserting None at = recalling at
 
 -- the task that puts them in at the caret
 abbrev pub task_of_insertion : Option (List Item) → Task

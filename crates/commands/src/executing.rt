@@ -2,7 +2,7 @@
 
 ghost use Rattle.std.specs.Prelude.{◌≡◌, ◌≤◌, IfSome, None as Nothing};
 ghost use Rattle.std.specs.Option.{option_copied};
-ghost use Rattle.machine.specs.Commands.{dress_marked, with_value};
+ghost use Rattle.machine.specs.Commands.{dress_marked, task_with_value};
 ghost use Rattle.machine.specs.Events.{arrange, ask, forget, search};
 ghost use Rattle.machine.specs.declared.asked.Arrangement.TheVariants.{Close, Open};
 ghost use Rattle.machine.specs.declared.TheConstants.{MAX_TEXT};
@@ -45,7 +45,7 @@ impl Desk {
         text: Option<TextNo>,
     ) -> Result<Answer, EditRefusal>
         requires { IfSome text (λ n. n ≤ MAX_TEXT) }
-        ensures { IsTaskStep self.old (with_value text (λ n. arrange (Open track n Nothing))) result self.new }
+        ensures { IsTaskStep self.old (task_with_value text (λ n. arrange (Open track n Nothing))) result self.new }
     {
         let Some(text) = text else {
             return Err(EditRefusal::Whole(Refusal::BadParameter));
@@ -73,7 +73,7 @@ impl Desk {
         outbox: &mut Outbox,
     ) -> Result<u32, EditRefusal>
         ensures { IsEditStep self.old
-            (λ i. ask i (with_value change (dress_marked self.old.texts self.old.screen))) result self.new
+            (λ i. ask i (task_with_value change (dress_marked self.old.texts self.old.screen))) result self.new
             outbox.old outbox.new }
     {
         let Some(change) = change else {
@@ -88,7 +88,7 @@ impl Desk {
 
     // Looks from the caret on for the bytes that were told. The caret stands after them then.
     pub(crate) fn search(&mut self, bytes: Option<&[u8]>) -> Result<Answer, EditRefusal>
-        ensures { IsTaskStep self.old (with_value (option_copied bytes.entry) search) result self.new }
+        ensures { IsTaskStep self.old (task_with_value (option_copied bytes.entry) search) result self.new }
     {
         let Some(bytes) = bytes else {
             return Err(EditRefusal::Whole(Refusal::BadParameter));

@@ -6,7 +6,7 @@ ghost use Rattle.shelf.specs.Files.{Counts, SameFiles};
 ghost use Rattle.text_file.specs.Files.{formatted};
 ghost use Rattle.texts.specs.TextState.{TextState, shown_items};
 ghost use Rattle.machine.specs.SiteTexts.{IsTextOf};
-ghost use Rattle.machine.specs.Commands.{with_value};
+ghost use Rattle.machine.specs.Commands.{task_with_value};
 ghost use Rattle.machine.specs.Events.{ask, load, store};
 ghost use Rattle.machine.specs.declared.TheConstants.{MAX_TEXT};
 ghost use Rattle.commands.specs.Filing.{ReadsText, StoresOnce, WritesOnce, WritesText};
@@ -58,7 +58,7 @@ impl Desk {
         shelf: &mut S,
         outbox: &mut Outbox,
     ) -> Result<Answer, EditRefusal>
-        ensures step { IsShelfStep self.old (λ i. ask i (with_value (option_copied name.entry) load)) result self.new
+        ensures step { IsShelfStep self.old (λ i. ask i (task_with_value (option_copied name.entry) load)) result self.new
             outbox.old outbox.new (shelf_seen (S.files shelf.old) (S.faults shelf.old)) (shelf_seen (S.files shelf.new) (S.faults shelf.new)) }
         ensures writes { S.writes shelf.new ≡ S.writes shelf.old }
         ensures fault { IsFault result → Counts (S.faults shelf.old) (S.faults shelf.new) }
@@ -84,7 +84,7 @@ impl Desk {
     ) -> Result<Answer, EditRefusal>
         requires { text ≤ MAX_TEXT }
         ensures step { (sent : List (List ℕ)) → IsShelfStep self.now
-            (λ i. ask i (with_value (option_copied name.entry) (store text))) result self.now sent sent
+            (λ i. ask i (task_with_value (option_copied name.entry) (store text))) result self.now sent sent
             (shelf_seen (S.files shelf.old) (S.faults shelf.old)) (shelf_seen (S.files shelf.new) (S.faults shelf.new)) }
         ensures once { IfSome (option_copied name.entry) (λ n. (t : TextState) × IsTextOf self.now.texts text t
             × StoresOnce t n (S.writes shelf.old) (S.writes shelf.new) result) }

@@ -4,7 +4,7 @@ ghost use Rattle.std.specs.Prelude.{◌≡◌, ◌≤◌};
 ghost use Rattle.machine.specs.Events.{ask, edit};
 ghost use Rattle.machine.specs.OnTexts.{EditsSite};
 ghost use Rattle.machine.specs.declared.TheConstants.{MAX_TEXT};
-ghost use Rattle.commands.specs.Inserting.{FitsFile, edit_of, items_in, task_of_insertion};
+ghost use Rattle.commands.specs.Inserting.{InsertionFits, edit_inserting, items_in, task_of_insertion};
 ghost use Rattle.commands.specs.Steps.{IsEditStep};
 
 use crate::desk::Desk;
@@ -31,8 +31,8 @@ fn insert_into(
     outbox: &mut Outbox,
 ) -> Result<u32, EditRefusal>
     requires on_desk { text ≤ MAX_TEXT }
-    requires short { FitsFile what }
-    ensures { EditsSite texts.old text (edit_of (items_in what.entry) pos) result texts.new outbox.old outbox.new }
+    requires short { InsertionFits what }
+    ensures { EditsSite texts.old text (edit_inserting (items_in what.entry) pos) result texts.new outbox.old outbox.new }
 {
     match what {
         Insertion::Bytes(bytes) => texts.type_in(text, pos, bytes, outbox),
@@ -48,7 +48,7 @@ impl Desk {
         what: Insertion<'_>,
         outbox: &mut Outbox,
     ) -> Result<u32, EditRefusal>
-        requires { FitsFile what }
+        requires { InsertionFits what }
         ensures { IsEditStep self.old (λ i. ask i (task_of_insertion (items_in what.entry))) result self.new outbox.old outbox.new }
     {
         let Some(place) = self.windows.caret_place(&self.texts) else {

@@ -7,7 +7,7 @@ ghost use Rattle.texts.specs.TextState.{TextState, empty_text};
 ghost use Rattle.kept_file.specs.KeptFiles.{kept_bytes};
 ghost use Rattle.machine.specs.SiteTexts.{IsTextOf};
 ghost use Rattle.machine.specs.Events.{ask, keep, reopen};
-ghost use Rattle.machine.specs.Tasks.{has_begun};
+ghost use Rattle.machine.specs.Tasks.{text_has_begun};
 ghost use Rattle.machine.specs.declared.TheConstants.{MAX_TEXT};
 ghost use Rattle.commands.specs.Filing.{BeginsSo, KeepsOnce, ReadsSite, WritesOnce, WritesSite};
 ghost use Rattle.commands.specs.Steps.{IsFault, IsShelfStep, shelf_seen};
@@ -25,7 +25,7 @@ use texts::{EditRefusal, Replica};
 
 // Whether a text has taken something in, or something waits for it.
 fn has_begun(replica: &Replica) -> bool
-    ensures { result ≡ has_begun replica.now }
+    ensures { result ≡ text_has_begun replica.now }
 {
     0 < replica.taken_len() || 0 < replica.waiting()
 }
@@ -120,7 +120,7 @@ impl Desk {
     // Begins a text, in which nothing was done yet, as it was kept, if it is this site's copy of this text.
     fn begin_as(&mut self, text: TextNo, kept: Replica) -> Result<Answer, EditRefusal>
         requires on_desk { text ≤ MAX_TEXT }
-        requires fresh { (t : TextState) → IsTextOf self.old.texts text t → IsFalse (has_begun t) }
+        requires fresh { (t : TextState) → IsTextOf self.old.texts text t → IsFalse (text_has_begun t) }
         requires kept { HasTakenAll (empty_text kept.text kept.site) kept.operations kept }
         ensures { BeginsSo self.old text kept result self.new }
     {

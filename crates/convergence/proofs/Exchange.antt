@@ -18,7 +18,7 @@ use Rattle.set_laws.specs.Verdict.{IsNew}
 use Rattle.tree_order.specs.Laws.{AreSameSet}
 use Rattle.waiting_room.specs.Room.{StaysWaiting}
 use Rattle.texts.specs.Draining.{AllStay, ends}
-use Rattle.texts.specs.Fronts.{beyond, is_beyond, up_to}
+use Rattle.texts.specs.Fronts.{beyond, is_beyond, up_to_fronts}
 use Rattle.texts.specs.Merge.{CanMerge}
 use Rattle.texts.specs.Take.{Becomes, HasFate, Takes}
 use Rattle.texts.specs.Taking.{HasTaken}
@@ -29,7 +29,7 @@ use Rattle.texts.specs.declared.fate.Fate.TheVariants.{Known, Ready}
 use Rattle.texts.specs.declared.front.Front.{Front}
 use Rattle.texts.specs.declared.took.Took.{Took}
 use Rattle.texts.specs.declared.took.Took.TheVariants.{Repeat}
-use Rattle.convergence.specs.Meeting.{AreFrontsOf, CanMeet, HoldsBoth, IsTaken, IsTakenOrHeld, SinceIsTakenIn, TakesAll}
+use Rattle.convergence.specs.Meeting.{AreFrontsOf, CanMeet, HoldsBoth, IsTakenAlone, IsTakenOrHeld, SinceIsTakenIn, TakesAll}
 use Rattle.convergence.specs.Meeting.{TheyMeet, messages_since}
 use Rattle.set_laws.proofs.Freed.{ready_from_others}
 use Rattle.set_laws.proofs.Fronts.{has_to_the_front, up_to_front}
@@ -56,7 +56,7 @@ answered_by t new op fate answer is spelled has (inr (op', fate', told, has', be
 
 -- one that is ready is taken in alone where nothing waits
 taken_alone : (t new : TextState) (op : Operation) (answer : Result Took Refusal) → t.waiting_room ≡ []
-    → Becomes t op Ready answer new → IsTaken answer × HasTaken t op new
+    → Becomes t op Ready answer new → IsTakenAlone answer × HasTaken t op new
 taken_alone t new op answer none (with_op, drained, dropped, has, drains, told) =
     let still : with_op.waiting_room ≡ [] = ap (λ (u : TextState). u.waiting_room) has.grown ∙ none in
     let stay : AllStay with_op =
@@ -196,7 +196,7 @@ module _ (t u : TextState) (is : IsText t) (can : CanMerge u t) where
     -- by its message it is taken in, or it was held
     one_more : (answer : Result Took Refusal) (next : TextState) → HasSpelling op → Takes now (spelling op) answer next
         → HasFirst u (done ++ op ∷ []) next
-        × (IsTaken answer ⊎ ((answer ≡ Ok Repeat) × Contains (u.operations ++ done) op))
+        × (IsTakenAlone answer ⊎ ((answer ≡ Ok Repeat) × Contains (u.operations ++ done) op))
     one_more answer next spelled takes = elim (held_or_not now.operations op.site op.seq) [
       | inl at ↦
           let held = held_by_identity at in
@@ -212,7 +212,7 @@ module _ (t u : TextState) (is : IsText t) (can : CanMerge u t) where
 
   -- all of t's operations, where those up to the fronts are held; each answer is so if taken is, and repeat where it is due
   module _ (spelled : All HasSpelling t.operations) (fronts : List Front) (Is : Result Took Refusal → Type 0)
-      (taken : (answer : Result Took Refusal) → IsTaken answer → Is answer)
+      (taken : (answer : Result Took Refusal) → IsTakenAlone answer → Is answer)
       (repeat : (done rest : List Operation) (op : Operation) → t.operations ≡ done ++ op ∷ rest
       → is_beyond fronts op ≡ true → Contains (u.operations ++ done) op → Is (Ok Repeat))
       (old : (done rest : List Operation) (op : Operation) → t.operations ≡ done ++ op ∷ rest
@@ -263,13 +263,13 @@ module _ (t u : TextState) (is : IsText t) (can : CanMerge u t) where
 
 -- what is up to the fronts is among all that is
 up_to_has : (fronts : List Front) (ops done rest : List Operation) (op : Operation) → ops ≡ done ++ op ∷ rest
-    → is_beyond fronts op ≡ false → Contains (up_to fronts ops) op
+    → is_beyond fronts op ≡ false → Contains (up_to_fronts fronts ops) op
 up_to_has fronts ops done rest op split before =
-    let parts : up_to fronts ops ≡ up_to fronts done ++ op ∷ up_to fronts rest =
-    ap (up_to fronts) split ∙ filter-append (λ (o : Operation). not (is_beyond fronts o)) done (op ∷ rest)
-    ∙ ap (λ (xs : List Operation). up_to fronts done ++ xs) (cond-true _ _ _ (ap not before)) in
+    let parts : up_to_fronts fronts ops ≡ up_to_fronts fronts done ++ op ∷ up_to_fronts fronts rest =
+    ap (up_to_fronts fronts) split ∙ filter-append (λ (o : Operation). not (is_beyond fronts o)) done (op ∷ rest)
+    ∙ ap (λ (xs : List Operation). up_to_fronts fronts done ++ xs) (cond-true _ _ _ (ap not before)) in
     subst (λ (xs : List Operation). Contains xs op) (sym parts)
-    (one_within (up_to fronts done) (up_to fronts rest) op)
+    (one_within (up_to_fronts fronts done) (up_to_fronts fronts rest) op)
 
 pub since_taken_in : SinceIsTakenIn
 since_taken_in t u new fronts answers is is' can spelled none within takes =
@@ -299,7 +299,7 @@ module _ (t u : TextState) (fronts : List Front) (is : CanMeet t) (is' : CanMeet
       (get_or_append_left done (op ∷ rest) op k lt ∙ at ∙ sym (get_or_at done op rest op (length done) refl))
 
   never_repeated : (done rest : List Operation) (op : Operation) → t.operations ≡ done ++ op ∷ rest
-      → is_beyond fronts op ≡ true → Contains (u.operations ++ done) op → IsTaken (Ok Repeat)
+      → is_beyond fronts op ≡ true → Contains (u.operations ++ done) op → IsTakenAlone (Ok Repeat)
   never_repeated done rest op split past held = elim (Contains-append_cases u.operations done op held) [
     | inl there ↦
         let more = ltb-true _ _ past in
@@ -310,9 +310,9 @@ module _ (t u : TextState) (fronts : List Front) (is : CanMeet t) (is' : CanMeet
   ]
 
   all_new : (answers : List (Result Took Refusal)) (new : TextState) → TakesAll u (messages_since fronts t) answers new
-      → HoldsBoth u t new × All IsTaken answers
+      → HoldsBoth u t new × All IsTakenAlone answers
   all_new answers new takes =
-      both_held t u is.is can is.spelled fronts IsTaken (λ answer taken. taken) never_repeated held_to_fronts
+      both_held t u is.is can is.spelled fronts IsTakenAlone (λ answer taken. taken) never_repeated held_to_fronts
       answers new is'.is is'.none_waits takes
 
 pub they_meet : TheyMeet

@@ -4,7 +4,7 @@ use Rattle.looks.specs.declared.refusal.Refusal.{Refusal}
 use Rattle.looks.specs.declared.refusal.Refusal.TheVariants.{RoomFull}
 use Rattle.operations.specs.Operation.{Operation}
 use Rattle.texts.specs.Draining.{AllStay}
-use Rattle.texts.specs.Laws.{AreAlike, MergesShowTheUnion, OperationsDetermineTheText, ShowsTheDefinition}
+use Rattle.texts.specs.Laws.{AreTextsAlike, MergesShowTheUnion, OperationsDetermineTheText, ShowsTheDefinition}
 use Rattle.texts.specs.Merge.{Merges}
 use Rattle.texts.specs.Take.{Takes, TakesShort, Encodes}
 use Rattle.texts.specs.Text.{IsText}
@@ -16,7 +16,7 @@ use Rattle.convergence.specs.HandedIn.{AccountsFor}
 -- two texts that keep the same operations, and in which all that waits waits for a cause, are alike
 abbrev pub KeptTextsAreAlike : Type 0
 KeptTextsAreAlike = (t u : TextState) (all : List Operation) → IsText t → IsText u → AccountsFor t all → AccountsFor u all
-    → AllStay t → AllStay u → AreAlike t u
+    → AllStay t → AllStay u → AreTextsAlike t u
 
 -- the text comes of the first by these messages, one after the other; memory was there, and a place for each that had
 -- to wait
@@ -43,12 +43,12 @@ AreSameMessages a b = (message : List ℕ) → Contains a message ↔ Contains b
 abbrev pub SameMessagesEndAlike : Type 0
 SameMessagesEndAlike = (text site site' : ℕ) (a b : List (List ℕ)) (t u : TextState)
     → HasTakenMessages (empty_text text site) a t → HasTakenMessages (empty_text text site') b u
-    → AreSameMessages a b → TellNoConflict text a → AreAlike t u
+    → AreSameMessages a b → TellNoConflict text a → AreTextsAlike t u
 
 -- either way: one text merged into the other, and the other into the one, are alike
 abbrev pub MergesAreAlike : Type 0
 MergesAreAlike = (t u t' u' : TextState) (n m : ℕ) → IsText t → IsText u → Merges t u (Ok n) t'
-    → Merges u t (Ok m) u' → AreAlike t' u'
+    → Merges u t (Ok m) u' → AreTextsAlike t' u'
 
 -- the answers that change nothing shown: its operation waits, is held already, or is refused
 abbrev pub ShowsNothingNew : Result Took Refusal → Type 0

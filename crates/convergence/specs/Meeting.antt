@@ -5,8 +5,8 @@ use Rattle.operations.specs.Spelling.{HasSpelling, spelling}
 use Rattle.tree_order.specs.Laws.{AreSameSet}
 use Rattle.set_laws.specs.Fronts.{front_of}
 use Rattle.set_laws.specs.Sets.{IsPartOf}
-use Rattle.texts.specs.Fronts.{beyond, front_in, up_to}
-use Rattle.texts.specs.Laws.{AreAlike}
+use Rattle.texts.specs.Fronts.{beyond, front_in, up_to_fronts}
+use Rattle.texts.specs.Laws.{AreTextsAlike}
 use Rattle.texts.specs.Merge.{CanMerge}
 use Rattle.texts.specs.Take.{Takes}
 use Rattle.texts.specs.Text.{IsText}
@@ -27,12 +27,12 @@ abbrev pub messages_since : List Front → TextState → List (List ℕ)
 messages_since fronts t = map spelling (beyond fronts t.operations)
 
 -- the operation was taken in, and none had waited for it
-abbrev pub IsTaken : Result Took Refusal → Type 0
-IsTaken answer = answer ≡ Ok (Taken 0 0 false)
+abbrev pub IsTakenAlone : Result Took Refusal → Type 0
+IsTakenAlone answer = answer ≡ Ok (Taken 0 0 false)
 
 -- it was taken in so, or it was held already
 abbrev pub IsTakenOrHeld : Result Took Refusal → Type 0
-IsTakenOrHeld answer = IsTaken answer ⊎ (answer ≡ Ok Repeat)
+IsTakenOrHeld answer = IsTakenAlone answer ⊎ (answer ≡ Ok Repeat)
 
 -- a text that holds the operations of both, and in which nothing waits
 pub record HoldsBoth (t u new : TextState) : Type 0 where
@@ -45,7 +45,7 @@ pub record HoldsBoth (t u new : TextState) : Type 0 where
 abbrev pub SinceIsTakenIn : Type 0
 SinceIsTakenIn = (t u new : TextState) (fronts : List Front) (answers : List (Result Took Refusal))
     → IsText t → IsText u → CanMerge u t → All HasSpelling t.operations → u.waiting_room ≡ []
-    → IsPartOf (up_to fronts t.operations) u.operations → TakesAll u (messages_since fronts t) answers new
+    → IsPartOf (up_to_fronts fronts t.operations) u.operations → TakesAll u (messages_since fronts t) answers new
     → HoldsBoth u t new × All IsTakenOrHeld answers
 
 -- the fronts give each site its front in the text
@@ -65,4 +65,4 @@ abbrev pub TheyMeet : Type 0
 TheyMeet = (t u t' u' : TextState) (fronts fronts' : List Front) (answers answers' : List (Result Took Refusal))
     → CanMeet t → CanMeet u → CanMerge t u → AreFrontsOf t fronts → AreFrontsOf u fronts'
     → TakesAll t (messages_since fronts u) answers t' → TakesAll u (messages_since fronts' t) answers' u'
-    → AreAlike t' u' × All IsTaken answers × All IsTaken answers'
+    → AreTextsAlike t' u' × All IsTakenAlone answers × All IsTakenAlone answers'

@@ -7,17 +7,17 @@ use Rattle.looks.specs.declared.looks.Looks.{Looks}
 use Rattle.char_files.specs.Stretch.{AreRuns, Item, Stretch, items_of, items_of_run}
 use Rattle.char_files.specs.declared.character.Char.{Char}
 use Rattle.machine.specs.Printing.{AreRunsOf, lines_of_runs, run_line}
-use Rattle.desk_texts.specs.RunSoFar.{IsCounted, ended_line, run_of}
+use Rattle.desk_texts.specs.RunSoFar.{HasRunsSoFar, ended_line, runs_of_bytes}
 
 -- a run with one more character
-longer : (before : List Stretch) (looks : Looks) (b : ℕ) (bytes : List ℕ) (byte : ℕ) → AreRuns (before ++ run_of looks (b ∷ bytes))
-    → AreRuns (before ++ run_of looks (b ∷ bytes ++ byte ∷ []))
+longer : (before : List Stretch) (looks : Looks) (b : ℕ) (bytes : List ℕ) (byte : ℕ) → AreRuns (before ++ runs_of_bytes looks (b ∷ bytes))
+    → AreRuns (before ++ runs_of_bytes looks (b ∷ bytes ++ byte ∷ []))
 longer [] looks b bytes byte h = λ e. cc
 longer (x ∷ []) looks b bytes byte h = (h.0, h.1, λ e. cc)
 longer (x ∷ y ∷ before) looks b bytes byte h = (h.0, h.1, longer (y ∷ before) looks b bytes byte h.2)
 
 longer-items : (before : List Stretch) (looks : Looks) (b : ℕ) (bytes : List ℕ) (byte : ℕ)
-    → items_of (before ++ run_of looks (b ∷ bytes ++ byte ∷ [])) ≡ items_of (before ++ run_of looks (b ∷ bytes)) ++ (byte, looks) ∷ []
+    → items_of (before ++ runs_of_bytes looks (b ∷ bytes ++ byte ∷ [])) ≡ items_of (before ++ runs_of_bytes looks (b ∷ bytes)) ++ (byte, looks) ∷ []
 longer-items before looks b bytes byte =
     let r : Stretch = record { looks = looks; bytes = b ∷ bytes } in
     let r' : Stretch = record { looks = looks; bytes = b ∷ bytes ++ byte ∷ [] } in
@@ -29,25 +29,25 @@ longer-items before looks b bytes byte =
 
 -- a run of other looks after the last
 another : (before : List Stretch) (r : Stretch) (looks : Looks) (byte : ℕ) → AreRuns (before ++ r ∷ []) → r.looks ≢ looks
-    → AreRuns ((before ++ r ∷ []) ++ run_of looks (byte ∷ []))
+    → AreRuns ((before ++ r ∷ []) ++ runs_of_bytes looks (byte ∷ []))
 another [] r looks byte h apart = (h, apart, λ e. cc)
 another (x ∷ []) r looks byte h apart = (h.0, h.1, another [] r looks byte h.2 apart)
 another (x ∷ y ∷ before) r looks byte h apart = (h.0, h.1, another (y ∷ before) r looks byte h.2 apart)
 
-another-items : (runs : List Stretch) (looks : Looks) (byte : ℕ) → items_of (runs ++ run_of looks (byte ∷ [])) ≡ items_of runs ++ (byte, looks) ∷ []
+another-items : (runs : List Stretch) (looks : Looks) (byte : ℕ) → items_of (runs ++ runs_of_bytes looks (byte ∷ [])) ≡ items_of runs ++ (byte, looks) ∷ []
 another-items runs looks byte = simp (flat_map-append, append-nil)
 
 -- a character of the looks of the last run
-same : (before : List Stretch) (bytes : List ℕ) (items : List Item) (looks : Looks) (byte : ℕ) → (bytes ≡ [] → before ≡ []) → AreRunsOf items (before ++ run_of looks bytes)
-    → AreRunsOf (items ++ (byte, looks) ∷ []) (before ++ run_of looks (bytes ++ byte ∷ []))
+same : (before : List Stretch) (bytes : List ℕ) (items : List Item) (looks : Looks) (byte : ℕ) → (bytes ≡ [] → before ≡ []) → AreRunsOf items (before ++ runs_of_bytes looks bytes)
+    → AreRunsOf (items ++ (byte, looks) ∷ []) (before ++ runs_of_bytes looks (bytes ++ byte ∷ []))
 same [] [] items looks byte begun h = (λ e. cc, ap (λ (is : List Item). is ++ (byte, looks) ∷ []) h.1)
 same (x ∷ before) [] items looks byte begun h = let none : x ∷ before ≡ [] = begun refl in absurd cc
 same before (b ∷ bytes) items looks byte begun h =
     (longer before looks b bytes byte h.0, longer-items before looks b bytes byte ∙ ap (λ (is : List Item). is ++ (byte, looks) ∷ []) h.1)
 
 -- a character of other looks
-other : (before : List Stretch) (bytes : List ℕ) (items : List Item) (looks new : Looks) (byte : ℕ) → (bytes ≡ [] → before ≡ []) → looks ≢ new → AreRunsOf items (before ++ run_of looks bytes)
-    → AreRunsOf (items ++ (byte, new) ∷ []) ((before ++ run_of looks bytes) ++ run_of new (byte ∷ []))
+other : (before : List Stretch) (bytes : List ℕ) (items : List Item) (looks new : Looks) (byte : ℕ) → (bytes ≡ [] → before ≡ []) → looks ≢ new → AreRunsOf items (before ++ runs_of_bytes looks bytes)
+    → AreRunsOf (items ++ (byte, new) ∷ []) ((before ++ runs_of_bytes looks bytes) ++ runs_of_bytes new (byte ∷ []))
 other [] [] items looks new byte begun apart h = (λ e. cc, ap (λ (is : List Item). is ++ (byte, new) ∷ []) h.1)
 other (x ∷ before) [] items looks new byte begun apart h = let none : x ∷ before ≡ [] = begun refl in absurd cc
 other before (b ∷ bytes) items looks new byte begun apart h =
@@ -55,7 +55,7 @@ other before (b ∷ bytes) items looks new byte begun apart h =
     (another before r new byte h.0 apart, another-items (before ++ r ∷ []) new byte ∙ ap (λ (is : List Item). is ++ (byte, new) ∷ []) h.1)
 
 -- the lines of all runs, the last one's too
-all_lines : (before : List Stretch) (looks : Looks) (bytes : List ℕ) → lines_of_runs before ++ ended_line looks (length bytes) ≡ lines_of_runs (before ++ run_of looks bytes)
+all_lines : (before : List Stretch) (looks : Looks) (bytes : List ℕ) → lines_of_runs before ++ ended_line looks (length bytes) ≡ lines_of_runs (before ++ runs_of_bytes looks bytes)
 all_lines before looks [] = append-nil (lines_of_runs before) ∙ ap lines_of_runs (sym (append-nil before))
 all_lines before looks (b ∷ bytes) =
     let r : Stretch = record { looks = looks; bytes = b ∷ bytes } in
@@ -64,11 +64,11 @@ all_lines before looks (b ∷ bytes) =
     let one : lines_of_runs (before ++ r ∷ []) ≡ lines_of_runs before ++ run_line looks (length (b ∷ bytes)) = simp (flat_map-append, append-nil) in
     ap (λ (tail : List ℕ). lines_of_runs before ++ tail) last ∙ sym one
 
-pub IsCounted-begins : (looks : Looks) → IsCounted [] [] looks 0
+pub IsCounted-begins : (looks : Looks) → HasRunsSoFar [] [] looks 0
 IsCounted-begins looks = record { before = []; bytes = []; printed = refl; counted = refl; begun = λ e. refl; are_runs = (tt, refl) }
 
-pub IsCounted-same : {items : List Item} {lines : List ℕ} {looks : Looks} {len : ℕ} (byte : ℕ) → IsCounted items lines looks len
-    → IsCounted (items ++ (byte, looks) ∷ []) lines looks (len + 1)
+pub IsCounted-same : {items : List Item} {lines : List ℕ} {looks : Looks} {len : ℕ} (byte : ℕ) → HasRunsSoFar items lines looks len
+    → HasRunsSoFar (items ++ (byte, looks) ∷ []) lines looks (len + 1)
 IsCounted-same {items} {lines} {looks} {len} byte so_far = record {
   before = so_far.before;
   bytes = so_far.bytes ++ byte ∷ [];
@@ -79,17 +79,17 @@ IsCounted-same {items} {lines} {looks} {len} byte so_far = record {
 }
 
 -- where the last run ends, all are printed
-pub IsCounted-ended : {items : List Item} {lines : List ℕ} {looks : Looks} {len : ℕ} (so_far : IsCounted items lines looks len)
-    → lines ++ ended_line looks len ≡ lines_of_runs (so_far.before ++ run_of looks so_far.bytes)
+pub IsCounted-ended : {items : List Item} {lines : List ℕ} {looks : Looks} {len : ℕ} (so_far : HasRunsSoFar items lines looks len)
+    → lines ++ ended_line looks len ≡ lines_of_runs (so_far.before ++ runs_of_bytes looks so_far.bytes)
 IsCounted-ended {items} {lines} {looks} {len} so_far =
     ap (λ (front : List ℕ). front ++ ended_line looks len) so_far.printed
     ∙ ap (λ (n : ℕ). lines_of_runs so_far.before ++ ended_line looks n) so_far.counted
     ∙ all_lines so_far.before looks so_far.bytes
 
-pub IsCounted-other : {items : List Item} {lines : List ℕ} {looks : Looks} {len : ℕ} (new : Looks) (byte : ℕ) → looks ≢ new → IsCounted items lines looks len
-    → IsCounted (items ++ (byte, new) ∷ []) (lines ++ ended_line looks len) new 1
+pub IsCounted-other : {items : List Item} {lines : List ℕ} {looks : Looks} {len : ℕ} (new : Looks) (byte : ℕ) → looks ≢ new → HasRunsSoFar items lines looks len
+    → HasRunsSoFar (items ++ (byte, new) ∷ []) (lines ++ ended_line looks len) new 1
 IsCounted-other {items} {lines} {looks} {len} new byte apart so_far = record {
-  before = so_far.before ++ run_of looks so_far.bytes;
+  before = so_far.before ++ runs_of_bytes looks so_far.bytes;
   bytes = byte ∷ [];
   printed = IsCounted-ended so_far;
   counted = refl;
@@ -97,7 +97,7 @@ IsCounted-other {items} {lines} {looks} {len} new byte apart so_far = record {
   are_runs = other so_far.before so_far.bytes items looks new byte so_far.begun apart so_far.are_runs;
 }
 
-within : (before : List Stretch) (looks : Looks) (bytes : List ℕ) → length bytes ≤ length (items_of (before ++ run_of looks bytes))
+within : (before : List Stretch) (looks : Looks) (bytes : List ℕ) → length bytes ≤ length (items_of (before ++ runs_of_bytes looks bytes))
 within before looks [] = omega arith
 within before looks (b ∷ bytes) =
     let r : Stretch = record { looks = looks; bytes = b ∷ bytes } in
@@ -105,12 +105,12 @@ within before looks (b ∷ bytes) =
     omega (arith, ap length parts, length-append (items_of before) (items_of_run r), length-map {B = Item} (b ∷ bytes) (λ (x : ℕ). (x, looks)))
 
 -- a run has no more characters than there are
-pub IsCounted-within : {items : List Item} {lines : List ℕ} {looks : Looks} {len : ℕ} → IsCounted items lines looks len → len ≤ length items
+pub IsCounted-within : {items : List Item} {lines : List ℕ} {looks : Looks} {len : ℕ} → HasRunsSoFar items lines looks len → len ≤ length items
 IsCounted-within {items} {lines} {looks} {len} so_far =
     omega (arith, so_far.counted, ap length so_far.are_runs.1, within so_far.before looks so_far.bytes)
 
 -- a character that is still to come finds room in its run
-pub IsCounted-room : {items : List Item} {lines : List ℕ} {looks : Looks} {len : ℕ} (left rest shown : List Char) (char : Char) → IsCounted items lines looks len
+pub IsCounted-room : {items : List Item} {lines : List ℕ} {looks : Looks} {len : ℕ} (left rest shown : List Char) (char : Char) → HasRunsSoFar items lines looks len
     → items ++ map (λ c. (c.byte, c.looks)) left ≡ map (λ c. (c.byte, c.looks)) shown → left ≡ char ∷ rest → len + 1 ≤ length shown
 IsCounted-room {items} {lines} {looks} {len} left rest shown char so_far all steps =
     let item : Char → Item = λ (c : Char). (c.byte, c.looks) in

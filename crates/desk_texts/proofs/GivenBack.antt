@@ -10,7 +10,7 @@ use Rattle.char_files.specs.declared.character.Char.{Char}
 use Rattle.operations.specs.NameSet.{Range, names_in, names_of}
 use Rattle.texts.specs.Text.{IsText}
 use Rattle.texts.specs.TextState.{TextState, shown_of}
-use Rattle.machine.specs.NamesShown.{names_shown, ranges_of, shown_from}
+use Rattle.machine.specs.NamesShown.{named_stretches, ranges_of, shown_from}
 use Rattle.machine.specs.Printing.{line}
 use Rattle.machine.specs.WhereShown.{ShownRange, shown_line, shown_ranges}
 use Rattle.desk_texts.specs.Laws.{IsGivenBack, WhereGivesNamesBack}
@@ -93,7 +93,7 @@ all_given_back t is pos (r ∷ ranges) some shown =
 pub given_back : WhereGivesNamesBack
 given_back t beg end is =
     let names : List CharName = map (λ c. c.name) (slice_range (shown_of t) beg end) in
-    let same : map (λ s. s.names) (names_shown (shown_of t) beg end) ≡ ranges_of names = names_from beg (ranges_of names) in record {
+    let same : map (λ s. s.names) (named_stretches (shown_of t) beg end) ≡ ranges_of names = names_from beg (ranges_of names) in record {
       all = ap names_in same ∙ ranges_have_the_names names;
       longest = rw same (ranges_are_apart names);
       where_shown = all_given_back t is beg (ranges_of names) (ranges_have_names names) (part_is_shown (shown_of t) beg end);

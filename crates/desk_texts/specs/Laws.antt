@@ -3,7 +3,7 @@ use Rattle.std.specs.Prelude.{◌≡◌, ℕ, List, [], ◌∷◌, ◌++◌, All
 use Rattle.operations.specs.NameSet.{Range, names_in, touches}
 use Rattle.texts.specs.Text.{IsText}
 use Rattle.texts.specs.TextState.{TextState, shown_of}
-use Rattle.machine.specs.NamesShown.{NamedStretch, names_shown}
+use Rattle.machine.specs.NamesShown.{NamedStretch, named_stretches}
 use Rattle.machine.specs.OnTexts.{Prints}
 use Rattle.machine.specs.Printing.{line}
 use Rattle.machine.specs.WhereShown.{shown_line}
@@ -24,10 +24,10 @@ IsGivenBack t s =
 -- `names` tells all that is shown from beg to end, in its order, by stretches that are as long as they can be; and each of them
 -- is given back.
 pub record NamesAreGivenBack (t : TextState) (beg end : ℕ) : Type 0 where
-  pub all : names_in (map (λ s. s.names) (names_shown (shown_of t) beg end))
+  pub all : names_in (map (λ s. s.names) (named_stretches (shown_of t) beg end))
       ≡ map (λ c. c.name) (slice_range (shown_of t) beg end)
-  pub longest : AreApart (map (λ s. s.names) (names_shown (shown_of t) beg end))
-  pub where_shown : All (IsGivenBack t) (names_shown (shown_of t) beg end)
+  pub longest : AreApart (map (λ s. s.names) (named_stretches (shown_of t) beg end))
+  pub where_shown : All (IsGivenBack t) (named_stretches (shown_of t) beg end)
 
 -- so it is with each text that is what its operations define
 abbrev pub WhereGivesNamesBack : Type 0

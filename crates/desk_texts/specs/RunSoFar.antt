@@ -5,9 +5,9 @@ use Rattle.char_files.specs.Stretch.{Item, Stretch}
 use Rattle.machine.specs.Printing.{AreRunsOf, lines_of_runs, run_line}
 
 -- the run of these bytes; none where there is none
-abbrev pub run_of : Looks → List ℕ → List Stretch
-run_of looks [] = []
-run_of looks (b ∷ bytes) = record { looks = looks; bytes = b ∷ bytes } ∷ []
+abbrev pub runs_of_bytes : Looks → List ℕ → List Stretch
+runs_of_bytes looks [] = []
+runs_of_bytes looks (b ∷ bytes) = record { looks = looks; bytes = b ∷ bytes } ∷ []
 
 -- the line of a run that ends; none where it has no character
 abbrev pub ended_line : Looks → (len : ℕ) → List ℕ
@@ -15,10 +15,10 @@ ended_line looks len = if len == 0 then [] else run_line looks len
 
 -- All runs of these characters but the last are printed, and the last has these looks and this length; where
 -- there is no character yet its length is 0.
-pub record IsCounted (items : List Item) (lines : List ℕ) (looks : Looks) (len : ℕ) : Type 0 where
+pub record HasRunsSoFar (items : List Item) (lines : List ℕ) (looks : Looks) (len : ℕ) : Type 0 where
   pub before : List Stretch
   pub bytes : List ℕ
   pub printed : lines ≡ lines_of_runs before
   pub counted : len ≡ length bytes
   pub begun : bytes ≡ [] → before ≡ []
-  pub are_runs : AreRunsOf items (before ++ run_of looks bytes)
+  pub are_runs : AreRunsOf items (before ++ runs_of_bytes looks bytes)

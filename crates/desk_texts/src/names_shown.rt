@@ -3,7 +3,7 @@
 ghost use Rattle.std.specs.Prelude.{◌≡◌, ◌+◌, ◌^◌, ◌<◌, ◌≤◌, List, ◌∷◌, ◌++◌, length, OnOk, IfOk, IfErr, IsTrue};
 ghost use Rattle.char_files.specs.CharName.{CharName};
 ghost use Rattle.operations.specs.NameSet.{of_name, touches, with_first};
-ghost use Rattle.machine.specs.NamesShown.{name_line, name_lines, names_shown, ranges_of, shown_from};
+ghost use Rattle.machine.specs.NamesShown.{name_line, name_lines, named_stretches, ranges_of, shown_from};
 ghost use Rattle.machine.specs.OnTexts.{Prints, is_asked_in, query_refusal};
 ghost use Rattle.machine.specs.declared.asked.Query.TheVariants.{Names};
 ghost use Rattle.texts.specs.TextState.{shown_of};
@@ -79,7 +79,7 @@ fn go_on(out: &mut Vec<u8>, stretch: &mut NameRow, name: Name) -> Result<(), All
 fn put_names(out: &mut Vec<u8>, replica: &Replica, beg: u64, end: u64) -> Result<(), AllocError>
     requires rising { beg ≤ end }
     requires in_text { end ≤ length (shown_of replica.now) }
-    ensures { OnOk result (out.new.items ≡ out.old.items ++ name_lines (names_shown (shown_of replica.now) beg end)) }
+    ensures { OnOk result (out.new.items ≡ out.old.items ++ name_lines (named_stretches (shown_of replica.now) beg end)) }
 {
     let mut chars = replica.shown_between(beg, end);
     let Some(first) = chars.next() else {

@@ -5,7 +5,7 @@ ghost use Rattle.char_files.specs.Stretch.{Item};
 ghost use Rattle.machine.specs.OnTexts.{Prints};
 ghost use Rattle.machine.specs.declared.asked.Query.TheVariants.{Runs};
 ghost use Rattle.machine.specs.Printing.{run_line};
-ghost use Rattle.desk_texts.specs.RunSoFar.{IsCounted, ended_line};
+ghost use Rattle.desk_texts.specs.RunSoFar.{HasRunsSoFar, ended_line};
 
 use crate::printing::put_number;
 use looks::{Looks, Refusal};
@@ -64,8 +64,8 @@ fn are_same(looks: &Looks, other: &Looks) -> bool
 fn go_on(out: &mut Vec<u8>, run: &mut RunSoFar, looks: &Looks) -> Result<(), AllocError>
     requires { run.old.len + 1 < 2 ^ 64 }
     ensures { OnOk result ((items : List Item) (byte : ℕ)
-        → IsCounted items out.old.items run.old.looks run.old.len
-        → IsCounted (items ++ (byte, looks.now) ∷ []) out.new.items run.new.looks run.new.len) }
+        → HasRunsSoFar items out.old.items run.old.looks run.old.len
+        → HasRunsSoFar (items ++ (byte, looks.now) ∷ []) out.new.items run.new.looks run.new.len) }
 {
     if are_same(&run.looks, looks) {
         run.len += 1;

@@ -12,7 +12,7 @@ use Rattle.viewers.specs.Viewers.{ViewersSeen, content_of, numbers, with_content
 use Rattle.texts.specs.TextState.{TextState}
 use Rattle.machine.specs.SiteTexts.{SiteTexts, InText, IsTextOf, with_text}
 use Rattle.text_frames.specs.Frames.{IsDrawn}
-use Rattle.desk_windows.specs.Windows.{AreToldOnce, Follows, ShowTexts, ShowsText, Told, WindowSeen, windows_of}
+use Rattle.desk_windows.specs.Windows.{AreToldOnce, FollowsChanges, IsWindowTold, ShowTexts, ShowsText, WindowSeen, windows_of}
 
 take_front : {X : Type 0} (ws xs : List X) → take (length ws) (ws ++ xs) ≡ ws
 take_front [] xs = refl
@@ -44,13 +44,13 @@ module _ {C : Type 0} (R : C → C → Type 0) where
       by_test more false e = more e
 
 told_windows : (number : ℕ) (changes : List Change) (now : TextState) (contents : List (ℕ × WindowSeen)) (ws : List WindowSeen)
-    → AreAlike (Told number changes now) (map (λ entry. entry.1) contents) ws
+    → AreAlike (IsWindowTold number changes now) (map (λ entry. entry.1) contents) ws
     → windows_of (zip (numbers contents) ws) ≡ windows_of contents
 told_windows number changes now [] [] each = refl
 told_windows number changes now [] (w ∷ ws) each = absurd each
 told_windows number changes now (entry ∷ rest) [] each = absurd each
 told_windows number changes now (entry ∷ rest) (w ∷ ws) each =
-    let first : Told number changes now entry.1 w = each.0 in
+    let first : IsWindowTold number changes now entry.1 w = each.0 in
     let more = told_windows number changes now rest ws each.1 in
     λ i. (entry.0, record { text = first.text i; anchor = first.anchor i }) ∷ more i
 
@@ -58,28 +58,28 @@ module _ (number : ℕ) (changes : List Change) (now : TextState) where
   -- what a loop over these windows tells, told of the viewers' contents
   pub told_each : (contents : List (ℕ × WindowSeen)) (cs ws : List WindowSeen) → cs ≡ map (λ entry. entry.1) contents
       → length ws ≡ length cs
-      → ((k : ℕ) (d : WindowSeen) → k < length cs → Told number changes now (slice_index_or cs k d) (slice_index_or ws k d))
+      → ((k : ℕ) (d : WindowSeen) → k < length cs → IsWindowTold number changes now (slice_index_or cs k d) (slice_index_or ws k d))
       → (length ws ≡ length contents)
       × ((k : ℕ) (d : WindowSeen) → k < length (map (λ entry. entry.1) contents)
-      → Told number changes now (slice_index_or (map (λ entry. entry.1) contents) k d) (slice_index_or ws k d))
+      → IsWindowTold number changes now (slice_index_or (map (λ entry. entry.1) contents) k d) (slice_index_or ws k d))
   told_each contents cs ws same long told = (
     long ∙ (ap length same ∙ length-map contents (λ entry. entry.1)),
     subst (λ (l : List WindowSeen). (k : ℕ) (d : WindowSeen) → k < length l
-        → Told number changes now (slice_index_or l k d) (slice_index_or ws k d)) same told,
+        → IsWindowTold number changes now (slice_index_or l k d) (slice_index_or ws k d)) same told,
   )
 
   -- a text that this one was told of its changes from
   module _ (d d' : SiteTexts) (at' : IsTextOf d' number now) where
-    follows_now : (t t' : TextState) → IsTextOf d number t → Follows changes t t' → d' ≡ with_text d number t'
-        → Follows changes t now
+    follows_now : (t t' : TextState) → IsTextOf d number t → FollowsChanges changes t t' → d' ≡ with_text d number t'
+        → FollowsChanges changes t now
     follows_now t t' at follows new =
         let there : slice_get d'.texts (number - 1) ≡ Some t' =
         ap (λ (e : SiteTexts). slice_get e.texts (number - 1)) new
         ∙ get-set_same d.texts (number - 1) t' (slice_get_within d.texts (number - 1) t at) in
-        subst (λ (y : TextState). Follows changes t y) (same_Some t' now (sym there ∙ at')) follows
+        subst (λ (y : TextState). FollowsChanges changes t y) (same_Some t' now (sym there ∙ at')) follows
 
-    told_shows : (tracks : ScreenSeen) (u : ℕ) (w x : WindowSeen) → Told number changes now w x → ShowsText d tracks u w
-        → InText (Follows changes) d number d' → ShowsText d' tracks u x
+    told_shows : (tracks : ScreenSeen) (u : ℕ) (w x : WindowSeen) → IsWindowTold number changes now w x → ShowsText d tracks u w
+        → InText (FollowsChanges changes) d number d' → ShowsText d' tracks u x
     told_shows tracks u w x told old in_text = by_test (eqb w.text number) refl
       where
         by_test : (b : Bool) → eqb w.text number ≡ b → ShowsText d' tracks u x
@@ -113,10 +113,10 @@ module _ (number : ℕ) (changes : List Change) (now : TextState) where
 
   module _ (s : ViewersSeen WindowSeen) (ws : List WindowSeen) (long : length ws ≡ length s.contents)
       (told : (k : ℕ) (d : WindowSeen) → k < length (map (λ entry. entry.1) s.contents)
-      → Told number changes now (slice_index_or (map (λ entry. entry.1) s.contents) k d) (slice_index_or ws k d)) where
-    each_told : AreAlike (Told number changes now) (map (λ entry. entry.1) s.contents) ws
+      → IsWindowTold number changes now (slice_index_or (map (λ entry. entry.1) s.contents) k d) (slice_index_or ws k d)) where
+    each_told : AreAlike (IsWindowTold number changes now) (map (λ entry. entry.1) s.contents) ws
     each_told =
-        alike_by_index (Told number changes now) (map (λ entry. entry.1) s.contents) ws
+        alike_by_index (IsWindowTold number changes now) (map (λ entry. entry.1) s.contents) ws
         (long ∙ sym (length-map s.contents (λ entry. entry.1))) told
 
     contents_are : (with_contents s ws).contents ≡ zip (numbers s.contents) ws
@@ -129,9 +129,9 @@ module _ (number : ℕ) (changes : List Change) (now : TextState) where
     all_windows = ap windows_of contents_are ∙ told_windows number changes now s.contents ws each_told
 
     found : (u : ℕ) (x : WindowSeen) → content_of (with_contents s ws).contents u ≡ Some x
-        → (w : WindowSeen) × (content_of s.contents u ≡ Some w) × Told number changes now w x
+        → (w : WindowSeen) × (content_of s.contents u ≡ Some w) × IsWindowTold number changes now w x
     found u x e =
-        shown_alike (Told number changes now) s.contents ws u x each_told
+        shown_alike (IsWindowTold number changes now) s.contents ws u x each_told
         (subst (λ (l : List (ℕ × WindowSeen)). content_of l u ≡ Some x) contents_are e)
 
     pub told_once : AreToldOnce number changes now s (with_contents s ws)
@@ -139,7 +139,7 @@ module _ (number : ℕ) (changes : List Change) (now : TextState) where
         let f = found u x e in
         (f.0, f.1, record { other = λ apart. (f.2.other apart).0; reads = f.2.reads })
 
-    pub all_told : (d d' : SiteTexts) → IsTextOf d' number now → ShowTexts d s → InText (Follows changes) d number d'
+    pub all_told : (d d' : SiteTexts) → IsTextOf d' number now → ShowTexts d s → InText (FollowsChanges changes) d number d'
         → ShowTexts d' (with_contents s ws)
     all_told d d' at' shows in_text = record {
       texts = λ u x e.

@@ -3,7 +3,7 @@ use Rattle.std.proofs.Common.{◌≡◌, ℕ, suc, ◌+◌, ◌⊎◌, List, [],
 use Rattle.std.proofs.lemmas.Option.{same_Some}
 use Rattle.viewers.specs.Viewers.{AreRising, content_of, numbers, times, with_entry}
 use Rattle.viewers.proofs.Numbers.{none_lower}
-use Rattle.desk_windows.specs.Windows.{WindowSeen, window_of, windows_of}
+use Rattle.desk_windows.specs.Windows.{WindowSeen, seen_window, windows_of}
 
 -- two numbers that a test tells apart
 pub apart_at : (v u : ℕ) → eqb v u ≡ false → v ≡ u → ⊥
@@ -48,7 +48,7 @@ module _ {C : Type 0} where
 
 -- the same text from the same line on leaves all windows the same
 pub windows_with : (from below v : ℕ) (contents : List (ℕ × WindowSeen)) (w c : WindowSeen)
-    → AreRising from (numbers contents) below → content_of contents v ≡ Some w → window_of c ≡ window_of w
+    → AreRising from (numbers contents) below → content_of contents v ≡ Some w → seen_window c ≡ seen_window w
     → windows_of (with_entry contents v c) ≡ windows_of contents
 windows_with from below v [] w c rising is same = refl
 windows_with from below v (entry ∷ rest) w c rising is same =
@@ -61,6 +61,6 @@ windows_with from below v (entry ∷ rest) w c rising is same =
         let k = eqb-true entry.0 v at in
         let first = same_Some entry.1 w is in
         let left = none_with rest v c (none_lower (suc entry.0) below v (numbers rest) rising.1 (omega (arith, k))) in
-        let window = same ∙ ap window_of (sym first) in
+        let window = same ∙ ap seen_window (sym first) in
         λ i. (sym k i, window i) ∷ windows_of (left i)
-    by_test more false at is = ap (λ l. (entry.0, window_of entry.1) ∷ l) (more is)
+    by_test more false at is = ap (λ l. (entry.0, seen_window entry.1) ∷ l) (more is)

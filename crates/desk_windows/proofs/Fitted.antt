@@ -8,14 +8,14 @@ use Rattle.texts.specs.Text.{IsAnchor}
 use Rattle.texts.specs.TextState.{TextState}
 use Rattle.machine.specs.SiteTexts.{SiteTexts, IsTextOf}
 use Rattle.text_frames.specs.Frames.{IsDrawn}
-use Rattle.desk_windows.specs.Windows.{AllShow, AreSameWindows, HasRows, ShowsText, WindowSeen, window_of}
+use Rattle.desk_windows.specs.Windows.{AllShow, AreSameWindows, HasRows, ShowsText, WindowSeen, seen_window}
 use Rattle.desk_windows.proofs.Entries.{content_with, windows_with}
 
 module _ (s : ViewersSeen WindowSeen) (v : ℕ) (w c : WindowSeen) where
   pub fit_same : AreViewers s → content_of s.contents v ≡ Some w → c.text ≡ w.text → c.frame.anchor ≡ w.frame.anchor
       → AreSameWindows s (with_content s v c)
   fit_same viewers is text anchor =
-      let same : window_of c ≡ window_of w = λ i. record { text = text i; anchor = anchor i } in
+      let same : seen_window c ≡ seen_window w = λ i. record { text = text i; anchor = anchor i } in
       record {
         tracks = refl;
         next = refl;

@@ -8,12 +8,12 @@ use Rattle.char_files.specs.declared.name.Anchor.{Anchor}
 use Rattle.char_files.specs.declared.name.Anchor.TheVariants.{At}
 use Rattle.list_changes.specs.declared.change.Change.{Change}
 use Rattle.viewers.specs.declared.screen.Track.{Track}
-use Rattle.viewers.specs.Viewers.{ViewersSeen, after_opening, content_of, has_room, with_entry, with_top, with_viewer, without, without_viewer}
+use Rattle.viewers.specs.Viewers.{ViewersSeen, after_opening, content_of, contents_without, has_room, with_entry, with_top, with_viewer, without_viewer}
 use Rattle.texts.specs.Text.{IsAnchor}
 use Rattle.texts.specs.TextState.{TextState}
 use Rattle.machine.specs.SiteTexts.{SiteTexts, InText, IsTextOf, with_text}
 use Rattle.machine.specs.Windows.{Caret, Selected, Window, shown_by}
-use Rattle.desk_windows.specs.Windows.{AreOf, AreSameWindows, Follows, ShowTexts, WindowSeen, WindowsSeen, window_of, windows_of}
+use Rattle.desk_windows.specs.Windows.{AreOf, AreSameWindows, FollowsChanges, ShowTexts, WindowSeen, WindowsSeen, seen_window, windows_of}
 use Rattle.desk_windows.proofs.Entries.{apart_at}
 use Rattle.desk_windows.proofs.Said.{closed_windows}
 use Rattle.desk_windows.proofs.Scrolling.{shown_is}
@@ -63,10 +63,10 @@ module _ {C D : Type 0} (f : C → D) where
 
 -- the window with which a viewer shows the same
 same_window : (a b : List (ℕ × WindowSeen)) (u : ℕ) (w : WindowSeen) → windows_of b ≡ windows_of a → content_of a u ≡ Some w
-    → (x : WindowSeen) × (content_of b u ≡ Some x) × (window_of x ≡ window_of w)
+    → (x : WindowSeen) × (content_of b u ≡ Some x) × (seen_window x ≡ seen_window w)
 same_window a b u w same is =
-    mapped_some window_of (content_of b u) (window_of w)
-    (sym (shown_is b u) ∙ (ap (shown_by u) same ∙ (shown_is a u ∙ ap (option_map window_of) is)))
+    mapped_some seen_window (content_of b u) (seen_window w)
+    (sym (shown_is b u) ∙ (ap (shown_by u) same ∙ (shown_is a u ∙ ap (option_map seen_window) is)))
 
 -- windows that are the same go on
 pub goes_same : (d : SiteTexts) (a b : List (ℕ × WindowSeen)) → windows_of b ≡ windows_of a → (u : ℕ) → GoesOn d d a b u
@@ -98,14 +98,14 @@ goes_opened d s track row c u w t is at = by_test (has_room s track row)
 
 -- another viewer closes
 content_left : (contents : List (ℕ × WindowSeen)) (v u : ℕ) (w : WindowSeen) → (u ≡ v → ⊥) → content_of contents u ≡ Some w
-    → content_of (without contents v) u ≡ Some w
+    → content_of (contents_without contents v) u ≡ Some w
 content_left [] v u w apart is = is
 content_left (entry ∷ rest) v u w apart is =
     by_tests (content_left rest v u w apart) (eqb entry.0 v) (eqb entry.0 u) refl refl is
   where
-    by_tests : (content_of rest u ≡ Some w → content_of (without rest v) u ≡ Some w) → (a d : Bool)
+    by_tests : (content_of rest u ≡ Some w → content_of (contents_without rest v) u ≡ Some w) → (a d : Bool)
         → eqb entry.0 v ≡ a → eqb entry.0 u ≡ d → cond d (Some entry.1) (content_of rest u) ≡ Some w
-        → content_of (cond (not a) (entry ∷ without rest v) (without rest v)) u ≡ Some w
+        → content_of (cond (not a) (entry ∷ contents_without rest v) (contents_without rest v)) u ≡ Some w
     by_tests more true true first third is =
         absurd (apart (sym (eqb-true entry.0 u third) ∙ eqb-true entry.0 v first))
     by_tests more true false first third is = more is
@@ -113,7 +113,7 @@ content_left (entry ∷ rest) v u w apart is =
     by_tests more false false first third is = rw third (more is)
 
 pub goes_closed : (d : SiteTexts) (contents : List (ℕ × WindowSeen)) (v u : ℕ) → (u ≡ v → ⊥)
-    → GoesOn d d contents (without contents v) u
+    → GoesOn d d contents (contents_without contents v) u
 goes_closed d contents v u apart w t is at = (w, t, content_left contents v u w apart is, at, λ anchor char. char)
 
 -- what isn't let go where it stands in a viewer stands in another
@@ -189,7 +189,7 @@ goes_set d contents v x c there text u w t is at = by_test (eqb u v) refl
 
 -- a text changes, and its characters stay
 pub goes_changed : (d d' : SiteTexts) (number : ℕ) (changes : List Change) (contents : List (ℕ × WindowSeen))
-    → InText (Follows changes) d number d' → (u : ℕ) → GoesOn d d' contents contents u
+    → InText (FollowsChanges changes) d number d' → (u : ℕ) → GoesOn d d' contents contents u
 goes_changed d d' number changes contents in_text u w t is at = by_index (eqb (w.text - 1) (number - 1)) refl
   where
     by_index : (e : Bool) → eqb (w.text - 1) (number - 1) ≡ e → (x : WindowSeen) × (t' : TextState)
@@ -257,7 +257,7 @@ moved_are d old v row a new are is same shown caret selected =
     (λ w t here at. (w, t, here, at, λ anchor char. char)) is same)
 
 pub told_are : (d d' : SiteTexts) (number : ℕ) (changes : List Change) (old new : WindowsSeen) → AreOf d old
-    → InText (Follows changes) d number d' → ShowTexts d' new.viewers
+    → InText (FollowsChanges changes) d number d' → ShowTexts d' new.viewers
     → windows_of new.viewers.contents ≡ windows_of old.viewers.contents → new.caret ≡ old.caret
     → new.selected ≡ old.selected → AreOf d' new
 told_are d d' number changes old new are in_text shown same caret selected =

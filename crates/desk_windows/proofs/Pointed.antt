@@ -28,7 +28,7 @@ use Rattle.desk_windows.specs.Pointing.{IsCaretSpot, IsClicked, IsInWindow, IsMa
 use Rattle.desk_windows.specs.declared.pointing.CellTarget.{CellTarget}
 use Rattle.desk_windows.specs.declared.pointing.CellTarget.TheVariants.{Menu, Text}
 use Rattle.desk_windows.specs.declared.pointing.Spot.{Spot}
-use Rattle.desk_windows.specs.Windows.{AreOf, ShowTexts, ShowsSo, ShowsText, WindowSeen, WindowsSeen, screened, window_of}
+use Rattle.desk_windows.specs.Windows.{AreOf, ShowTexts, ShowsSo, ShowsText, WindowSeen, WindowsSeen, screened, seen_window}
 use Rattle.desk_windows.proofs.Cells.{HasCell, cell_of, position_within}
 use Rattle.desk_windows.proofs.Scrolling.{shown_nothing, shown_text}
 
@@ -86,7 +86,7 @@ module _ (d : SiteTexts) (w : WindowsSeen) (col row v : ℕ) (a : Area) (viewers
       let t = shows.text in
       let cell = cell_of w.viewers col row v a viewers lt at is in
       let wide = cell_width d w col row v a x cell shows in
-      let p : Pointed = pointed_in v a col row (window_of x, shows.text) in
+      let p : Pointed = pointed_in v a col row (seen_window x, shows.text) in
       let place = placed shows.text shows.drawn
       ∙ ap (λ (n : ℕ). position_in shows.text x.frame.anchor n (col - a.col) (row - a.top - 1)) wide in (
         p,
@@ -277,7 +277,7 @@ pub caret_stands : (d : SiteTexts) (w : WindowsSeen) (c : Caret) (x : WindowSeen
     → IsCaretSpot d w (Some (record { viewer = c.viewer; text = x.text; pos = pos }))
 caret_stands d w c x t pos are is shown at place = (
   c,
-  (window_of x, t),
+  (seen_window x, t),
   is,
   shown_text d w c.viewer 0 x x t shown at,
   refl,
@@ -295,13 +295,13 @@ caret_stands d w c x t pos are is shown at place = (
 -- what is marked
 module _ (d : SiteTexts) (w : WindowsSeen) (s : Selected) (x : WindowSeen) (t : TextState) (is : w.selected ≡ Some s)
     (shown : content_of w.viewers.contents s.viewer ≡ Some x) (at : IsTextOf d x.text t) where
-  marked_is : marked d (screened w) ≡ marked_as s (window_of x, t)
+  marked_is : marked d (screened w) ≡ marked_as s (seen_window x, t)
   marked_is =
       ap (option_and_then (λ s. option_and_then (marked_as s) (shown_window d (screened w) s.viewer))) is
       ∙ ap (option_and_then (marked_as s)) (shown_text d w s.viewer 0 x x t shown at)
 
   abbrev mark : (beg end : ℕ) → Marked
-  mark beg end = record { viewer = s.viewer; window = window_of x; text = t; beg = beg; end = end }
+  mark beg end = record { viewer = s.viewer; window = seen_window x; text = t; beg = beg; end = end }
 
   pub nothing_marked : range_in t s ≡ None → marked d (screened w) ≡ None
   nothing_marked none = marked_is ∙ by_test (nat_lt (stretch_in t s).0 (stretch_in t s).1) none

@@ -23,11 +23,11 @@ use Rattle.viewers.proofs.Seating.{has_times}
 use Rattle.texts.specs.TextState.{TextState}
 use Rattle.machine.specs.SiteTexts.{SiteTexts}
 use Rattle.machine.specs.ScreenPrinting.{track_lines, viewer_cells, viewer_line}
-use Rattle.machine.specs.Windows.{Window, row_in, window_of as shown_window}
+use Rattle.machine.specs.Windows.{Window, row_from_anchor, window_of as shown_window}
 use Rattle.text_frames.specs.Reading.{no_row}
 use Rattle.text_frames.proofs.Drawn.{row_told}
 use Rattle.desk_windows.specs.Printing.{HoldsRow, cells_in, column_of, over, seat_lines, viewer_row}
-use Rattle.desk_windows.specs.Windows.{ShowTexts, ShowsText, WindowSeen, WindowsSeen, width_of, window_of}
+use Rattle.desk_windows.specs.Windows.{ShowTexts, ShowsText, WindowSeen, WindowsSeen, seen_window, width_of}
 use Rattle.desk_windows.proofs.Cells.{row_in_seat, times_once}
 use Rattle.desk_windows.proofs.Scrolling.{shown_nothing, shown_text}
 
@@ -347,13 +347,13 @@ module _ (d : SiteTexts) (s : ViewersSeen WindowSeen) (track : Track) (row v lin
     window_row =
         let old : ShowsText d s.tracks v x = shows.texts v x at in
         by_line (line == 0) refl
-        ∙ ap (λ (n : ℕ). viewer_cells v (window_of x, old.text) n line) as_wide
-        ∙ ap (λ (n : ℕ). viewer_cells v (window_of x, old.text) (width_of s.tracks.width track) n) held.line_is
+        ∙ ap (λ (n : ℕ). viewer_cells v (seen_window x, old.text) n line) as_wide
+        ∙ ap (λ (n : ℕ). viewer_cells v (seen_window x, old.text) (width_of s.tracks.width track) n) held.line_is
         ∙ sym (cells_are ∙ ap cells_so (shown_text d (alone s) v 0 x x old.text at old.at))
       where
         by_line : (b : Bool) → eqb line 0 ≡ b
             → cond b (cells_of x.frame.width (menu_of v x.text)) (slice_index_or x.frame.rows (line - 1) no_row).cells
-            ≡ cond b (cells_of x.frame.width (menu_of v x.text)) (row_in (shows.texts v x at).text x.frame.anchor x.frame.width (line - 1)).cells
+            ≡ cond b (cells_of x.frame.width (menu_of v x.text)) (row_from_anchor (shows.texts v x at).text x.frame.anchor x.frame.width (line - 1)).cells
         by_line true is = refl
         by_line false is =
             let some = eqb-false line 0 is in

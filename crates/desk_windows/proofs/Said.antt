@@ -11,10 +11,10 @@ use Rattle.viewers.specs.declared.screen.Track.{Track}
 use Rattle.viewers.specs.declared.screen.Track.TheVariants.{User, System}
 use Rattle.viewers.specs.Screen.{ScreenSeen, after_closing, after_close, after_move, after_moving, area_in, has, move_answer, moving, seats_of, user_width, with_seats}
 use Rattle.viewers.specs.Tracks.{can_move, closed, moved, seat_index}
-use Rattle.viewers.specs.Viewers.{AreViewers, ViewersSeen, content_of, has_room, with_top, with_viewer, without, without_viewer}
+use Rattle.viewers.specs.Viewers.{AreViewers, ViewersSeen, content_of, contents_without, has_room, with_top, with_viewer, without_viewer}
 use Rattle.viewers.proofs.Others.{show_where_they_stand}
 use Rattle.machine.specs.Windows.{Arranged, Caret, Screened, Selected, closed_at, is_open, is_row_below, moved_to, opened_at}
-use Rattle.desk_windows.specs.Windows.{AreSameWindows, WindowSeen, WindowsSeen, screened, window_of, windows_of}
+use Rattle.desk_windows.specs.Windows.{AreSameWindows, WindowSeen, WindowsSeen, screened, seen_window, windows_of}
 use Rattle.desk_windows.proofs.Comes.{screened_same}
 
 abbrev none_open : Option Area
@@ -33,15 +33,15 @@ open_is s v viewers = by_tests (has s.tracks.user v) (has s.tracks.system v) (sh
     by_tests false false is = is
 
 windows_without : (contents : List (ℕ × WindowSeen)) (v : ℕ)
-    → windows_of (without contents v) ≡ filter (λ entry. not (entry.0 == v)) (windows_of contents)
+    → windows_of (contents_without contents v) ≡ filter (λ entry. not (entry.0 == v)) (windows_of contents)
 windows_without [] v = refl
 windows_without (entry ∷ rest) v = by_test (eqb entry.0 v) (windows_without rest v)
   where
-    by_test : (b : Bool) → windows_of (without rest v) ≡ filter (λ entry. not (entry.0 == v)) (windows_of rest)
-        → windows_of (cond (not b) (entry ∷ without rest v) (without rest v))
-        ≡ cond (not b) ((entry.0, window_of entry.1) ∷ filter (λ entry. not (entry.0 == v)) (windows_of rest)) (filter (λ entry. not (entry.0 == v)) (windows_of rest))
+    by_test : (b : Bool) → windows_of (contents_without rest v) ≡ filter (λ entry. not (entry.0 == v)) (windows_of rest)
+        → windows_of (cond (not b) (entry ∷ contents_without rest v) (contents_without rest v))
+        ≡ cond (not b) ((entry.0, seen_window entry.1) ∷ filter (λ entry. not (entry.0 == v)) (windows_of rest)) (filter (λ entry. not (entry.0 == v)) (windows_of rest))
     by_test true more = more
-    by_test false more = ap (λ l. (entry.0, window_of entry.1) ∷ l) more
+    by_test false more = ap (λ l. (entry.0, seen_window entry.1) ∷ l) more
 
 tracks_closed : (t : ScreenSeen) (v : ℕ) → (has t.user v || has t.system v) ≡ true
     → with_seats t (cond (has t.user v) User System) (closed (seats_of t (cond (has t.user v) User System)) (seat_index (seats_of t (cond (has t.user v) User System)) v))
@@ -102,9 +102,9 @@ closed_not w v shut = when_false (is_open (screened w) v) _ (Err NoViewer) shut
 
 -- a viewer with a next one opens
 windows_after : (contents : List (ℕ × WindowSeen)) (n : ℕ) (c : WindowSeen)
-    → windows_of (contents ++ (n, c) ∷ []) ≡ windows_of contents ++ (n, window_of c) ∷ []
+    → windows_of (contents ++ (n, c) ∷ []) ≡ windows_of contents ++ (n, seen_window c) ∷ []
 windows_after [] n c = refl
-windows_after (entry ∷ rest) n c = ap (λ l. (entry.0, window_of entry.1) ∷ l) (windows_after rest n c)
+windows_after (entry ∷ rest) n c = ap (λ l. (entry.0, seen_window entry.1) ∷ l) (windows_after rest n c)
 
 pub opened_is : (w : WindowsSeen) (track : Track) (row : Option ℕ) (c : WindowSeen) → is_row_below (screened w) row ≡ false
     → has_room w.viewers track row ≡ true → c.frame.anchor ≡ Root

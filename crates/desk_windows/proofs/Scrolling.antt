@@ -8,29 +8,29 @@ use Rattle.texts.specs.TextState.{TextState}
 use Rattle.machine.specs.SiteTexts.{SiteTexts, IsTextOf}
 use Rattle.machine.specs.Windows.{Arranged, Window, line_anchor, scrolled_in, shown_by, text_of, window_of as shown_window}
 use Rattle.text_frames.specs.Frames.{IsDrawn}
-use Rattle.desk_windows.specs.Windows.{ShowTexts, ShowsText, WindowSeen, WindowsSeen, screened, window_of, windows_of}
+use Rattle.desk_windows.specs.Windows.{ShowTexts, ShowsText, WindowSeen, WindowsSeen, screened, seen_window, windows_of}
 use Rattle.desk_windows.proofs.Entries.{content_with}
 use Rattle.desk_windows.proofs.Fitted.{set_rows, set_shown}
 
-pub shown_is : (contents : List (ℕ × WindowSeen)) (v : ℕ) → shown_by v (windows_of contents) ≡ option_map window_of (content_of contents v)
+pub shown_is : (contents : List (ℕ × WindowSeen)) (v : ℕ) → shown_by v (windows_of contents) ≡ option_map seen_window (content_of contents v)
 shown_is [] v = refl
 shown_is (entry ∷ rest) v = by_test (eqb entry.0 v) (shown_is rest v)
   where
-    by_test : (b : Bool) → shown_by v (windows_of rest) ≡ option_map window_of (content_of rest v)
-        → cond b (Some (window_of entry.1)) (shown_by v (windows_of rest)) ≡ option_map window_of (cond b (Some entry.1) (content_of rest v))
+    by_test : (b : Bool) → shown_by v (windows_of rest) ≡ option_map seen_window (content_of rest v)
+        → cond b (Some (seen_window entry.1)) (shown_by v (windows_of rest)) ≡ option_map seen_window (cond b (Some entry.1) (content_of rest v))
     by_test true more = refl
     by_test false more = more
 
 windows_set : (contents : List (ℕ × WindowSeen)) (v : ℕ) (c : WindowSeen)
-    → windows_of (with_entry contents v c) ≡ map (λ entry. if entry.0 == v then (v, window_of c) else entry) (windows_of contents)
+    → windows_of (with_entry contents v c) ≡ map (λ entry. if entry.0 == v then (v, seen_window c) else entry) (windows_of contents)
 windows_set [] v c = refl
 windows_set (entry ∷ rest) v c = by_test (eqb entry.0 v) (windows_set rest v c)
   where
-    by_test : (b : Bool) → windows_of (with_entry rest v c) ≡ map (λ entry. if entry.0 == v then (v, window_of c) else entry) (windows_of rest)
+    by_test : (b : Bool) → windows_of (with_entry rest v c) ≡ map (λ entry. if entry.0 == v then (v, seen_window c) else entry) (windows_of rest)
         → windows_of (cond b (v, c) entry ∷ with_entry rest v c)
-        ≡ cond b (v, window_of c) (entry.0, window_of entry.1) ∷ map (λ entry. if entry.0 == v then (v, window_of c) else entry) (windows_of rest)
-    by_test true more = ap (λ l. (v, window_of c) ∷ l) more
-    by_test false more = ap (λ l. (entry.0, window_of entry.1) ∷ l) more
+        ≡ cond b (v, seen_window c) (entry.0, seen_window entry.1) ∷ map (λ entry. if entry.0 == v then (v, seen_window c) else entry) (windows_of rest)
+    by_test true more = ap (λ l. (v, seen_window c) ∷ l) more
+    by_test false more = ap (λ l. (entry.0, seen_window entry.1) ∷ l) more
 
 module _ (d : SiteTexts) (w : WindowsSeen) (v line : ℕ) where
   abbrev outcome : Option (Window × TextState) → Arranged
@@ -45,18 +45,18 @@ module _ (d : SiteTexts) (w : WindowsSeen) (v line : ℕ) where
   pub shown_nothing : content_of w.viewers.contents v ≡ None → shown_window d (screened w) v ≡ None
   shown_nothing none =
       ap (option_and_then (λ window. option_map (λ t. (window, t)) (text_of d window.text)))
-      (shown_is w.viewers.contents v ∙ ap (option_map window_of) none)
+      (shown_is w.viewers.contents v ∙ ap (option_map seen_window) none)
 
   pub scrolled_not : content_of w.viewers.contents v ≡ None → scrolled_in d (screened w) v line ≡ Err NoViewer
   scrolled_not none = ap outcome (shown_nothing none)
 
   module _ (x c : WindowSeen) (t : TextState) where
     pub shown_text : content_of w.viewers.contents v ≡ Some x → IsTextOf d x.text t
-        → shown_window d (screened w) v ≡ Some (window_of x, t)
+        → shown_window d (screened w) v ≡ Some (seen_window x, t)
     shown_text is at =
         ap (option_and_then (λ window. option_map (λ t. (window, t)) (text_of d window.text)))
-        (shown_is w.viewers.contents v ∙ ap (option_map window_of) is)
-        ∙ ap (option_map (λ (t : TextState). (window_of x, t))) at
+        (shown_is w.viewers.contents v ∙ ap (option_map seen_window) is)
+        ∙ ap (option_map (λ (t : TextState). (seen_window x, t))) at
 
     pub scrolled_is : content_of w.viewers.contents v ≡ Some x → IsTextOf d x.text t → c.text ≡ x.text
         → c.frame.anchor ≡ line_anchor t line

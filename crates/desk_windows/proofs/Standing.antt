@@ -8,7 +8,7 @@ use Rattle.viewers.specs.declared.screen.Track.TheVariants.{User, System}
 use Rattle.viewers.specs.declared.seats.Seat.{Seat}
 use Rattle.viewers.specs.Screen.{ScreenSeen, after_close, after_closing, after_move, after_moving, has, seats_of, with_seats}
 use Rattle.viewers.specs.Tracks.{can_move, closed, moved, opened, seat_index, row_for}
-use Rattle.viewers.specs.Viewers.{AreViewers, ViewersSeen, after_opening, content_of, has_room, numbers, seated, times, with_top, with_viewer, without, without_viewer}
+use Rattle.viewers.specs.Viewers.{AreViewers, ViewersSeen, after_opening, content_of, contents_without, has_room, numbers, seated, times, with_top, with_viewer, without_viewer}
 use Rattle.viewers.proofs.Numbers.{none_next, one_if}
 use Rattle.viewers.proofs.Seating.{has_no_times, has_times, seated_moved, times_closed, times_opened}
 use Rattle.texts.specs.TextState.{TextState}
@@ -88,27 +88,27 @@ moved_width t v row = by_test (has t.user v)
     by_test false = refl
 
 module _ {C : Type 0} where
-  gone : (contents : List (ℕ × C)) (v u : ℕ) (w : C) → content_of (without contents v) u ≡ Some w → u ≡ v → ⊥
+  gone : (contents : List (ℕ × C)) (v u : ℕ) (w : C) → content_of (contents_without contents v) u ≡ Some w → u ≡ v → ⊥
   gone [] v u w e same = cc
   gone (entry ∷ rest) v u w e same = by_tests (λ h. gone rest v u w h same) (eqb entry.0 v) (eqb entry.0 u) refl refl e
     where
-      by_tests : (content_of (without rest v) u ≡ Some w → ⊥) → (a d : Bool) → eqb entry.0 v ≡ a → eqb entry.0 u ≡ d
-          → content_of (cond (not a) (entry ∷ without rest v) (without rest v)) u ≡ Some w → ⊥
+      by_tests : (content_of (contents_without rest v) u ≡ Some w → ⊥) → (a d : Bool) → eqb entry.0 v ≡ a → eqb entry.0 u ≡ d
+          → content_of (cond (not a) (entry ∷ contents_without rest v) (contents_without rest v)) u ≡ Some w → ⊥
       by_tests more true d first third e = more e
       by_tests more false true first third e = apart_at entry.0 v first (eqb-true entry.0 u third ∙ same)
       by_tests more false false first third e =
-          let h : content_of (without rest v) u ≡ Some w = rw third at e in more h
+          let h : content_of (contents_without rest v) u ≡ Some w = rw third at e in more h
 
   -- what is shown where another's content is gone was shown
   pub content_without : (contents : List (ℕ × C)) (v u : ℕ) (w : C)
-      → content_of (without contents v) u ≡ Some w → content_of contents u ≡ Some w
+      → content_of (contents_without contents v) u ≡ Some w → content_of contents u ≡ Some w
   content_without [] v u w e = e
   content_without (entry ∷ rest) v u w e =
       by_tests (content_without rest v u w) (eqb entry.0 v) (eqb entry.0 u) refl refl e
     where
-      by_tests : (content_of (without rest v) u ≡ Some w → content_of rest u ≡ Some w) → (a d : Bool)
+      by_tests : (content_of (contents_without rest v) u ≡ Some w → content_of rest u ≡ Some w) → (a d : Bool)
           → eqb entry.0 v ≡ a → eqb entry.0 u ≡ d
-          → content_of (cond (not a) (entry ∷ without rest v) (without rest v)) u ≡ Some w
+          → content_of (cond (not a) (entry ∷ contents_without rest v) (contents_without rest v)) u ≡ Some w
           → content_of (entry ∷ rest) u ≡ Some w
       by_tests more true true first third e =
           absurd (gone rest v u w e (sym (eqb-true entry.0 u third) ∙ eqb-true entry.0 v first))
@@ -116,7 +116,7 @@ module _ {C : Type 0} where
       by_tests more false true first third e =
           let h : Some entry.1 ≡ Some w = rw third at e in rw third h
       by_tests more false false first third e =
-          let h : content_of (without rest v) u ≡ Some w = rw third at e in rw third (more h)
+          let h : content_of (contents_without rest v) u ≡ Some w = rw third at e in rw third (more h)
 
   -- with one more, each shows what it showed, or is that one
   pub content_after : (contents : List (ℕ × C)) (n u : ℕ) (c w : C) → content_of (contents ++ (n, c) ∷ []) u ≡ Some w

@@ -21,9 +21,9 @@ abbrev pub over : ViewersSeen WindowSeen → Screened
 over viewers = screened (record { viewers = viewers; caret = None; selected = None })
 
 -- a track's name
-abbrev pub name_of : Track → List ℕ
-name_of User = codes "user"
-name_of System = codes "system"
+abbrev pub track_name : Track → List ℕ
+track_name User = codes "user"
+track_name System = codes "system"
 
 -- the first column of a track
 abbrev pub column_of : (width : ℕ) → Track → ℕ
@@ -55,6 +55,6 @@ pub record HoldsRow (viewers : ViewersSeen WindowSeen) (track : Track) (row v li
   pub in_area : line < area.height
 
 -- the viewer that has a row of a track, and which of its rows that is; nothing in a blank track
-abbrev pub IsHeld : ViewersSeen WindowSeen → Track → (row : ℕ) → Option (ℕ × ℕ) → Type 0
-IsHeld viewers track row None = viewer_in (seats_of viewers.tracks track) row ≡ None
-IsHeld viewers track row (Some held) = HoldsRow viewers track row held.0 held.1
+abbrev pub IsRowHeld : ViewersSeen WindowSeen → Track → (row : ℕ) → Option (ℕ × ℕ) → Type 0
+IsRowHeld viewers track row None = viewer_in (seats_of viewers.tracks track) row ≡ None
+IsRowHeld viewers track row (Some held) = HoldsRow viewers track row held.0 held.1

@@ -34,12 +34,12 @@ pub record WindowsSeen : Type 0 where
   pub selected : Option Selected
 
 -- a window as the machine has it: a text, and the character of its first line
-abbrev pub window_of : WindowSeen → Window
-window_of w = record { text = w.text; anchor = w.frame.anchor }
+abbrev pub seen_window : WindowSeen → Window
+seen_window w = record { text = w.text; anchor = w.frame.anchor }
 
 -- all windows so
 abbrev pub windows_of : List (ℕ × WindowSeen) → List (ℕ × Window)
-windows_of contents = map (λ entry. (entry.0, window_of entry.1)) contents
+windows_of contents = map (λ entry. (entry.0, seen_window entry.1)) contents
 
 -- a site's screen as the machine has it
 abbrev pub screened : WindowsSeen → Screened
@@ -119,7 +119,7 @@ pub record AreSameWindows (old new : ViewersSeen WindowSeen) : Type 0 where
   pub windows : windows_of new.contents ≡ windows_of old.contents
 
 -- these changes lead from what a text showed to what it shows now; its characters stay, in their order
-pub record Follows (changes : List Change) (t now : TextState) : Type 0 where
+pub record FollowsChanges (changes : List Change) (t now : TextState) : Type 0 where
   pub well : IsText t
   pub order : KeepsTheOrder t now
   pub kept : (anchor : Anchor) → IsAnchor t.operations anchor → IsAnchor now.operations anchor
@@ -132,13 +132,13 @@ pub record ReadsAsAsked (changes : List Change) (now : TextState) (old new : Fra
   pub anew : (AllPass (is_quiet_for old) changes → ⊥) → IsAnchor now.operations old.anchor → ReadsOnce now old new
 
 -- a window of the text of this number is told of its changes; a window of another text stays
-pub record Told (number : ℕ) (changes : List Change) (now : TextState) (old new : WindowSeen) : Type 0 where
+pub record IsWindowTold (number : ℕ) (changes : List Change) (now : TextState) (old new : WindowSeen) : Type 0 where
   pub text : new.text ≡ old.text
   pub anchor : new.frame.anchor ≡ old.frame.anchor
   pub width : new.frame.width ≡ old.frame.width
   pub rows : length new.frame.rows ≡ length old.frame.rows
   pub other : (old.text ≡ number → ⊥) → (new ≡ old) × (old.text - 1 ≡ number - 1 → ⊥)
-  pub drawn : old.text ≡ number → (t : TextState) → Follows changes t now → IsDrawn old.frame t → IsDrawn new.frame now
+  pub drawn : old.text ≡ number → (t : TextState) → FollowsChanges changes t now → IsDrawn old.frame t → IsDrawn new.frame now
   pub reads : old.text ≡ number → ReadsAsAsked changes now old.frame new.frame
 
 -- a window of another text stays, and one of this text reads what the changes ask of its frame

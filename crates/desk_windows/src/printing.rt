@@ -4,7 +4,7 @@ ghost use Rattle.std.specs.Prelude.{◌≡◌, ◌+◌, ◌<◌, ◌++◌, lengt
 ghost use Rattle.looks.specs.Refusal.{RefusedForMemoryAlone};
 ghost use Rattle.viewers.specs.Screen.{seats_of};
 ghost use Rattle.machine.specs.ScreenPrinting.{screen_line, screen_lines, track_lines, viewer_line, views_lines};
-ghost use Rattle.desk_windows.specs.Printing.{IsHeld, cells_in, column_of, name_of, over, seat_lines, viewer_row};
+ghost use Rattle.desk_windows.specs.Printing.{IsRowHeld, cells_in, column_of, over, seat_lines, track_name, viewer_row};
 ghost use Rattle.desk_windows.specs.Windows.{AreOf, ShowTexts, screened, width_of};
 
 use crate::marks::put_spaced;
@@ -19,7 +19,7 @@ use viewers::{MAX_WIDTH, Screen, Seat, Track};
 
 // A track's name.
 fn name_of(track: Track) -> &'static [u8]
-    ensures { result.now ≡ name_of track }
+    ensures { result.now ≡ track_name track }
 {
     match track {
         Track::User => b"user",
@@ -35,7 +35,7 @@ fn put_viewer(
     top: u64,
     text: u64,
 ) -> Result<(), AllocError>
-    ensures { OnOk result (out.new.items ≡ out.old.items ++ viewer_line (name_of track) seat top text) }
+    ensures { OnOk result (out.new.items ≡ out.old.items ++ viewer_line (track_name track) seat top text) }
 {
     out.extend_from_slice(b"viewer")?;
     put_spaced(out, &[u64::from(seat.number)])?;
@@ -57,7 +57,7 @@ fn put_seat(
 ) -> Result<(), AllocError>
     requires { ShowTexts texts.now viewers.now }
     ensures { OnOk result (out.new.items
-        ≡ out.old.items ++ seat_lines texts.now viewers.now (name_of track) top seat) }
+        ≡ out.old.items ++ seat_lines texts.now viewers.now (track_name track) top seat) }
 {
     match viewers.content_at(seat.number) {
         Some(window) => put_viewer(out, track, seat, top, u64::from(window.text.get())),
@@ -74,7 +74,7 @@ fn put_track(
 ) -> Result<(), AllocError>
     requires { ShowTexts texts.now viewers.now }
     ensures { OnOk result (out.new.items ≡ out.old.items
-        ++ track_lines texts.now (over viewers.now) (name_of track) 0 (seats_of viewers.now.tracks track)) }
+        ++ track_lines texts.now (over viewers.now) (track_name track) 0 (seats_of viewers.now.tracks track)) }
 {
     viewers.lemma_are_viewers();
     let mut top = 0;
@@ -111,7 +111,7 @@ fn first_column(width: usize, track: Track) -> usize
 // The viewer that has a row of a track, and which of its rows that is; `None` in a blank track.
 fn holder(viewers: &Screen<Window>, track: Track, row: usize) -> Option<(u32, usize)>
     requires { row < viewers.now.tracks.height }
-    ensures { IsHeld viewers.now track row result }
+    ensures { IsRowHeld viewers.now track row result }
 {
     viewers.lemma_are_viewers();
     let col = first_column(viewers.width(), track);

@@ -5,7 +5,7 @@ ghost use Rattle.machine.specs.Windows.{line_anchor};
 ghost use Rattle.texts.specs.TextState.{TextState};
 ghost use Rattle.texts.specs.Text.{IsAnchor};
 ghost use Rattle.text_frames.specs.Frames.{IsDrawn};
-ghost use Rattle.desk_windows.specs.Windows.{Told};
+ghost use Rattle.desk_windows.specs.Windows.{IsWindowTold};
 ghost use Rattle.text_frames.specs.declared.TheConstants.{MAX_ROWS};
 
 use char_files::TextNo;
@@ -60,7 +60,7 @@ impl Window {
 
     // Follows changes of a text, where it shows this one.
     pub(crate) fn tell(&mut self, replica: &Replica, text: TextNo, changes: &[Change])
-        ensures { Told text changes.now replica.now self.old self.new }
+        ensures { IsWindowTold text changes.now replica.now self.old self.new }
     {
         if self.text.get() == text.get() {
             self.frame.update(replica, changes);

@@ -7,7 +7,7 @@ ghost use Rattle.machine.specs.SiteTexts.{SiteTexts, InText, IsTextOf};
 ghost use Rattle.machine.specs.Windows.{arranged, blank_screen, is_open, is_row_below};
 ghost use Rattle.machine.specs.declared.asked.Arrangement.TheVariants.{Close, Move, Open, Scroll};
 ghost use Rattle.texts.specs.TextState.{TextState};
-ghost use Rattle.desk_windows.specs.Windows.{AreOf, AreToldOnce, ComesTo, ComesToOrShort, Follows, IsTextShown, screened, width_of};
+ghost use Rattle.desk_windows.specs.Windows.{AreOf, AreToldOnce, ComesTo, ComesToOrShort, FollowsChanges, IsTextShown, screened, width_of};
 
 use crate::fitting::fit_all;
 use crate::telling::tell_each;
@@ -230,7 +230,7 @@ impl Windows {
     pub fn tell(&mut self, texts: &Texts, text: TextNo, changes: &[Change])
         requires { text ≤ MAX_TEXT }
         ensures screen { screened self.new ≡ screened self.old }
-        ensures of { (d : SiteTexts) → AreOf d self.old → InText (Follows changes.now) d text texts.now
+        ensures of { (d : SiteTexts) → AreOf d self.old → InText (FollowsChanges changes.now) d text texts.now
             → AreOf texts.now self.new }
         ensures once { (now : TextState) × IsTextOf texts.now text now
             × AreToldOnce text changes.now now self.old.viewers self.new.viewers }

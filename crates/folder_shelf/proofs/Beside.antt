@@ -4,7 +4,7 @@ use Rattle.std.specs.Prelude.{Option, None, Some}
 use Rattle.std.specs.IoError.{error_kind}
 use Rattle.std.specs.declared.io.Error.{Error}
 use Rattle.std.specs.declared.io.ErrorKind.TheVariants.{AlreadyExists, OutOfMemory}
-use Rattle.folder_shelf.specs.Calls.{Fails, Makes, MakesNot, NoFault, Same, Well}
+use Rattle.folder_shelf.specs.Calls.{Fails, MakesFile, MakesNot, NoFault, Same, Well}
 use Rattle.folder_shelf.specs.Moments.{File, Goes, History, Moment, Names, Since}
 use Rattle.folder_shelf.specs.Whole.{GivenUp, IsBeside, MakesBeside}
 use Rattle.folder_shelf.proofs.Leading.{since_call, since_since, since_weaker}
@@ -15,7 +15,7 @@ use Rattle.folder_shelf.proofs.Replacing.{lasting_same}
 abbrev pub Tried : ℕ → Moment → Moment → Type 0
 Tried number old now = Same old now × NoFault old now × (0 < number → (other : List ℕ) × IsBeside other × (old.names other ≢ None))
 
-makes_after : (name : List ℕ) (file : ℕ) (a m n : Moment) → Same a m → Makes name file m n → Makes name file a n
+makes_after : (name : List ℕ) (file : ℕ) (a m n : Moment) → Same a m → MakesFile name file m n → MakesFile name file a n
 makes_after name file a m n same makes = record {
   absent = sym (ap (λ (names : Names). names name) same.names) ∙ makes.absent;
   fresh = λ other among. makes.fresh other (lasting_same m a (sym same.names) (sym same.kept) other (Some file) among);
@@ -30,14 +30,14 @@ makes_after name file a m n same makes = record {
 }
 
 pub made : (number : ℕ) (beside name : List ℕ) (file : ℕ) (h0 h1 h2 : Option History) → name ≡ beside → IsBeside beside
-    → Since Same (Tried number) h0 h1 → Goes (Well (Makes name file)) h1 h2 → Since MakesBeside (Well (Makes beside file)) h0 h2
+    → Since Same (Tried number) h0 h1 → Goes (Well (MakesFile name file)) h1 h2 → Since MakesBeside (Well (MakesFile beside file)) h0 h2
 made number beside name file h0 h1 h2 is is_beside a b =
-    let step : Goes (Well (Makes beside file)) h1 h2 = subst (λ (n : List ℕ). Goes (Well (Makes n file)) h1 h2) is b in
-    since_since Same (Tried number) (Well (Makes beside file)) (Well (Makes beside file)) MakesBeside (Well (Makes beside file))
+    let step : Goes (Well (MakesFile beside file)) h1 h2 = subst (λ (n : List ℕ). Goes (Well (MakesFile n file)) h1 h2) is b in
+    since_since Same (Tried number) (Well (MakesFile beside file)) (Well (MakesFile beside file)) MakesBeside (Well (MakesFile beside file))
     (λ m n same. inl same)
     (λ l m n x y. inr (beside, file, is_beside, makes_after beside file l m n x.0 y.0))
     (λ l m n x y. (makes_after beside file l m n x.0 y.0, y.1 ∙ x.1))
-    h0 h1 h2 a (since_call (Well (Makes beside file)) (Well (Makes beside file)) (Well (Makes beside file)) (λ m n s. s) (λ m n s. s) h1 h2 step)
+    h0 h1 h2 a (since_call (Well (MakesFile beside file)) (Well (MakesFile beside file)) (Well (MakesFile beside file)) (λ m n s. s) (λ m n s. s) h1 h2 step)
 
 module _ (error : Error) (beside name : List ℕ) (is : name ≡ beside) (is_beside : IsBeside beside) where
   there_is : (m : Moment) → m.names name ≢ None → m.names beside ≢ None
@@ -47,7 +47,7 @@ module _ (error : Error) (beside name : List ℕ) (is : name ≡ beside) (is_bes
   beside_of a m n same (inl w) = inl (same_same a m n same w.2)
   beside_of a m n same (inr (other, inl w, fails)) = inl (same_same a m n same w)
   beside_of a m n same (inr (other, inr w, fails)) =
-      inr (beside, w.0, is_beside, subst (λ (b : List ℕ). Makes b w.0 a n) is (makes_after name w.0 a m n same w.1))
+      inr (beside, w.0, is_beside, subst (λ (b : List ℕ). MakesFile b w.0 a n) is (makes_after name w.0 a m n same w.1))
 
   fails_given_up : (a n : Moment) → Fails error a n → GivenUp error a n
   fails_given_up a n (inl memory) = inr (inl memory.0)

@@ -8,9 +8,9 @@ use Rattle.std.specs.declared.io.Error.{Error}
 use Rattle.std.specs.declared.io.ErrorKind.TheVariants.{InvalidInput, OutOfMemory}
 use Rattle.looks.specs.declared.refusal.Refusal.{Refusal}
 use Rattle.looks.specs.declared.refusal.Refusal.TheVariants.{OutOfMemory as Refused, ReadFault}
-use Rattle.folder_shelf.specs.Calls.{Fails, Gives, IsFault, NoFault, Perhaps, Same, Shows, Well}
+use Rattle.folder_shelf.specs.Calls.{AnswersLength, CallFailed, Fails, GivesPiece, NoFault, Perhaps, Same, Well}
 use Rattle.folder_shelf.specs.Moments.{Content, File, Goes, History, Moment, Names, Plain, Since, Special, seen}
-use Rattle.folder_shelf.specs.Whole.{HasNoPlain, IsRead, IsTooLong, Opened, ReadAll, Refuses}
+use Rattle.folder_shelf.specs.Whole.{HasNoPlain, IsFileTooLong, IsRead, Opened, ReadAll, RefusesCall}
 use Rattle.folder_shelf.specs.declared.folder.TheConstants.{MAX_PIECE}
 use Rattle.folder_shelf.specs.declared.whole_files.TheConstants.{MAX_FILE_LEN}
 use Rattle.folder_shelf.proofs.Leading.{since_call, since_since, since_start, since_weaker}
@@ -41,7 +41,7 @@ pub fails_after : (error : Error) (old mid now : Moment) → NoFault old mid →
 fails_after error old mid now none (inl memory) = inl (memory.0, memory.1 ∙ none)
 fails_after error old mid now none (inr fault) = inr (fault.0, subst (λ (n : ℕ). n < now.faults) none fault.1)
 
-fails_refuses : (error : Error) (reason : Type 0) (m n : Moment) → Fails error m n → Refuses error reason m n
+fails_refuses : (error : Error) (reason : Type 0) (m n : Moment) → Fails error m n → RefusesCall error reason m n
 fails_refuses error reason m n (inl memory) = inl memory
 fails_refuses error reason m n (inr fault) = inr (fault.0, inl fault.1)
 
@@ -51,16 +51,16 @@ no_memory error is memory = cc
 
 -- the first call failed
 pub call_refuses : (error : Error) (reason : Moment → Type 0) (h0 h1 : Option History) → Goes (Perhaps error Same) h0 h1
-    → Since Same (λ a n. Refuses error (reason a) a n) h0 h1
-call_refuses error reason = since_call (Perhaps error Same) Same (λ a n. Refuses error (reason a) a n)
+    → Since Same (λ a n. RefusesCall error (reason a) a n) h0 h1
+call_refuses error reason = since_call (Perhaps error Same) Same (λ a n. RefusesCall error (reason a) a n)
     (λ m n s. either_same m n s.0) (λ m n s. fails_refuses error (reason m) m n s.1)
 
 -- so did a call after others that only read
 pub then_refuses : (Last : Moment → Moment → Type 0) → ((a m : Moment) → Last a m → Same a m × NoFault a m)
     → (error : Error) (reason : Moment → Type 0) (h0 h1 h2 : Option History) → Since Same Last h0 h1 → Goes (Perhaps error Same) h1 h2
-    → Since Same (λ a n. Refuses error (reason a) a n) h0 h2
+    → Since Same (λ a n. RefusesCall error (reason a) a n) h0 h2
 then_refuses Last reads error reason h0 h1 h2 a b =
-    since_since Same Last Same (Perhaps error Same) Same (λ a n. Refuses error (reason a) a n)
+    since_since Same Last Same (Perhaps error Same) Same (λ a n. RefusesCall error (reason a) a n)
     (λ m n p. p)
     (λ l m n x y. same_same l m n (reads l m x).0 y)
     (λ l m n x y. fails_refuses error (reason l) l n (fails_after error l m n (reads l m x).1 y.1))
@@ -70,34 +70,34 @@ then_refuses Last reads error reason h0 h1 h2 a b =
 pub record Looked (name : List ℕ) (len : Option ℕ) (old now : Moment) : Type 0 where
   pub same : Same old now
   pub no_fault : NoFault old now
-  pub shows : Shows name len old
+  pub shows : AnswersLength name len old
 
-pub looked : (name : List ℕ) (len : Option ℕ) (h0 h1 : Option History) → Goes (λ old new. Well Same old new × Shows name len old) h0 h1
+pub looked : (name : List ℕ) (len : Option ℕ) (h0 h1 : Option History) → Goes (λ old new. Well Same old new × AnswersLength name len old) h0 h1
     → Since Same (Looked name len) h0 h1
-looked name len = since_call (λ old new. Well Same old new × Shows name len old) Same (Looked name len)
+looked name len = since_call (λ old new. Well Same old new × AnswersLength name len old) Same (Looked name len)
     (λ m n s. s.0.0) (λ m n s. record { same = s.0.0; no_fault = s.0.1; shows = s.1 })
 
 pub shows_none : (error : Error) (name : List ℕ) (len : Option ℕ) (h0 h1 : Option History) → error_kind error ≡ InvalidInput → len ≡ None
-    → Goes (λ old new. Well Same old new × Shows name len old) h0 h1 → Since Same (λ a n. Refuses error (HasNoPlain a name) a n) h0 h1
+    → Goes (λ old new. Well Same old new × AnswersLength name len old) h0 h1 → Since Same (λ a n. RefusesCall error (HasNoPlain a name) a n) h0 h1
 shows_none error name len h0 h1 kind is goes =
-    since_weaker Same (Looked name len) Same (λ a n. Refuses error (HasNoPlain a name) a n) (λ m n p. p)
-    (λ m n l. inr (no_memory error kind, inr (λ bytes at. absurd (subst (λ (o : Option ℕ). Shows name o m) is l.shows bytes at))))
+    since_weaker Same (Looked name len) Same (λ a n. RefusesCall error (HasNoPlain a name) a n) (λ m n p. p)
+    (λ m n l. inr (no_memory error kind, inr (λ bytes at. absurd (subst (λ (o : Option ℕ). AnswersLength name o m) is l.shows bytes at))))
     h0 h1 (looked name len h0 h1 goes)
 
-too_long : (name : List ℕ) (len : ℕ) (m : Moment) → MAX_FILE_LEN < len → Shows name (Some len) m → HasNoPlain m name
+too_long : (name : List ℕ) (len : ℕ) (m : Moment) → MAX_FILE_LEN < len → AnswersLength name (Some len) m → HasNoPlain m name
 too_long name len m over shows bytes at =
     subst (λ (n : ℕ). MAX_FILE_LEN < n) (sym shows.2 ∙ ap length (one_plain shows.0 bytes (sym shows.1 ∙ at))) over
 
 pub shows_long : (error : Error) (name : List ℕ) (len : Option ℕ) (n : ℕ) (h0 h1 : Option History) → error_kind error ≡ InvalidInput → len ≡ Some n
-    → MAX_FILE_LEN < n → Goes (λ old new. Well Same old new × Shows name len old) h0 h1 → Since Same (λ a m. Refuses error (HasNoPlain a name) a m) h0 h1
+    → MAX_FILE_LEN < n → Goes (λ old new. Well Same old new × AnswersLength name len old) h0 h1 → Since Same (λ a m. RefusesCall error (HasNoPlain a name) a m) h0 h1
 shows_long error name len n h0 h1 kind is over goes =
-    since_weaker Same (Looked name len) Same (λ a m. Refuses error (HasNoPlain a name) a m) (λ m n p. p)
-    (λ m now l. inr (no_memory error kind, inr (too_long name n m over (subst (λ (o : Option ℕ). Shows name o m) is l.shows))))
+    since_weaker Same (Looked name len) Same (λ a m. RefusesCall error (HasNoPlain a name) a m) (λ m n p. p)
+    (λ m now l. inr (no_memory error kind, inr (too_long name n m over (subst (λ (o : Option ℕ). AnswersLength name o m) is l.shows))))
     h0 h1 (looked name len h0 h1 goes)
 
 pub open_refuses : (error : Error) (name : List ℕ) (len : Option ℕ) (h0 h1 h2 : Option History)
-    → Goes (λ old new. Well Same old new × Shows name len old) h0 h1 → Goes (Perhaps error Same) h1 h2
-    → Since Same (λ a n. Refuses error (HasNoPlain a name) a n) h0 h2
+    → Goes (λ old new. Well Same old new × AnswersLength name len old) h0 h1 → Goes (Perhaps error Same) h1 h2
+    → Since Same (λ a n. RefusesCall error (HasNoPlain a name) a n) h0 h2
 open_refuses error name len h0 h1 h2 a b =
     then_refuses (Looked name len) (λ a m l. (l.same, l.no_fault)) error (λ a. HasNoPlain a name) h0 h1 h2 (looked name len h0 h1 a) b
 
@@ -108,7 +108,7 @@ shown_content name bytes file m at shows =
     ap or_special (sym (ap (λ (left : Option ℕ). option_map (λ k. (m.files k).content) left) at) ∙ shows)
 
 pub opened : (name : List ℕ) (file place : ℕ) (len : Option ℕ) (n : ℕ) (h0 h1 h2 : Option History) → len ≡ Some n
-    → Goes (λ old new. Well Same old new × Shows name len old) h0 h1
+    → Goes (λ old new. Well Same old new × AnswersLength name len old) h0 h1
     → Goes (λ old new. Well Same old new × (old.names name ≡ Some file) × (place ≡ 0)) h1 h2
     → Since Same (Opened name file place) h0 h2
 opened name file place len n h0 h1 h2 is a b =
@@ -116,7 +116,7 @@ opened name file place len n h0 h1 h2 is a b =
     (λ m n p. p)
     (λ l m n x y. same_same l m n x.same y)
     (λ l m now x y.
-    let shows = subst (λ (o : Option ℕ). Shows name o l) is x.shows in
+    let shows = subst (λ (o : Option ℕ). AnswersLength name o l) is x.shows in
     record {
       same = same_same l m now x.same y.0.0;
       no_fault = y.0.1 ∙ x.no_fault;
@@ -155,7 +155,7 @@ read_start file place = since_start Same (ReadSoFar file place place []) (λ m. 
 -- one piece more
 module _ (file start place end count : ℕ) (before after : List ℕ) where
   abbrev Piece : Moment → Moment → Type 0
-  Piece old new = Well Same old new × Gives file place count end before after old
+  Piece old new = Well Same old new × GivesPiece file place count end before after old
 
   content_then : (a m : Moment) (all : List ℕ) → Same a m → (a.files file).content ≡ Plain all → (m.files file).content ≡ Plain all
   content_then a m all same is = ap (λ (files : ℕ → File). (files file).content) same.files ∙ is
@@ -170,10 +170,10 @@ module _ (file start place end count : ℕ) (before after : List ℕ) where
   }
 
   pub read_piece : (k : ℕ) → k ≡ file → (h0 h1 h2 : Option History) → Since Same (ReadSoFar file start place before) h0 h1
-      → Goes (λ old new. Well Same old new × Gives k place count end before after old) h1 h2
+      → Goes (λ old new. Well Same old new × GivesPiece k place count end before after old) h1 h2
       → Since Same (λ a n. ReadSoFar file start end after a n × (count < MAX_PIECE → ReadAll file start after a n)) h0 h2
   read_piece k is h0 h1 h2 a b =
-      let step : Goes Piece h1 h2 = subst (λ (j : ℕ). Goes (λ old new. Well Same old new × Gives j place count end before after old) h1 h2) is b in
+      let step : Goes Piece h1 h2 = subst (λ (j : ℕ). Goes (λ old new. Well Same old new × GivesPiece j place count end before after old) h1 h2) is b in
       since_since Same (ReadSoFar file start place before) Same Piece Same (λ a n. ReadSoFar file start end after a n × (count < MAX_PIECE → ReadAll file start after a n))
       (λ m n p. p)
       (λ l m n x y. same_same l m n x.same y)
@@ -192,9 +192,9 @@ module _ (file start place end count : ℕ) (before after : List ℕ) where
 
 -- the file goes on past the limit
 pub read_past : (error : Error) (file start place : ℕ) (bytes : List ℕ) (h0 h1 : Option History) → error_kind error ≡ InvalidInput → MAX_FILE_LEN < length bytes
-    → Since Same (ReadSoFar file start place bytes) h0 h1 → Since Same (λ a n. Refuses error (IsTooLong file start a) a n) h0 h1
+    → Since Same (ReadSoFar file start place bytes) h0 h1 → Since Same (λ a n. RefusesCall error (IsFileTooLong file start a) a n) h0 h1
 read_past error file start place bytes h0 h1 kind over since =
-    since_weaker Same (ReadSoFar file start place bytes) Same (λ a n. Refuses error (IsTooLong file start a) a n) (λ m n p. p)
+    since_weaker Same (ReadSoFar file start place bytes) Same (λ a n. RefusesCall error (IsFileTooLong file start a) a n) (λ m n p. p)
     (λ m n s. inr (
       no_memory error kind,
       inr (λ none all is.
@@ -204,9 +204,9 @@ read_past error file start place bytes h0 h1 kind over since =
     h0 h1 since
 
 pub read_refuses : (error : Error) (file start place : ℕ) (bytes : List ℕ) (h0 h1 h2 : Option History)
-    → Since Same (ReadSoFar file start place bytes) h0 h1 → Goes (Perhaps error Same) h1 h2 → Since Same (λ a n. Refuses error (IsTooLong file start a) a n) h0 h2
+    → Since Same (ReadSoFar file start place bytes) h0 h1 → Goes (Perhaps error Same) h1 h2 → Since Same (λ a n. RefusesCall error (IsFileTooLong file start a) a n) h0 h2
 read_refuses error file start place bytes =
-    then_refuses (ReadSoFar file start place bytes) (λ a m s. (s.same, s.no_fault)) error (λ a. IsTooLong file start a)
+    then_refuses (ReadSoFar file start place bytes) (λ a m s. (s.same, s.no_fault)) error (λ a. IsFileTooLong file start a)
 
 -- of what a piece more comes to: it is read so far
 pub piece_so_far : (file start end count : ℕ) (bytes : List ℕ) (h0 h1 : Option History)
@@ -235,18 +235,18 @@ plain_read name file place bytes =
       no_fault = y.no_fault ∙ x.no_fault;
     })
 
-refuses_after : (error : Error) (reason here : Type 0) (a m n : Moment) → NoFault a m → (reason → here) → Refuses error reason m n → Refuses error here a n
+refuses_after : (error : Error) (reason here : Type 0) (a m n : Moment) → NoFault a m → (reason → here) → RefusesCall error reason m n → RefusesCall error here a n
 refuses_after error reason here a m n none gives (inl memory) = inl (memory.0, memory.1 ∙ none)
 refuses_after error reason here a m n none gives (inr (is, inl fault)) = inr (is, inl (subst (λ (k : ℕ). k < n.faults) none fault))
 refuses_after error reason here a m n none gives (inr (is, inr why)) = inr (is, inr (gives why))
 
 pub plain_refuses : (error : Error) (name : List ℕ) (file place : ℕ) (h0 h1 h2 : Option History) → Since Same (Opened name file place) h0 h1
-    → Since Same (λ a n. Refuses error (IsTooLong file place a) a n) h1 h2 → Since Same (λ a n. Refuses error (HasNoPlain a name) a n) h0 h2
+    → Since Same (λ a n. RefusesCall error (IsFileTooLong file place a) a n) h1 h2 → Since Same (λ a n. RefusesCall error (HasNoPlain a name) a n) h0 h2
 plain_refuses error name file place =
-    since_since Same (Opened name file place) Same (λ a n. Refuses error (IsTooLong file place a) a n) Same (λ a n. Refuses error (HasNoPlain a name) a n)
+    since_since Same (Opened name file place) Same (λ a n. RefusesCall error (IsFileTooLong file place a) a n) Same (λ a n. RefusesCall error (HasNoPlain a name) a n)
     (λ m n p. p)
     (λ l m n x y. same_same l m n x.same y)
-    (λ l m n x y. refuses_after error (IsTooLong file place m) (HasNoPlain l name) l m n x.no_fault
+    (λ l m n x y. refuses_after error (IsFileTooLong file place m) (HasNoPlain l name) l m n x.no_fault
     (λ long bytes at. long x.start bytes
     (ap (λ (files : ℕ → File). (files file).content) x.same.files ∙ (x.content ∙ ap (λ (b : List ℕ). Plain b) (one_plain x.bytes bytes (sym x.seen_bytes ∙ at)))))
     y)
@@ -256,13 +256,13 @@ no_fault_told refusal memory fault = cc
 
 -- what a caller is told of a failed reading
 pub told_fault : (refusal : Refusal) (error : Error) (reason : Moment → Type 0) (h0 h1 : Option History) → (error_kind error ≡ OutOfMemory → refusal ≡ Refused)
-    → refusal ≡ ReadFault → Since Same (λ a n. Refuses error (reason a) a n) h0 h1 → Since Same (λ a n. IsFault a n ⊎ reason a) h0 h1
+    → refusal ≡ ReadFault → Since Same (λ a n. RefusesCall error (reason a) a n) h0 h1 → Since Same (λ a n. CallFailed a n ⊎ reason a) h0 h1
 told_fault refusal error reason h0 h1 memory is =
-    since_weaker Same (λ a n. Refuses error (reason a) a n) Same (λ a n. IsFault a n ⊎ reason a) (λ m n p. p)
+    since_weaker Same (λ a n. RefusesCall error (reason a) a n) Same (λ a n. CallFailed a n ⊎ reason a) (λ m n p. p)
     (λ m n why. elim why [ inl w ↦ absurd (no_fault_told refusal (memory w.0) is) | inr w ↦ w.1 ]) h0 h1
 
 pub told_memory : (refusal : Refusal) (error : Error) (reason : Moment → Type 0) (h0 h1 : Option History) → (error_kind error ≢ OutOfMemory → refusal ≡ ReadFault)
-    → refusal ≡ Refused → Since Same (λ a n. Refuses error (reason a) a n) h0 h1 → Since Same NoFault h0 h1
+    → refusal ≡ Refused → Since Same (λ a n. RefusesCall error (reason a) a n) h0 h1 → Since Same NoFault h0 h1
 told_memory refusal error reason h0 h1 other is =
-    since_weaker Same (λ a n. Refuses error (reason a) a n) Same NoFault (λ m n p. p)
+    since_weaker Same (λ a n. RefusesCall error (reason a) a n) Same NoFault (λ m n p. p)
     (λ m n why. elim why [ inl w ↦ w.1 | inr w ↦ absurd (no_fault_told refusal is (other w.0)) ]) h0 h1

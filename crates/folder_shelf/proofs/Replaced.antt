@@ -7,9 +7,9 @@ use Rattle.std.specs.declared.io.Error.{Error}
 use Rattle.std.specs.declared.io.ErrorKind.TheVariants.{OutOfMemory}
 use Rattle.looks.specs.declared.refusal.Refusal.{Refusal}
 use Rattle.looks.specs.declared.refusal.Refusal.TheVariants.{OutOfMemory as Refused}
-use Rattle.folder_shelf.specs.Calls.{Fails, Makes, NoFault, Perhaps, Removes, Same, SyncsFolder, Well}
+use Rattle.folder_shelf.specs.Calls.{Fails, MakesFile, NoFault, Perhaps, Removes, Same, SyncsFolder, Well}
 use Rattle.folder_shelf.specs.Moments.{Among, Anything, Content, CrashLeaves, File, Goes, History, Moment, Names, Plain, Since, Survives, lasting, seen}
-use Rattle.folder_shelf.specs.Whole.{BeforeOrAfter, GivenUp, IsBeside, IsHindered, MakesBeside, Placed, Placing, Replaced}
+use Rattle.folder_shelf.specs.Whole.{BeforeOrAfter, GivenUp, IsBeside, IsHindered, IsPlacedWhole, MakesBeside, Placing, Replaced}
 use Rattle.folder_shelf.proofs.Leading.{since_call, since_since, since_weaker}
 use Rattle.folder_shelf.proofs.Reading.{fails_after}
 use Rattle.folder_shelf.proofs.Replacing.{PlacingFails, before_or_after_made, before_or_after_placing, content_other, placing_removes, placing_same, placing_synced, survives_other}
@@ -19,7 +19,7 @@ module _ (beside : List ℕ) (file : ℕ) (name bytes : List ℕ) (is_beside : I
   differs e = not_beside (subst (λ (n : List ℕ). IsBeside n) e is_beside)
 
   -- the folder is synced, after the file was placed
-  module _ (a m z n : Moment) (makes : Makes beside file a m) (placed : Placed file beside name bytes m z) (syncs : SyncsFolder z n) where
+  module _ (a m z n : Moment) (makes : MakesFile beside file a m) (placed : IsPlacedWhole file beside name bytes m z) (syncs : SyncsFolder z n) where
     name_file : n.names name ≡ Some file
     name_file = ap (λ (names : Names). names name) syncs.names ∙ (placed.here ∙ makes.here)
 
@@ -80,14 +80,14 @@ module _ (beside : List ℕ) (file : ℕ) (name bytes : List ℕ) (is_beside : I
   -- a file was made, and then this was so
   pub record AfterMaking (Last : Moment → Moment → Type 0) (a z : Moment) : Type 0 where
     pub mid : Moment
-    pub makes : Makes beside file a mid
+    pub makes : MakesFile beside file a mid
     pub no_fault : NoFault a mid
     pub last : Last mid z
 
-  pub made_and : (Last : Moment → Moment → Type 0) (h0 h1 h2 : Option History) → Since MakesBeside (Well (Makes beside file)) h0 h1
+  pub made_and : (Last : Moment → Moment → Type 0) (h0 h1 h2 : Option History) → Since MakesBeside (Well (MakesFile beside file)) h0 h1
       → Since (Placing file beside name bytes) Last h1 h2 → Since (BeforeOrAfter name bytes) (AfterMaking Last) h0 h2
   made_and Last h0 h1 h2 x y =
-      since_since MakesBeside (Well (Makes beside file)) (Placing file beside name bytes) Last (BeforeOrAfter name bytes) (AfterMaking Last)
+      since_since MakesBeside (Well (MakesFile beside file)) (Placing file beside name bytes) Last (BeforeOrAfter name bytes) (AfterMaking Last)
       (λ a n made. before_or_after_made name bytes a n not_beside made)
       (λ a m n made placing. before_or_after_placing beside file name bytes a m n is_beside not_beside made.0 placing)
       (λ a m n made last. record { mid = m; makes = made.0; no_fault = made.1; last = last })
@@ -97,10 +97,10 @@ module _ (beside : List ℕ) (file : ℕ) (name bytes : List ℕ) (is_beside : I
   placing_perhaps m z n placing (inl same) = placing_same file beside name bytes m z n placing same
   placing_perhaps m z n placing (inr syncs) = placing_synced file beside name bytes m z n placing syncs
 
-  pub folder_synced : (h0 h2 h3 : Option History) → Since (BeforeOrAfter name bytes) (AfterMaking (Placed file beside name bytes)) h0 h2
+  pub folder_synced : (h0 h2 h3 : Option History) → Since (BeforeOrAfter name bytes) (AfterMaking (IsPlacedWhole file beside name bytes)) h0 h2
       → Goes (Well SyncsFolder) h2 h3 → Since (BeforeOrAfter name bytes) (Replaced name bytes) h0 h3
   folder_synced h0 h2 h3 x y =
-      since_since (BeforeOrAfter name bytes) (AfterMaking (Placed file beside name bytes)) SyncsFolder (Well SyncsFolder) (BeforeOrAfter name bytes) (Replaced name bytes)
+      since_since (BeforeOrAfter name bytes) (AfterMaking (IsPlacedWhole file beside name bytes)) SyncsFolder (Well SyncsFolder) (BeforeOrAfter name bytes) (Replaced name bytes)
       (λ a n p. p)
       (λ a z n put syncs. before_or_after_placing beside file name bytes a put.mid n is_beside not_beside put.makes
       (placing_synced file beside name bytes put.mid z n put.last.placing syncs))
@@ -115,10 +115,10 @@ module _ (beside : List ℕ) (file : ℕ) (name bytes : List ℕ) (is_beside : I
   either_same m n (inl same) = same
   either_same m n (inr same) = same
 
-  pub folder_not_synced : (error : Error) (h0 h2 h3 : Option History) → Since (BeforeOrAfter name bytes) (AfterMaking (Placed file beside name bytes)) h0 h2
+  pub folder_not_synced : (error : Error) (h0 h2 h3 : Option History) → Since (BeforeOrAfter name bytes) (AfterMaking (IsPlacedWhole file beside name bytes)) h0 h2
       → Goes (Perhaps error Same) h2 h3 → Since (BeforeOrAfter name bytes) (GivenUp error) h0 h3
   folder_not_synced error h0 h2 h3 x y =
-      since_since (BeforeOrAfter name bytes) (AfterMaking (Placed file beside name bytes)) Same (Perhaps error Same) (BeforeOrAfter name bytes) (GivenUp error)
+      since_since (BeforeOrAfter name bytes) (AfterMaking (IsPlacedWhole file beside name bytes)) Same (Perhaps error Same) (BeforeOrAfter name bytes) (GivenUp error)
       (λ a n p. p)
       (λ a z n put same. before_or_after_placing beside file name bytes a put.mid n is_beside not_beside put.makes
       (placing_same file beside name bytes put.mid z n put.last.placing same))

@@ -3,9 +3,9 @@ use Rattle.std.proofs.Common.{◌≡◌, ◌≢◌, ◌⊎◌, inl, inr, ℕ, tr
 use Rattle.std.specs.Prelude.{Option, Some, None}
 use Rattle.std.specs.Option.{option_map}
 use Rattle.std.specs.declared.io.Error.{Error}
-use Rattle.folder_shelf.specs.Calls.{Appends, Fails, Makes, Moves, NoFault, Perhaps, Removes, Same, Syncs, SyncsFolder, Touches, Well}
+use Rattle.folder_shelf.specs.Calls.{AppendsToFile, Fails, MakesFile, Moves, NoFault, Perhaps, Removes, Same, Syncs, SyncsFolder, Touches, Well}
 use Rattle.folder_shelf.specs.Moments.{Among, Content, CrashLeaves, File, Goes, History, Moment, Names, Plain, Since, Survives, lasting, seen}
-use Rattle.folder_shelf.specs.Whole.{BeforeOrAfter, IsBeside, IsWhole, MakesBeside, Placed, Placing}
+use Rattle.folder_shelf.specs.Whole.{BeforeOrAfter, IsBeside, IsPlacedWhole, IsWhole, MakesBeside, Placing}
 use Rattle.folder_shelf.proofs.Leading.{since_call, since_since}
 use Rattle.folder_shelf.proofs.Reading.{fails_after}
 
@@ -114,7 +114,7 @@ module _ (beside : List ℕ) (file : ℕ) (name bytes : List ℕ) (old now : Mom
 
 -- a file that was made, and the writing to it and the naming since
 pub under_made : (beside : List ℕ) (file : ℕ) (name bytes : List ℕ) (old mid now : Moment)
-    → Makes beside file old mid → Placing file beside name bytes mid now → Under beside file name bytes old now
+    → MakesFile beside file old mid → Placing file beside name bytes mid now → Under beside file name bytes old now
 under_made beside file name bytes old mid now makes placing = record {
   names = λ n. elim (placing.names n) [
     | inl e ↦ elim (makes.others n) [
@@ -157,7 +157,7 @@ before_or_after_made name bytes old now not_beside (inr m) =
     under_before_or_after m.0 m.1 name bytes old now (under_made m.0 m.1 name bytes old now now m.3 (placing_start m.1 m.0 name bytes now)) m.2 not_beside
 
 pub before_or_after_placing : (beside : List ℕ) (file : ℕ) (name bytes : List ℕ) (old mid now : Moment) → IsBeside beside → (¬ IsBeside name)
-    → Makes beside file old mid → Placing file beside name bytes mid now → BeforeOrAfter name bytes old now
+    → MakesFile beside file old mid → Placing file beside name bytes mid now → BeforeOrAfter name bytes old now
 before_or_after_placing beside file name bytes old mid now is_beside not_beside makes placing =
     under_before_or_after beside file name bytes old now (under_made beside file name bytes old mid now makes placing) is_beside not_beside
 
@@ -288,7 +288,7 @@ module _ (file : ℕ) (beside name bytes : List ℕ) where
         files = λ k differs. ap (λ (fs : ℕ → File). fs k) moves.files ∙ written.touches.files k differs;
       }
 
-  placed_moves : (old mid now : Moment) → Written old mid → Moves beside name mid now → NoFault mid now → Placed file beside name bytes old now
+  placed_moves : (old mid now : Moment) → Written old mid → Moves beside name mid now → NoFault mid now → IsPlacedWhole file beside name bytes old now
   placed_moves old mid now written moves none = record {
     placing = placing_moves old mid now written moves;
     gone = moves.gone;
@@ -307,25 +307,25 @@ module _ (file : ℕ) (beside name bytes : List ℕ) where
       (λ m n step. placing_touches m n (touches_perhaps m n step.0))
       (λ m n step. (placing_touches m n (touches_perhaps m n step.0), step.1))
 
-  appended : (h0 h1 : Option History) → Goes (Well (Appends file bytes)) h0 h1 → Since IsPlaced (Well (Appends file bytes)) h0 h1
-  appended = since_call (Well (Appends file bytes)) IsPlaced (Well (Appends file bytes)) (λ m n step. placing_touches m n step.0.touches) (λ m n step. step)
+  appended : (h0 h1 : Option History) → Goes (Well (AppendsToFile file bytes)) h0 h1 → Since IsPlaced (Well (AppendsToFile file bytes)) h0 h1
+  appended = since_call (Well (AppendsToFile file bytes)) IsPlaced (Well (AppendsToFile file bytes)) (λ m n step. placing_touches m n step.0.touches) (λ m n step. step)
 
-  pub put_sync_fails : (error : Error) (k : ℕ) → k ≡ file → (h0 h1 h2 : Option History) → Goes (Well (Appends file bytes)) h0 h1
+  pub put_sync_fails : (error : Error) (k : ℕ) → k ≡ file → (h0 h1 h2 : Option History) → Goes (Well (AppendsToFile file bytes)) h0 h1
       → Goes (Perhaps error (Touches k)) h1 h2 → Since IsPlaced (PlacingFails error) h0 h2
   put_sync_fails error k is h0 h1 h2 a b =
       let step : Goes (Perhaps error (Touches file)) h1 h2 = subst (λ (j : ℕ). Goes (Perhaps error (Touches j)) h1 h2) is b in
-      since_since IsPlaced (Well (Appends file bytes)) (Touches file) (Perhaps error (Touches file)) IsPlaced (PlacingFails error)
+      since_since IsPlaced (Well (AppendsToFile file bytes)) (Touches file) (Perhaps error (Touches file)) IsPlaced (PlacingFails error)
       (λ m n p. p)
       (λ l m n x y. placing_touches l n (touches_touches l m n x.0.touches y))
       (λ l m n x y. (placing_touches l n (touches_touches l m n x.0.touches (touches_perhaps m n y.0)), fails_after error l m n x.1 y.1))
       h0 h1 h2 (appended h0 h1 a)
       (since_call (Perhaps error (Touches file)) (Touches file) (Perhaps error (Touches file)) (λ m n s. touches_perhaps m n s.0) (λ m n s. s) h1 h2 step)
 
-  written : (k : ℕ) → k ≡ file → (h0 h1 h2 : Option History) → Goes (Well (Appends file bytes)) h0 h1
+  written : (k : ℕ) → k ≡ file → (h0 h1 h2 : Option History) → Goes (Well (AppendsToFile file bytes)) h0 h1
       → Goes (Well (Syncs k)) h1 h2 → Since IsPlaced Written h0 h2
   written k is h0 h1 h2 a b =
       let step : Goes (Well (Syncs file)) h1 h2 = subst (λ (j : ℕ). Goes (Well (Syncs j)) h1 h2) is b in
-      since_since IsPlaced (Well (Appends file bytes)) (Touches file) (Well (Syncs file)) IsPlaced Written
+      since_since IsPlaced (Well (AppendsToFile file bytes)) (Touches file) (Well (Syncs file)) IsPlaced Written
       (λ m n p. p)
       (λ l m n x y. placing_touches l n (touches_touches l m n x.0.touches y))
       (λ l m n x y. record {
@@ -343,17 +343,17 @@ module _ (file : ℕ) (beside name bytes : List ℕ) where
   placing_moved old mid now w (inl same) = placing_touches old now (touches_touches old mid now w.touches (touches_same mid now same))
   placing_moved old mid now w (inr moves) = placing_moves old mid now w moves
 
-  pub put_placed : (k : ℕ) → k ≡ file → (h0 h1 h2 h3 : Option History) → Goes (Well (Appends file bytes)) h0 h1
-      → Goes (Well (Syncs k)) h1 h2 → Goes (Well (Moves beside name)) h2 h3 → Since IsPlaced (Placed file beside name bytes) h0 h3
+  pub put_placed : (k : ℕ) → k ≡ file → (h0 h1 h2 h3 : Option History) → Goes (Well (AppendsToFile file bytes)) h0 h1
+      → Goes (Well (Syncs k)) h1 h2 → Goes (Well (Moves beside name)) h2 h3 → Since IsPlaced (IsPlacedWhole file beside name bytes) h0 h3
   put_placed k is h0 h1 h2 h3 a b d =
-      since_since IsPlaced Written IsMoved (Well (Moves beside name)) IsPlaced (Placed file beside name bytes)
+      since_since IsPlaced Written IsMoved (Well (Moves beside name)) IsPlaced (IsPlacedWhole file beside name bytes)
       (λ m n p. p)
       placing_moved
       (λ l m n x y. placed_moves l m n x y.0 y.1)
       h0 h2 h3 (written k is h0 h1 h2 a b)
       (since_call (Well (Moves beside name)) IsMoved (Well (Moves beside name)) (λ m n s. inr s.0) (λ m n s. s) h2 h3 d)
 
-  pub put_move_fails : (error : Error) (k : ℕ) → k ≡ file → (h0 h1 h2 h3 : Option History) → Goes (Well (Appends file bytes)) h0 h1
+  pub put_move_fails : (error : Error) (k : ℕ) → k ≡ file → (h0 h1 h2 h3 : Option History) → Goes (Well (AppendsToFile file bytes)) h0 h1
       → Goes (Well (Syncs k)) h1 h2 → Goes (Perhaps error (Moves beside name)) h2 h3 → Since IsPlaced (PlacingFails error) h0 h3
   put_move_fails error k is h0 h1 h2 h3 a b d =
       since_since IsPlaced Written IsMoved (Perhaps error (Moves beside name)) IsPlaced (PlacingFails error)

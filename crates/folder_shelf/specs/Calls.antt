@@ -17,15 +17,15 @@ abbrev pub NoFault : (old new : Moment) → Type 0
 NoFault old new = new.faults ≡ old.faults
 
 -- a call failed
-abbrev pub IsFault : (old new : Moment) → Type 0
-IsFault old new = old.faults < new.faults
+abbrev pub CallFailed : (old new : Moment) → Type 0
+CallFailed old new = old.faults < new.faults
 
 -- a failed call is counted, unless it was refused memory
 abbrev pub Fails : Error → (old new : Moment) → Type 0
-Fails error old new = ((error_kind error ≡ OutOfMemory) × NoFault old new) ⊎ ((error_kind error ≢ OutOfMemory) × IsFault old new)
+Fails error old new = ((error_kind error ≡ OutOfMemory) × NoFault old new) ⊎ ((error_kind error ≢ OutOfMemory) × CallFailed old new)
 
 -- a new file of no bytes under a name that had none: no name led to it, nor might after a crash
-pub record Makes (name : List ℕ) (file : ℕ) (old new : Moment) : Type 0 where
+pub record MakesFile (name : List ℕ) (file : ℕ) (old new : Moment) : Type 0 where
   pub absent : old.names name ≡ None
   pub fresh : (other : List ℕ) → ¬ Among (lasting old) other (Some file)
   pub here : new.names name ≡ Some file
@@ -38,7 +38,7 @@ pub record Makes (name : List ℕ) (file : ℕ) (old new : Moment) : Type 0 wher
 abbrev pub MakesNot : Error → (name : List ℕ) → (old new : Moment) → Type 0
 MakesNot error name old new =
     ((error_kind error ≡ AlreadyExists) × (old.names name ≢ None) × Same old new × NoFault old new)
-    ⊎ ((error_kind error ≢ AlreadyExists) × (Same old new ⊎ ((file : ℕ) × Makes name file old new)) × Fails error old new)
+    ⊎ ((error_kind error ≢ AlreadyExists) × (Same old new ⊎ ((file : ℕ) × MakesFile name file old new)) × Fails error old new)
 
 -- one file changes at most, and a crash may make anything of it
 pub record Touches (file : ℕ) (old new : Moment) : Type 0 where
@@ -47,7 +47,7 @@ pub record Touches (file : ℕ) (old new : Moment) : Type 0 where
   pub files : (other : ℕ) → other ≢ file → new.files other ≡ old.files other
 
 -- bytes come to a file's end
-pub record Appends (file : ℕ) (bytes : List ℕ) (old new : Moment) : Type 0 where
+pub record AppendsToFile (file : ℕ) (bytes : List ℕ) (old new : Moment) : Type 0 where
   pub touches : Touches file old new
   pub content : (before : List ℕ) → (old.files file).content ≡ Plain before → (new.files file).content ≡ Plain (before ++ bytes)
 
@@ -87,12 +87,12 @@ abbrev pub Perhaps : Error → (step : Moment → Moment → Type 0) → (old ne
 Perhaps error step old new = (Same old new ⊎ step old new) × Fails error old new
 
 -- what a look at a name answers: the length of its plain file, or that there is none
-abbrev pub Shows : (name : List ℕ) → Option ℕ → Moment → Type 0
-Shows name (Some len) old = (bytes : List ℕ) × (seen old name ≡ Some (Plain bytes)) × (length bytes ≡ len)
-Shows name None old = (bytes : List ℕ) → seen old name ≢ Some (Plain bytes)
+abbrev pub AnswersLength : (name : List ℕ) → Option ℕ → Moment → Type 0
+AnswersLength name (Some len) old = (bytes : List ℕ) × (seen old name ≡ Some (Plain bytes)) × (length bytes ≡ len)
+AnswersLength name None old = (bytes : List ℕ) → seen old name ≢ Some (Plain bytes)
 
 -- the next piece of a file, of which so many bytes were read: shorter than a piece only at the end
-pub record Gives (file start count end : ℕ) (before after : List ℕ) (old : Moment) : Type 0 where
+pub record GivesPiece (file start count end : ℕ) (before after : List ℕ) (old : Moment) : Type 0 where
   pub place : end ≡ start + count
   pub bytes : (all : List ℕ) → (old.files file).content ≡ Plain all → after ≡ before ++ take count (drop start all)
   pub within : (all : List ℕ) → (old.files file).content ≡ Plain all → end ≤ length all

@@ -58,7 +58,7 @@ abbrev pub moments : History → List Moment
 moments history = history.now ∷ history.past
 
 -- from one history to a later one: each moment since is so beside the one that was the newest, and so is the last
-pub record Leads (Each Last : Moment → Moment → Type 0) (old new : History) : Type 0 where
+pub record LeadsToHistory (Each Last : Moment → Moment → Type 0) (old new : History) : Type 0 where
   pub since : List Moment
   pub later : moments new ≡ since ++ moments old
   pub each : AllByRecursion (Each old.now) since
@@ -69,7 +69,7 @@ abbrev pub Since : (Each Last : Moment → Moment → Type 0) → (old new : Opt
 Since Each Last None None = ⊤
 Since Each Last None (Some new) = ⊥
 Since Each Last (Some old) None = ⊥
-Since Each Last (Some old) (Some new) = Leads Each Last old new
+Since Each Last (Some old) (Some new) = LeadsToHistory Each Last old new
 
 -- a call takes the folder to its next moment
 pub record Comes (step : Moment → Moment → Type 0) (old new : History) : Type 0 where

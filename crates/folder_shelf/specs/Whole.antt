@@ -3,7 +3,7 @@ use Rattle.std.specs.Prelude.{◌≡◌, ◌≢◌, ◌⊎◌, ◌<◌, ℕ, tru
 use Rattle.std.specs.IoError.{error_kind}
 use Rattle.std.specs.declared.io.Error.{Error}
 use Rattle.std.specs.declared.io.ErrorKind.TheVariants.{AlreadyExists, OutOfMemory}
-use Rattle.folder_shelf.specs.Calls.{IsFault, Makes, NoFault, Same}
+use Rattle.folder_shelf.specs.Calls.{CallFailed, MakesFile, NoFault, Same}
 use Rattle.folder_shelf.specs.Moments.{Among, Content, CrashLeaves, Moment, Plain, lasting, seen}
 use Rattle.folder_shelf.specs.declared.whole_files.TheConstants.{BESIDE, MAX_FILE_LEN}
 
@@ -30,17 +30,17 @@ pub record Replaced (name bytes : List ℕ) (old now : Moment) : Type 0 where
 
 -- a call failed, or there is a file of some name beside
 abbrev pub IsHindered : (old now : Moment) → Type 0
-IsHindered old now = IsFault old now ⊎ ((other : List ℕ) × IsBeside other × (old.names other ≢ None))
+IsHindered old now = CallFailed old now ⊎ ((other : List ℕ) × IsBeside other × (old.names other ≢ None))
 
 -- why a replacing was given up: a call failed, memory was refused, or there is a file of some name beside
 abbrev pub GivenUp : Error → (old now : Moment) → Type 0
 GivenUp error old now =
-    IsFault old now ⊎ (error_kind error ≡ OutOfMemory)
+    CallFailed old now ⊎ (error_kind error ≡ OutOfMemory)
     ⊎ ((error_kind error ≡ AlreadyExists) × (other : List ℕ) × IsBeside other × (old.names other ≢ None))
 
 -- nothing has changed, or a new file was made beside
 abbrev pub MakesBeside : (old now : Moment) → Type 0
-MakesBeside old now = Same old now ⊎ ((beside : List ℕ) × (file : ℕ) × IsBeside beside × Makes beside file old now)
+MakesBeside old now = Same old now ⊎ ((beside : List ℕ) × (file : ℕ) × IsBeside beside × MakesFile beside file old now)
 
 -- a file that was new, and so empty, has these bytes, and they are on the disk
 pub record IsWhole (file : ℕ) (bytes : List ℕ) (old now : Moment) : Type 0 where
@@ -57,7 +57,7 @@ pub record Placing (file : ℕ) (beside name bytes : List ℕ) (old now : Moment
   pub files : (other : ℕ) → other ≢ file → now.files other ≡ old.files other
 
 -- the name has the file, which is whole
-pub record Placed (file : ℕ) (beside name bytes : List ℕ) (old now : Moment) : Type 0 where
+pub record IsPlacedWhole (file : ℕ) (beside name bytes : List ℕ) (old now : Moment) : Type 0 where
   pub placing : Placing file beside name bytes old now
   pub gone : beside ≢ name → now.names beside ≡ None
   pub here : now.names name ≡ old.names beside
@@ -85,8 +85,8 @@ pub record ReadAll (file place : ℕ) (bytes : List ℕ) (old now : Moment) : Ty
   pub read : place ≡ 0 → (all : List ℕ) → (old.files file).content ≡ Plain all → bytes ≡ all
 
 -- such a file is too long
-abbrev pub IsTooLong : (file place : ℕ) → Moment → Type 0
-IsTooLong file place old = place ≡ 0 → (all : List ℕ) → (old.files file).content ≡ Plain all → MAX_FILE_LEN < length all
+abbrev pub IsFileTooLong : (file place : ℕ) → Moment → Type 0
+IsFileTooLong file place old = place ≡ 0 → (all : List ℕ) → (old.files file).content ≡ Plain all → MAX_FILE_LEN < length all
 
 -- the plain file of a name has these bytes, and no call failed
 pub record IsRead (name bytes : List ℕ) (old now : Moment) : Type 0 where
@@ -94,6 +94,6 @@ pub record IsRead (name bytes : List ℕ) (old now : Moment) : Type 0 where
   pub no_fault : NoFault old now
 
 -- an error that says that memory was refused, and no call failed; or another, and one did, or there is this reason
-abbrev pub Refuses : Error → (reason : Type 0) → (old now : Moment) → Type 0
-Refuses error reason old now =
-    ((error_kind error ≡ OutOfMemory) × NoFault old now) ⊎ ((error_kind error ≢ OutOfMemory) × (IsFault old now ⊎ reason))
+abbrev pub RefusesCall : Error → (reason : Type 0) → (old now : Moment) → Type 0
+RefusesCall error reason old now =
+    ((error_kind error ≡ OutOfMemory) × NoFault old now) ⊎ ((error_kind error ≢ OutOfMemory) × (CallFailed old now ⊎ reason))

@@ -1,5 +1,5 @@
 ghost use Rattle.std.specs.Prelude.{◌≡◌, ◌+◌, IfErr, IfOk, OnOk, length};
-ghost use Rattle.folder_shelf.specs.Calls.{Appends, Gives, Makes, MakesNot, Moves, Perhaps, Removes, Same, Shows, Syncs, SyncsFolder, Touches, Well};
+ghost use Rattle.folder_shelf.specs.Calls.{AnswersLength, AppendsToFile, GivesPiece, MakesFile, MakesNot, Moves, Perhaps, Removes, Same, Syncs, SyncsFolder, Touches, Well};
 ghost use Rattle.folder_shelf.specs.Moments.{Goes};
 
 use std::io;
@@ -26,12 +26,12 @@ pub trait Folder {
 
     /// Makes a file under a name that has none, and opens it for writing.
     fn make_new(&mut self, name: &str) -> io::Result<Self::File>
-        ensures ok { IfOk result (λ file. Goes (Well (Makes name.now (number file))) (history self.old) (history self.new)) }
+        ensures ok { IfOk result (λ file. Goes (Well (MakesFile name.now (number file))) (history self.old) (history self.new)) }
         ensures err { IfErr result (λ error. Goes (MakesNot error name.now) (history self.old) (history self.new)) };
 
     /// Writes these bytes at a file's end.
     fn append(&mut self, file: &mut Self::File, bytes: &[u8]) -> io::Result<()>
-        ensures ok { OnOk result (Goes (Well (Appends (number file.old) bytes.now)) (history self.old) (history self.new)) }
+        ensures ok { OnOk result (Goes (Well (AppendsToFile (number file.old) bytes.now)) (history self.old) (history self.new)) }
         ensures err { IfErr result (λ error. Goes (Perhaps error (Touches (number file.old))) (history self.old) (history self.new)) }
         ensures file { number file.new ≡ number file.old };
 
@@ -57,7 +57,7 @@ pub trait Folder {
 
     /// The length of the plain file of a name; none of what is no plain file.
     fn look(&mut self, name: &str) -> io::Result<Option<u64>>
-        ensures ok { IfOk result (λ len. Goes (λ old new. Well Same old new × Shows name.now len old) (history self.old) (history self.new)) }
+        ensures ok { IfOk result (λ len. Goes (λ old new. Well Same old new × AnswersLength name.now len old) (history self.old) (history self.new)) }
         ensures err { IfErr result (λ error. Goes (Perhaps error Same) (history self.old) (history self.new)) };
 
     /// Opens a file for reading, from its start.
@@ -70,7 +70,7 @@ pub trait Folder {
     /// file's end alone.
     fn read(&mut self, file: &mut Self::File, bytes: &mut Vec<u8>) -> io::Result<usize>
         ensures ok { IfOk result (λ count. Goes (λ old new. Well Same old new
-            × Gives (number file.old) (place file.old) count (place file.new) bytes.old.items bytes.new.items old)
+            × GivesPiece (number file.old) (place file.old) count (place file.new) bytes.old.items bytes.new.items old)
             (history self.old) (history self.new)) }
         ensures err { IfErr result (λ error. Goes (Perhaps error Same) (history self.old) (history self.new)) }
         ensures grows { IfOk result (λ count. length bytes.new.items ≡ length bytes.old.items + count) }

@@ -1,7 +1,7 @@
 ghost use Rattle.std.specs.Prelude.{◌≡◌, ◌<◌, ◌≤◌, ◌+◌, ◌⊎◌, length, IfErr, IfOk, IsErr, IsFalse, IsTrue, IsErrOf, None, OnErr, OnOk, Some};
 ghost use Rattle.shelf.specs.Files.{Counts};
 ghost use Rattle.shelf.specs.Names.{is_file_name};
-ghost use Rattle.folder_shelf.specs.Calls.{IsFault, NoFault, Same};
+ghost use Rattle.folder_shelf.specs.Calls.{CallFailed, NoFault, Same};
 ghost use Rattle.folder_shelf.specs.Moments.{Anything, Since};
 ghost use Rattle.folder_shelf.specs.Whole.{BeforeOrAfter, HasNoPlain, IsHindered, IsRead, Replaced};
 ghost use Rattle.folder_shelf.specs.declared.whole_files.TheConstants.{MAX_FILE_LEN};
@@ -77,7 +77,7 @@ impl<F: Folder + Drop> Shelf for FolderShelf<F> {
         ensures limit { IfOk result (λ bytes. length bytes.items ≤ MAX_FILE_LEN) }
         ensures reads { IfOk result (λ bytes. Since Same (IsRead name.now bytes.items) (F.history self.old.folder) (F.history self.new.folder)) }
         ensures cause { IsErrOf result Refusal.ReadFault → IsTrue (is_file_name name.now)
-            → Since Same (λ old now. IsFault old now ⊎ HasNoPlain old name.now) (F.history self.old.folder) (F.history self.new.folder) }
+            → Since Same (λ old now. CallFailed old now ⊎ HasNoPlain old name.now) (F.history self.old.folder) (F.history self.new.folder) }
         ensures memory { IsErrOf result Refusal.OutOfMemory → Since Same NoFault (F.history self.old.folder) (F.history self.new.folder) }
         ensures unasked { IsFalse (is_file_name name.now) → F.history self.new.folder ≡ F.history self.old.folder }
     {

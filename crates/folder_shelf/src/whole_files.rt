@@ -2,9 +2,9 @@
 ghost use Rattle.std.specs.Prelude.{◌≡◌, ◌≤◌, ◌⊎◌, IfErr, IfOk, IsErrOf, IsFalse, IsTrue, OnOk, length, string_bytes};
 ghost use Rattle.std.specs.IoError.{error_kind};
 ghost use Rattle.shelf.specs.Names.{is_file_name};
-ghost use Rattle.folder_shelf.specs.Calls.{Fails, IsFault, Makes, NoFault, Same, Well};
+ghost use Rattle.folder_shelf.specs.Calls.{CallFailed, Fails, MakesFile, NoFault, Same, Well};
 ghost use Rattle.folder_shelf.specs.Moments.{Anything, Since};
-ghost use Rattle.folder_shelf.specs.Whole.{BeforeOrAfter, GivenUp, HasNoPlain, IsBeside, IsRead, IsTooLong, MakesBeside, Opened, Placed, Placing, ReadAll, Refuses, Replaced};
+ghost use Rattle.folder_shelf.specs.Whole.{BeforeOrAfter, GivenUp, HasNoPlain, IsBeside, IsFileTooLong, IsPlacedWhole, IsRead, MakesBeside, Opened, Placing, ReadAll, RefusesCall, Replaced};
 ghost use Rattle.folder_shelf.specs.declared.whole_files.TheConstants.{MAX_FILE_LEN};
 
 use crate::folder::{Folder, MAX_PIECE};
@@ -34,7 +34,7 @@ fn no_plain_file() -> io::Error
 fn open_plain<F: Folder>(folder: &mut F, name: &str) -> io::Result<F::File>
     ensures ok { IfOk result (λ file. Since Same (Opened name.now (F.number file) (F.place file))
         (F.history folder.old) (F.history folder.new)) }
-    ensures err { IfErr result (λ error. Since Same (λ old now. Refuses error (HasNoPlain old name.now) old now)
+    ensures err { IfErr result (λ error. Since Same (λ old now. RefusesCall error (HasNoPlain old name.now) old now)
         (F.history folder.old) (F.history folder.new)) }
 {
     let Some(len) = folder.look(name)? else {
@@ -51,7 +51,7 @@ fn read_pieces<F: Folder>(folder: &mut F, file: &mut F::File, alloc: Global) -> 
     ensures ok { IfOk result (λ bytes. Since Same (ReadAll (F.number file.old) (F.place file.old) bytes.items)
         (F.history folder.old) (F.history folder.new)) }
     ensures limit { IfOk result (λ bytes. length bytes.items ≤ MAX_FILE_LEN) }
-    ensures err { IfErr result (λ error. Since Same (λ old now. Refuses error (IsTooLong (F.number file.old) (F.place file.old) old) old now)
+    ensures err { IfErr result (λ error. Since Same (λ old now. RefusesCall error (IsFileTooLong (F.number file.old) (F.place file.old) old) old now)
         (F.history folder.old) (F.history folder.new)) }
 {
     let mut bytes = Vec::new(alloc);
@@ -71,7 +71,7 @@ fn read_pieces<F: Folder>(folder: &mut F, file: &mut F::File, alloc: Global) -> 
 fn read_plain<F: Folder>(folder: &mut F, alloc: Global, name: &str) -> io::Result<Vec<u8>>
     ensures ok { IfOk result (λ bytes. Since Same (IsRead name.now bytes.items) (F.history folder.old) (F.history folder.new)) }
     ensures limit { IfOk result (λ bytes. length bytes.items ≤ MAX_FILE_LEN) }
-    ensures err { IfErr result (λ error. Since Same (λ old now. Refuses error (HasNoPlain old name.now) old now)
+    ensures err { IfErr result (λ error. Since Same (λ old now. RefusesCall error (HasNoPlain old name.now) old now)
         (F.history folder.old) (F.history folder.new)) }
 {
     let mut file = open_plain(folder, name)?;
@@ -84,7 +84,7 @@ pub fn read_whole<F: Folder>(folder: &mut F, alloc: Global, name: &str) -> Resul
     ensures limit { IfOk result (λ bytes. length bytes.items ≤ MAX_FILE_LEN) }
     ensures errors { IfErr result (λ e. (e ≡ Refusal.ReadFault) ⊎ (e ≡ Refusal.OutOfMemory)) }
     // What failed is told as that, and nothing else is.
-    ensures fault { IsErrOf result Refusal.ReadFault → Since Same (λ old now. IsFault old now ⊎ HasNoPlain old name.now)
+    ensures fault { IsErrOf result Refusal.ReadFault → Since Same (λ old now. CallFailed old now ⊎ HasNoPlain old name.now)
         (F.history folder.old) (F.history folder.new) }
     ensures memory { IsErrOf result Refusal.OutOfMemory → Since Same NoFault (F.history folder.old) (F.history folder.new) }
 {
@@ -113,7 +113,7 @@ fn is_taken(why: &io::Error) -> bool
 fn new_beside<F: Folder>(folder: &mut F, alloc: Global) -> io::Result<(F::File, String)>
     ensures beside { IfOk result (λ made. IsBeside (string_bytes made.1)) }
     ensures no_file { IfOk result (λ made. IsFalse (is_file_name (string_bytes made.1))) }
-    ensures ok { IfOk result (λ made. Since MakesBeside (Well (Makes (string_bytes made.1) (F.number made.0)))
+    ensures ok { IfOk result (λ made. Since MakesBeside (Well (MakesFile (string_bytes made.1) (F.number made.0)))
         (F.history folder.old) (F.history folder.new)) }
     ensures err { IfErr result (λ error. Since MakesBeside (GivenUp error) (F.history folder.old) (F.history folder.new)) }
 {
@@ -136,7 +136,7 @@ fn write_and_rename<F: Folder>(
     name: &str,
     bytes: &[u8],
 ) -> io::Result<()>
-    ensures ok { OnOk result (Since (Placing (F.number file) beside.now name.now bytes.now) (Placed (F.number file) beside.now name.now bytes.now)
+    ensures ok { OnOk result (Since (Placing (F.number file) beside.now name.now bytes.now) (IsPlacedWhole (F.number file) beside.now name.now bytes.now)
         (F.history folder.old) (F.history folder.new)) }
     ensures err { IfErr result (λ error. Since (Placing (F.number file) beside.now name.now bytes.now)
         (λ old now. Placing (F.number file) beside.now name.now bytes.now old now × Fails error old now)

@@ -5,23 +5,23 @@ use Rattle.std.specs.Int.{w16}
 use Rattle.byte_fields.specs.Fields.{number_spelling}
 use Rattle.byte_fields.proofs.Readers.{IsBytes, Took, Reads, step, some_is, positive_reads, wide16}
 use Rattle.kept_file.specs.declared.head.Head.{Head}
-use Rattle.kept_file.specs.Parts.{head_at, head_spelling, IsHead}
+use Rattle.kept_file.specs.Parts.{head_at, packed_head_spelling, IsPackedHead}
 
 head_joined : (h : Head) (bytes x rest : List ℕ) → bytes ≡ number_spelling w16 h.text ++ x
-    → x ≡ number_spelling w16 h.site ++ rest → bytes ≡ head_spelling h ++ rest
+    → x ≡ number_spelling w16 h.site ++ rest → bytes ≡ packed_head_spelling h ++ rest
 head_joined h bytes x rest text site =
     text ∙ ap (λ (r : List ℕ). number_spelling w16 h.text ++ r) site ∙ (simp append_assoc)
 
-pub head_reads : Reads head_at head_spelling IsHead
+pub head_reads : Reads head_at packed_head_spelling IsPackedHead
 unfolding head_at
 head_reads = record {
   takes = λ bytes head rest fits e.
       let s = step _ _ _ (positive_reads w16 (2 ^ 16) wide16) _ bytes (head, rest) fits e in
       let t = step _ _ _ (positive_reads w16 (2 ^ 16) wide16) _ s.rest (head, rest) s.took.rest_fits s.goes_on in
       let made : Head = record { text = s.x; site = t.x } in
-      let whole : bytes ≡ head_spelling made ++ t.rest =
+      let whole : bytes ≡ packed_head_spelling made ++ t.rest =
       head_joined made bytes s.rest t.rest s.took.parts t.took.parts in
-      subst (λ (p : Head × List ℕ). Took head_spelling IsHead bytes p.0 p.1) (some_is (made, t.rest) (head, rest) t.goes_on)
+      subst (λ (p : Head × List ℕ). Took packed_head_spelling IsPackedHead bytes p.0 p.1) (some_is (made, t.rest) (head, rest) t.goes_on)
       (record {
         parts = whole;
         rest_fits = t.took.rest_fits;

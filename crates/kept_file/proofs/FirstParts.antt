@@ -12,8 +12,8 @@ use Rattle.set_laws.specs.Sets.{KeepsCauses}
 use Rattle.packed.specs.Spelling.{packed, packed_after}
 use Rattle.packed.specs.Told.{nothing_told, told}
 use Rattle.kept_file.specs.PackedFiles.{FilesGrowAtTheEnd, FirstPartsAreFiles, HasPackedFile, TextsGrowAtTheEnd}
-use Rattle.kept_file.specs.PackedFiles.{packed_bytes, tag}
-use Rattle.kept_file.specs.Parts.{head_spelling}
+use Rattle.kept_file.specs.PackedFiles.{packed_bytes, packed_tag}
+use Rattle.kept_file.specs.Parts.{packed_head_spelling}
 use Rattle.kept_file.proofs.OnePacked.{file_parts, head_of}
 use Rattle.kept_file.proofs.Packings.{packed_more}
 
@@ -52,12 +52,12 @@ first_parts text site ops more tells = record {
 
 pub files_grow : FilesGrowAtTheEnd
 files_grow text site ops more =
-    let head : List ℕ = head_spelling (head_of text site) in
+    let head : List ℕ = packed_head_spelling (head_of text site) in
     let added : List ℕ = packed_after (told ops) more in
     file_parts text site (ops ++ more)
-    ∙ ap (λ (l : List ℕ). tag ++ (head ++ l)) (packed_more nothing_told ops more)
-    ∙ ap (λ (l : List ℕ). tag ++ l) (sym (append_assoc head (packed ops) added))
-    ∙ sym (append_assoc tag (head ++ packed ops) added)
+    ∙ ap (λ (l : List ℕ). packed_tag ++ (head ++ l)) (packed_more nothing_told ops more)
+    ∙ ap (λ (l : List ℕ). packed_tag ++ l) (sym (append_assoc head (packed ops) added))
+    ∙ sym (append_assoc packed_tag (head ++ packed ops) added)
     ∙ ap (λ (l : List ℕ). l ++ added) (sym (file_parts text site ops))
 
 pub texts_grow : TextsGrowAtTheEnd

@@ -22,7 +22,7 @@ use Rattle.packed.specs.Laws.{CanFollow, IsHistory}
 use Rattle.packed.specs.Reading.{CanBeNext}
 use Rattle.packed.proofs.PackedLists.{adds_at_the_end}
 use Rattle.packed.proofs.Told.{expected_on}
-use Rattle.packed.specs.Told.{Told, IsNext, after, expected, nothing_told, told, told_after, told_on}
+use Rattle.packed.specs.Told.{Told, IsNext, after_one_more, expected, nothing_told, told, told_after, told_on}
 
 -- ---- what is told is what the definitions count
 
@@ -41,7 +41,7 @@ module _ (ops : List Operation) (op : Operation) (t : Told) (counted : AreCounte
   own_counted : IsCounted (ops ++ op ∷ []) (told_on t op) op.site
   own_counted =
       let self : eqb op.site op.site ≡ true = eq-eqb op.site op.site refl in
-      let is : expected (told_on t op) op.site ≡ after (expected t op.site) op =
+      let is : expected (told_on t op) op.site ≡ after_one_more (expected t op.site) op =
       expected_on t op op.site ∙ cond-true _ _ _ self in
       let most : op.stamp ≡ max op.stamp (greatest_stamp_of ops op.site) = omega arith in
       record {

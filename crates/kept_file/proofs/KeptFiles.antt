@@ -1,8 +1,8 @@
 -- Files of the two forms begin differently, and tell the same things.
 use Rattle.std.proofs.Common.{◌≡◌, ◌≢◌, ℕ, List, inl, inr, sym, ap, get_or, take, ◌∙◌, arith}
 use Rattle.operations.specs.Operation.{Operation}
-use Rattle.texts.specs.SiteFiles.{HasSiteFile, IsNoSiteFile, OneSite, tag as site_tag}
-use Rattle.kept_file.specs.PackedFiles.{IsNoPackedFile, OnePackedFile, tag as packed_tag}
+use Rattle.texts.specs.SiteFiles.{HasSiteFile, IsNoSiteFile, OneSite, site_tag}
+use Rattle.kept_file.specs.PackedFiles.{IsNoPackedFile, OnePackedFile, packed_tag}
 use Rattle.kept_file.proofs.OneSite.{file_tagged as site_tagged}
 use Rattle.kept_file.proofs.OnePacked.{file_tagged as packed_tagged}
 use Rattle.kept_file.specs.KeptFiles.{IsKeptFileOf, IsNoKeptFile, OneKept}

@@ -8,7 +8,7 @@ use Rattle.std.proofs.lemmas.List.Elements.{All-cons, All-contains, All-head, Al
 use Rattle.operations.specs.Operation.{Operation}
 use Rattle.operations.specs.Spelling.{HasSpelling, spelling}
 use Rattle.byte_fields.proofs.Readers.{IsBytes}
-use Rattle.texts.specs.SiteFiles.{entry_spelling, tag}
+use Rattle.texts.specs.SiteFiles.{entry_spelling, site_tag}
 use Rattle.kept_file.specs.declared.site_file.reading.CountedHead.{CountedHead}
 use Rattle.kept_file.specs.SiteParts.{AreEntries, AreMessages, IsCutAsFile, IsShort, counted_at, counted_spelling, message_at, message_spelling}
 use Rattle.kept_file.proofs.Entries.{messages_told}
@@ -101,7 +101,7 @@ messages_of ops count entries are =
     (map spelling ops, record { counted = length-map ops spelling ∙ are.counted; short = short; parts = are.parts ∙ same })
 
 -- a file whose messages are such is cut as a site's
-pub cut_so : (file rest entries : List ℕ) (head : CountedHead) → IsBytes rest → file ≡ tag ++ rest → counted_at rest ≡ Some (head, entries)
+pub cut_so : (file rest entries : List ℕ) (head : CountedHead) → IsBytes rest → file ≡ site_tag ++ rest → counted_at rest ≡ Some (head, entries)
     → (messages : List (List ℕ)) × AreMessages messages head.count entries → IsCutAsFile file
 cut_so file rest entries head fits tagged found (messages, are) =
     let took = counted_reads.takes rest head entries fits found in
@@ -116,7 +116,7 @@ cut_so file rest entries head fits tagged found (messages, are) =
       few = omega (arith, are.counted, is.count);
       short = are.short;
       parts =
-          tagged ∙ ap (λ (l : List ℕ). tag ++ l) (took.parts ∙ ap (λ (l : List ℕ). counted_spelling head ++ l) are.parts
+          tagged ∙ ap (λ (l : List ℕ). site_tag ++ l) (took.parts ∙ ap (λ (l : List ℕ). counted_spelling head ++ l) are.parts
           ∙ ap (λ (n : ℕ). counted_spelling (made n) ++ flat_map message_spelling messages) (sym are.counted))
           ∙ (simp append_assoc);
     }

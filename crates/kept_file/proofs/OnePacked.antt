@@ -12,8 +12,8 @@ use Rattle.packed.specs.Laws.{IsHistory}
 use Rattle.packed.specs.Spelling.{packed}
 use Rattle.kept_file.specs.declared.head.Head.{Head}
 use Rattle.kept_file.specs.PackedFiles.{FirstPartsTellFirstOperations, HasPackedFile, IsPackedFileOf}
-use Rattle.kept_file.specs.PackedFiles.{OnePackedFile, OtherCutsAreNobodys, packed_bytes, tag}
-use Rattle.kept_file.specs.Parts.{head_at, head_spelling, IsHead}
+use Rattle.kept_file.specs.PackedFiles.{OnePackedFile, OtherCutsAreNobodys, packed_bytes, packed_tag}
+use Rattle.kept_file.specs.Parts.{head_at, packed_head_spelling, IsPackedHead}
 use Rattle.kept_file.proofs.Fields.{head_reads}
 use Rattle.kept_file.proofs.Following.{is_history}
 use Rattle.kept_file.proofs.Packings.{told_first}
@@ -23,30 +23,30 @@ use Rattle.packed.proofs.PackedLists.{none_are_packed_alike}
 abbrev pub head_of : (text site : ℕ) → Head
 head_of text site = record { text = text; site = site }
 
-pub head_is : (text site : ℕ) (ops : List Operation) → HasPackedFile text site ops → IsHead (head_of text site)
+pub head_is : (text site : ℕ) (ops : List Operation) → HasPackedFile text site ops → IsPackedHead (head_of text site)
 head_is text site ops tells = record { text = tells.text_number; site = tells.site_number }
 
 -- the file: the tag, the head, the operations
 pub file_parts : (text site : ℕ) (ops : List Operation)
-    → packed_bytes text site ops ≡ tag ++ (head_spelling (head_of text site) ++ packed ops)
+    → packed_bytes text site ops ≡ packed_tag ++ (packed_head_spelling (head_of text site) ++ packed ops)
 unfolding packed_bytes
 file_parts text site ops = simp append_assoc
 
 -- what a file is of is told by what stands after the tag
 pub head_told : (text site : ℕ) (ops : List Operation) (file rest : List ℕ) → IsPackedFileOf text site ops file
-    → file ≡ tag ++ rest → head_at rest ≡ Some (head_of text site, packed ops)
+    → file ≡ packed_tag ++ rest → head_at rest ≡ Some (head_of text site, packed ops)
 head_told text site ops file rest is e =
-    let after : rest ≡ head_spelling (head_of text site) ++ packed ops =
-    append_cancel_left tag rest (head_spelling (head_of text site) ++ packed ops) (sym e ∙ is.spelled
+    let after : rest ≡ packed_head_spelling (head_of text site) ++ packed ops =
+    append_cancel_left packed_tag rest (packed_head_spelling (head_of text site) ++ packed ops) (sym e ∙ is.spelled
     ∙ file_parts text site ops) in
     ap head_at after ∙ head_reads.again (head_of text site) (packed ops) (head_is text site ops is.tells)
 
 -- a packed file begins with the tag
 pub file_tagged : (text site : ℕ) (ops : List Operation) (file : List ℕ) → IsPackedFileOf text site ops file
-    → take 4 file ≡ tag
+    → take 4 file ≡ packed_tag
 file_tagged text site ops file is =
     ap (λ (l : List ℕ). take 4 l) (is.spelled ∙ file_parts text site ops)
-    ∙ take_at tag (head_spelling (head_of text site) ++ packed ops) 4 refl
+    ∙ take_at packed_tag (packed_head_spelling (head_of text site) ++ packed ops) 4 refl
 
 -- ---- the operations of a packed file
 
@@ -69,11 +69,11 @@ module _ (text site : ℕ) (ops : List Operation) (tells : HasPackedFile text si
 
 pub first_told : FirstPartsTellFirstOperations
 first_told file rest text site text' site' ops all is is' =
-    let whole : file ++ rest ≡ tag ++ (head_spelling (head_of text site) ++ (packed ops ++ rest)) =
+    let whole : file ++ rest ≡ packed_tag ++ (packed_head_spelling (head_of text site) ++ (packed ops ++ rest)) =
     ap (λ (l : List ℕ). l ++ rest) (is.spelled ∙ file_parts text site ops) ∙ (simp append_assoc) in
     let same : ◌≡◌ {A = Head × List ℕ} (head_of text site, packed ops ++ rest) (head_of text' site', packed all) =
     some_is _ _ (sym (head_reads.again (head_of text site) (packed ops ++ rest) (head_is text site ops is.tells))
-    ∙ head_told text' site' all (file ++ rest) (head_spelling (head_of text site) ++ (packed ops ++ rest)) is' whole) in
+    ∙ head_told text' site' all (file ++ rest) (packed_head_spelling (head_of text site) ++ (packed ops ++ rest)) is' whole) in
     let texts : text ≡ text' = ap (λ (p : Head × List ℕ). p.0.text) same in
     let sites : site ≡ site' = ap (λ (p : Head × List ℕ). p.0.site) same in
     let (more, parts, left) =
@@ -85,8 +85,8 @@ first_told file rest text site text' site' ops all is is' =
 -- no two texts, sites or lists of operations share a file
 pub one_packed : OnePackedFile
 one_packed file text site text' site' ops ops' is is' =
-    let after : List ℕ = head_spelling (head_of text site) ++ packed ops in
-    let parts : file ≡ tag ++ after = is.spelled ∙ file_parts text site ops in
+    let after : List ℕ = packed_head_spelling (head_of text site) ++ packed ops in
+    let parts : file ≡ packed_tag ++ after = is.spelled ∙ file_parts text site ops in
     let same : ◌≡◌ {A = Head × List ℕ} (head_of text site, packed ops) (head_of text' site', packed ops') =
     some_is _ _ (sym (head_told text site ops file after is parts) ∙ head_told text' site' ops' file after is' parts) in
     let texts : text ≡ text' = ap (λ (p : Head × List ℕ). p.0.text) same in (

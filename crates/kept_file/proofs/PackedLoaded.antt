@@ -20,9 +20,9 @@ use Rattle.packed.specs.Told.{Told, nothing_told, told, told_after, told_on}
 use Rattle.packed.proofs.Letters.{length_of_letters}
 use Rattle.kept_file.specs.declared.TheConstants.{MAX_PACKED}
 use Rattle.kept_file.specs.declared.head.Head.{Head}
-use Rattle.kept_file.specs.PackedFiles.{BeginsAsPackedFile, HasPackedFile, IsPackedFileOf, tag}
-use Rattle.kept_file.specs.Parts.{head_at, head_spelling}
-use Rattle.kept_file.specs.PackedParts.{ArePacked, HasTakenFirst, IsFirst}
+use Rattle.kept_file.specs.PackedFiles.{BeginsAsPackedFile, HasPackedFile, IsPackedFileOf, packed_tag}
+use Rattle.kept_file.specs.Parts.{head_at, packed_head_spelling}
+use Rattle.kept_file.specs.PackedParts.{ArePacked, HasTakenFirst, IsFirstPacked}
 use Rattle.kept_file.proofs.Fields.{fits_after, head_reads}
 use Rattle.kept_file.proofs.OnePacked.{are_history, file_parts, head_of, head_told}
 use Rattle.kept_file.proofs.Packings.{all_spelled, follow_all, next_at, packed_more, told_first, told_more}
@@ -102,7 +102,7 @@ module _ (start now : TextState) (t : Told) (bytes : List ℕ) (n : ℕ) (rest :
     (s : SoFar start now t bytes n rest) (empty : start ≡ empty_text start.text start.site) (ops : List Operation)
     (tells : HasPackedFile start.text start.site ops) (spells : bytes ≡ packed ops) where
   next_first : (op : Operation) (todo : List Operation) → ops ≡ s.done ++ op ∷ todo → rest ≡ packed_after (told s.done) (op ∷ todo)
-      → IsFirst t now.text rest op (packed_after (told_on (told s.done) op) todo)
+      → IsFirstPacked t now.text rest op (packed_after (told_on (told s.done) op) todo)
   next_first op todo e left =
       let follow : IsHistory start.text (s.done ++ op ∷ todo) =
       subst (IsHistory start.text) e (are_history start.text start.site ops tells) in
@@ -120,7 +120,7 @@ module _ (start now : TextState) (t : Told) (bytes : List ℕ) (n : ℕ) (rest :
   record IsLeft : Type 0 where
     op : Operation
     after : List ℕ
-    first : IsFirst t now.text rest op after
+    first : IsFirstPacked t now.text rest op after
     judged : IsJudged now op ready
 
   -- where bytes are left, there is a next one
@@ -146,7 +146,7 @@ module _ (start now : TextState) (t : Told) (bytes : List ℕ) (n : ℕ) (rest :
 
   -- which isn't refused
   pub left_ready : 0 < length rest
-      → ((op : Operation) (after : List ℕ) → IsFirst t now.text rest op after → IsJudged now op ready → ⊥) → ⊥
+      → ((op : Operation) (after : List ℕ) → IsFirstPacked t now.text rest op after → IsJudged now op ready → ⊥) → ⊥
   left_ready some none = let it = left_there some in none it.op it.after it.first it.judged
 
   -- and no more were read than there are
@@ -179,12 +179,12 @@ IsTextOf head bytes r =
     (r.text ≡ head.text) × (r.site ≡ head.site) × HasPackedFile r.text r.site r.operations
     × (bytes ≡ packed r.operations) × HasTakenAll (empty_text r.text r.site) r.operations r
 
-module _ (file rest bytes : List ℕ) (head : Head) (tagged : file ≡ tag ++ rest)
+module _ (file rest bytes : List ℕ) (head : Head) (tagged : file ≡ packed_tag ++ rest)
     (found : head_at rest ≡ Some (head, bytes)) where
   -- the file begins as one
   pub begins : IsBytes file → BeginsAsPackedFile file
   begins fits =
-      let took = head_reads.takes rest head bytes (fits_after tag rest (subst IsBytes tagged fits)) found in
+      let took = head_reads.takes rest head bytes (fits_after packed_tag rest (subst IsBytes tagged fits)) found in
       let is = took.in_range in
       record {
         text = head.text;
@@ -192,22 +192,22 @@ module _ (file rest bytes : List ℕ) (head : Head) (tagged : file ≡ tag ++ re
         rest = bytes;
         text_number = is.text;
         site_number = is.site;
-        parts = tagged ∙ ap (λ (l : List ℕ). tag ++ l) took.parts ∙ (simp append_assoc);
+        parts = tagged ∙ ap (λ (l : List ℕ). packed_tag ++ l) took.parts ∙ (simp append_assoc);
       }
 
   -- it has this file
   has_file : (r : TextState) → IsBytes file → IsTextOf head bytes r → IsPackedFileOf r.text r.site r.operations file
   has_file r fits (text, site, tells, are, taken) =
-      let after : rest ≡ head_spelling head ++ bytes =
-      (head_reads.takes rest head bytes (fits_after tag rest (subst IsBytes tagged fits)) found).parts in
+      let after : rest ≡ packed_head_spelling head ++ bytes =
+      (head_reads.takes rest head bytes (fits_after packed_tag rest (subst IsBytes tagged fits)) found).parts in
       let made : ℕ → ℕ → Head = λ t s. record { text = t; site = s } in
       let same : head ≡ head_of r.text r.site =
       ap (λ (t : ℕ). made t head.site) (sym text) ∙ ap (λ (s : ℕ). made r.text s) (sym site) in
       record {
         tells = tells;
         spelled =
-            tagged ∙ ap (λ (l : List ℕ). tag ++ l) (after ∙ ap (λ (h : Head). head_spelling h ++ bytes) same
-            ∙ ap (λ (l : List ℕ). head_spelling (head_of r.text r.site) ++ l) are)
+            tagged ∙ ap (λ (l : List ℕ). packed_tag ++ l) (after ∙ ap (λ (h : Head). packed_head_spelling h ++ bytes) same
+            ∙ ap (λ (l : List ℕ). packed_head_spelling (head_of r.text r.site) ++ l) are)
             ∙ sym (file_parts r.text r.site r.operations);
       }
 
@@ -228,7 +228,7 @@ module _ (file rest bytes : List ℕ) (head : Head) (tagged : file ≡ tag ++ re
       (ap (λ (p : Head × List ℕ). p.1) same)
 
 -- where no head stands after the tag, it is no packed file
-pub no_head : (file rest : List ℕ) → file ≡ tag ++ rest → head_at rest ≡ None → (text site : ℕ)
+pub no_head : (file rest : List ℕ) → file ≡ packed_tag ++ rest → head_at rest ≡ None → (text site : ℕ)
     (ops : List Operation) → IsPackedFileOf text site ops file → ⊥
 no_head file rest tagged none text site ops of =
     let same : ◌≡◌ {A = Option (Head × List ℕ)} None (Some (head_of text site, packed ops)) =

@@ -9,7 +9,7 @@ use Rattle.byte_fields.proofs.Readers.{Took, Reads, step, some_is, number_reads,
 use Rattle.byte_fields.proofs.Readers.{wide16, wide32, IsBytes}
 use Rattle.kept_file.specs.declared.site_file.reading.CountedHead.{CountedHead}
 use Rattle.kept_file.specs.declared.head.Head.{Head}
-use Rattle.kept_file.specs.Parts.{IsHead, head_spelling}
+use Rattle.kept_file.specs.Parts.{IsPackedHead, packed_head_spelling}
 use Rattle.kept_file.specs.SiteParts.{counted_at, counted_spelling, IsCountedHead, IsShort, message_at, message_spelling}
 use Rattle.kept_file.proofs.Fields.{head_reads}
 
@@ -17,7 +17,7 @@ abbrev numbers_of : CountedHead → Head
 numbers_of h = record { text = h.text; site = h.site }
 
 counted_split : (h : CountedHead) (rest : List ℕ) → counted_spelling h ++ rest
-    ≡ head_spelling (numbers_of h) ++ (number_spelling w32 h.count ++ rest)
+    ≡ packed_head_spelling (numbers_of h) ++ (number_spelling w32 h.count ++ rest)
 counted_split h rest = simp append_assoc
 
 pub counted_reads : Reads counted_at counted_spelling IsCountedHead
@@ -27,9 +27,9 @@ counted_reads = record {
       let s = step _ _ _ head_reads _ bytes (head, rest) fits e in
       let t = step _ _ _ (number_reads w32 (2 ^ 32) wide32) _ s.rest (head, rest) s.took.rest_fits s.goes_on in
       let made : CountedHead = record { text = s.x.text; site = s.x.site; count = t.x } in
-      let is : IsHead s.x = s.took.in_range in
+      let is : IsPackedHead s.x = s.took.in_range in
       let whole : bytes ≡ counted_spelling made ++ t.rest =
-      s.took.parts ∙ ap (λ (r : List ℕ). head_spelling s.x ++ r) t.took.parts ∙ sym (counted_split made t.rest) in
+      s.took.parts ∙ ap (λ (r : List ℕ). packed_head_spelling s.x ++ r) t.took.parts ∙ sym (counted_split made t.rest) in
       subst (λ (p : CountedHead × List ℕ). Took counted_spelling IsCountedHead bytes p.0 p.1) (some_is (made, t.rest) (head, rest) t.goes_on)
       (record {
         parts = whole;

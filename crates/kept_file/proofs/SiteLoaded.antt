@@ -10,7 +10,7 @@ use Rattle.operations.specs.Operation.{Operation}
 use Rattle.operations.specs.Spelling.{HasSpelling, spelling}
 use Rattle.byte_fields.proofs.Readers.{IsBytes, some_is}
 use Rattle.set_laws.specs.Verdict.{ready}
-use Rattle.texts.specs.SiteFiles.{HasSiteFile, IsSiteFileOf, entry_spelling, tag}
+use Rattle.texts.specs.SiteFiles.{HasSiteFile, IsSiteFileOf, entry_spelling, site_tag}
 use Rattle.texts.specs.Take.{Encodes}
 use Rattle.texts.specs.Taking.{HasTaken, HasTakenAll, IsJudged}
 use Rattle.texts.specs.Text.{IsText}
@@ -148,13 +148,13 @@ IsTextOf head entries r =
     (r.text ≡ head.text) × (r.site ≡ head.site) × HasSiteFile r.text r.site r.operations
     × AreEntries r.operations head.count entries × HasTakenAll (empty_text r.text r.site) r.operations r
 
-module _ (file rest entries : List ℕ) (head : CountedHead) (tagged : file ≡ tag ++ rest)
+module _ (file rest entries : List ℕ) (head : CountedHead) (tagged : file ≡ site_tag ++ rest)
     (found : counted_at rest ≡ Some (head, entries)) where
   -- it has this file
   has_file : (r : TextState) → IsBytes file → IsTextOf head entries r → IsSiteFileOf r.text r.site r.operations file
   has_file r fits (text, site, tells, are, taken) =
       let after : rest ≡ counted_spelling head ++ entries =
-      (counted_reads.takes rest head entries (fits_after tag rest (subst IsBytes tagged fits)) found).parts in
+      (counted_reads.takes rest head entries (fits_after site_tag rest (subst IsBytes tagged fits)) found).parts in
       let made : ℕ → ℕ → ℕ → CountedHead = λ t s n. record { text = t; site = s; count = n } in
       let same : head ≡ counted_of r.text r.site r.operations =
       ap (λ (t : ℕ). made t head.site head.count) (sym text)
@@ -163,7 +163,7 @@ module _ (file rest entries : List ℕ) (head : CountedHead) (tagged : file ≡ 
       record {
         tells = tells;
         spelled =
-            tagged ∙ ap (λ (l : List ℕ). tag ++ l) (after ∙ ap (λ (h : CountedHead). counted_spelling h ++ entries) same
+            tagged ∙ ap (λ (l : List ℕ). site_tag ++ l) (after ∙ ap (λ (h : CountedHead). counted_spelling h ++ entries) same
             ∙ ap (λ (l : List ℕ). counted_spelling (counted_of r.text r.site r.operations) ++ l) are.parts)
             ∙ sym (file_parts r.text r.site r.operations);
       }
@@ -188,7 +188,7 @@ module _ (file rest entries : List ℕ) (head : CountedHead) (tagged : file ≡ 
       })
 
 -- where no head stands after the tag, it is no site's file
-pub no_head : (file rest : List ℕ) → file ≡ tag ++ rest → counted_at rest ≡ None → (text site : ℕ)
+pub no_head : (file rest : List ℕ) → file ≡ site_tag ++ rest → counted_at rest ≡ None → (text site : ℕ)
     (ops : List Operation) → IsSiteFileOf text site ops file → ⊥
 no_head file rest tagged none text site ops of =
     let same : ◌≡◌ {A = Option (CountedHead × List ℕ)} None (Some (counted_of text site ops, flat_map entry_spelling ops)) =

@@ -18,7 +18,7 @@ use Rattle.texts.specs.declared.fate.Fate.TheVariants.{OtherText, Known, Conflic
 use Rattle.texts.specs.declared.fate.Fate.TheVariants.{Misfit, LowStamp, Ready}
 use Rattle.texts.specs.declared.took.Took.{Took}
 use Rattle.texts.specs.declared.took.Took.TheVariants.{Taken, Repeat, Waits}
-use Rattle.kept_file.specs.Parts.{IsTaken}
+use Rattle.kept_file.specs.Parts.{WasTaken}
 
 -- ---- where nothing waits, nothing is drained
 
@@ -127,10 +127,10 @@ ready_taken t new op result empty judged (inr (inr (has, inl takes))) =
 ready_taken t new op result empty judged (inr (inr (has, inr stays))) = inl stays.0
 
 -- so one that wasn't, and wasn't refused for memory, wasn't ready
-not_taken : (took : Took) → (¬ IsTaken took) → IsTakenOrShort (Ok took) → ⊥
+not_taken : (took : Took) → (¬ WasTaken took) → IsTakenOrShort (Ok took) → ⊥
 not_taken took none (inl short) = absurd cc
 not_taken took none (inr (drained, dropped, stopped, taken)) =
-    let is : took ≡ Taken drained dropped stopped = cc in none (subst IsTaken (sym is) tt)
+    let is : took ≡ Taken drained dropped stopped = cc in none (subst WasTaken (sym is) tt)
 
 refused_for_memory : (why : Refusal) → IsTakenOrShort (Err why) → why ≡ OutOfMemory
 refused_for_memory why (inl short) = cc
@@ -140,7 +140,7 @@ refused_for_memory why (inr (drained, dropped, stopped, taken)) = absurd cc
 
 module _ (t new : TextState) (op : Operation) (empty : t.waiting_room ≡ []) where
   pub taken_next : (took : Took) (r : Result (Unit {0}) Refusal)
-      → TakesOp t op (Ok took) new ⊎ TakesOpShort t op (Ok took) new → OnOk r (IsTaken took) → OnOk r (HasTaken t op new)
+      → TakesOp t op (Ok took) new ⊎ TakesOpShort t op (Ok took) new → OnOk r (WasTaken took) → OnOk r (HasTaken t op new)
   taken_next (Taken drained dropped stopped) (Ok done) takes is =
       next_taken t new op drained dropped stopped empty takes
   taken_next Repeat (Ok done) takes is = absurd is
@@ -149,7 +149,7 @@ module _ (t new : TextState) (op : Operation) (empty : t.waiting_room ≡ []) wh
 
   pub none_ready : (took : Took) (r : Result (Unit {0}) Refusal)
       → TakesOp t op (Ok took) new ⊎ TakesOpShort t op (Ok took) new
-      → IfErr r (λ e. (e ≡ BadFile) × (¬ IsTaken took)) → IsErrOf r BadFile → IsJudged t op ready → ⊥
+      → IfErr r (λ e. (e ≡ BadFile) × (¬ WasTaken took)) → IsErrOf r BadFile → IsJudged t op ready → ⊥
   none_ready took (Ok done) takes is bad judged = absurd cc
   none_ready took (Err why) takes is bad judged =
       not_taken took is.1 (ready_taken t new op (Ok took) empty judged takes)

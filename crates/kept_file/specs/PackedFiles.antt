@@ -13,12 +13,12 @@ use Rattle.packed.specs.Told.{told}
 use Rattle.kept_file.specs.declared.TheConstants.{MAX_PACKED}
 
 -- what a packed file begins with
-abbrev pub tag : List ℕ
-tag = codes "OTP1"
+abbrev pub packed_tag : List ℕ
+packed_tag = codes "OTP1"
 
 -- the file: the tag, the text, the site, the packed operations
 unfoldable pub packed_bytes : (text site : ℕ) → List Operation → List ℕ
-packed_bytes text site ops = tag ++ number_spelling w16 text ++ number_spelling w16 site ++ packed ops
+packed_bytes text site ops = packed_tag ++ number_spelling w16 text ++ number_spelling w16 site ++ packed ops
 
 -- operations that a packed file can tell, with the numbers of a text and a site: not too many, messages of this text all of
 -- them, none twice, and each after its causes
@@ -53,7 +53,7 @@ pub record BeginsAsPackedFile (file : List ℕ) : Type 0 where
   pub rest : List ℕ
   pub text_number : IsNumber text
   pub site_number : IsNumber site
-  pub parts : file ≡ tag ++ number_spelling w16 text ++ number_spelling w16 site ++ rest
+  pub parts : file ≡ packed_tag ++ number_spelling w16 text ++ number_spelling w16 site ++ rest
 
 -- with operations more the file has bytes more: what they add to what those before told
 abbrev pub FilesGrowAtTheEnd : Type 0

@@ -11,7 +11,7 @@ use Rattle.packed.specs.Told.{Told, told_after}
 use Rattle.kept_file.specs.declared.TheConstants.{MAX_PACKED}
 
 -- the bytes begin with this operation on the text, packed after those that told this, and the rest follows it
-pub record IsFirst (told : Told) (text : ℕ) (bytes : List ℕ) (op : Operation) (rest : List ℕ) : Type 0 where
+pub record IsFirstPacked (told : Told) (text : ℕ) (bytes : List ℕ) (op : Operation) (rest : List ℕ) : Type 0 where
   pub can : CanBeNext told text op
   pub parts : bytes ≡ packed_next told op ++ rest
 

@@ -8,11 +8,11 @@ use Rattle.texts.specs.declared.took.Took.TheVariants.{Taken, Repeat, Waits}
 use Rattle.kept_file.specs.declared.head.Head.{Head}
 
 -- what stands behind the tag: the text and the site
-abbrev pub head_spelling : Head → List ℕ
-head_spelling h = number_spelling w16 h.text ++ number_spelling w16 h.site
+abbrev pub packed_head_spelling : Head → List ℕ
+packed_head_spelling h = number_spelling w16 h.text ++ number_spelling w16 h.site
 
 -- the text and the site are in range
-pub record IsHead (h : Head) : Type 0 where
+pub record IsPackedHead (h : Head) : Type 0 where
   pub text : IsNumber h.text
   pub site : IsNumber h.site
 
@@ -24,7 +24,7 @@ head_at bytes = do
   Some (record { text = text.0; site = site.0 }, site.1)
 
 -- an operation was taken in, rather than that it is held already or waits
-abbrev pub IsTaken : Took → Type 0
-IsTaken (Taken drained dropped stopped) = Unit {0}
-IsTaken Repeat = ⊥
-IsTaken Waits = ⊥
+abbrev pub WasTaken : Took → Type 0
+WasTaken (Taken drained dropped stopped) = Unit {0}
+WasTaken Repeat = ⊥
+WasTaken Waits = ⊥

@@ -6,7 +6,7 @@ use Rattle.operations.specs.Operation.{Operation}
 use Rattle.byte_fields.specs.Fields.{◌>>=◌, number_at, stretch_at}
 use Rattle.byte_fields.specs.Fields.{number_spelling}
 use Rattle.operations.specs.Spelling.{HasSpelling}
-use Rattle.texts.specs.SiteFiles.{IsNumber, entry_spelling, tag}
+use Rattle.texts.specs.SiteFiles.{IsNumber, entry_spelling, site_tag}
 use Rattle.texts.specs.declared.TheConstants.{MAX_KEPT}
 use Rattle.kept_file.specs.declared.site_file.reading.CountedHead.{CountedHead}
 use Rattle.kept_file.specs.Parts.{head_at}
@@ -58,7 +58,7 @@ pub record IsCutAsFile (file : List ℕ) : Type 0 where
   pub site_number : IsNumber site
   pub few : length messages ≤ MAX_KEPT
   pub short : All IsShort messages
-  pub parts : file ≡ tag ++ number_spelling w16 text ++ number_spelling w16 site ++ number_spelling w32 (length messages)
+  pub parts : file ≡ site_tag ++ number_spelling w16 text ++ number_spelling w16 site ++ number_spelling w32 (length messages)
       ++ flat_map message_spelling messages
 
 -- the bytes are the messages of so many operations

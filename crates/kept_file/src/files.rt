@@ -2,7 +2,7 @@ ghost use Rattle.std.specs.Prelude.{◌≡◌, ◌<◌, ◌++◌, ◌↔◌, ◌
 ghost use Rattle.texts.specs.Taking.{HasTakenAll};
 ghost use Rattle.texts.specs.TextState.{empty_text};
 ghost use Rattle.kept_file.specs.SiteParts.{IsCutAsFile};
-ghost use Rattle.kept_file.specs.PackedFiles.{BeginsAsPackedFile, tag};
+ghost use Rattle.kept_file.specs.PackedFiles.{BeginsAsPackedFile, packed_tag};
 ghost use Rattle.kept_file.specs.KeptFiles.{IsKeptFileOf, IsNoKeptFile, kept_bytes, most_kept};
 
 use crate::form::KeptForm;
@@ -34,7 +34,7 @@ pub fn store_kept(form: KeptForm, replica: &Replica, file: &mut Vec<u8>) -> Resu
 
 // Whether the file is to be a packed one.
 fn is_packed(bytes: &[u8]) -> bool
-    ensures { IsTrue result ↔ (take 4 bytes.now ≡ tag) }
+    ensures { IsTrue result ↔ (take 4 bytes.now ≡ packed_tag) }
 {
     bytes.starts_with(b"OTP1")
 }

@@ -3,7 +3,7 @@
 ghost use Rattle.std.specs.Prelude.{◌≡◌, ◌⊎◌, [], IfErr, IsErrOf, OnOk};
 ghost use Rattle.set_laws.specs.Verdict.{ready};
 ghost use Rattle.texts.specs.Taking.{HasTaken, IsJudged};
-ghost use Rattle.kept_file.specs.Parts.{IsTaken};
+ghost use Rattle.kept_file.specs.Parts.{WasTaken};
 
 use looks::Refusal;
 use operations::Op;
@@ -25,8 +25,8 @@ pub(crate) fn refusal_of_file(why: Refusal) -> Refusal
 
 // What a file's operation does is that it is taken in. Refused `BadFile` alone.
 fn only_taken(took: Took) -> Result<(), Refusal>
-    ensures ok { OnOk result (IsTaken took) }
-    ensures errors { IfErr result (λ e. (e ≡ Refusal.BadFile) × (¬ IsTaken took)) }
+    ensures ok { OnOk result (WasTaken took) }
+    ensures errors { IfErr result (λ e. (e ≡ Refusal.BadFile) × (¬ WasTaken took)) }
 {
     match took {
         Took::Taken { .. } => Ok(()),

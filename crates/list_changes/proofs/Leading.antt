@@ -8,7 +8,7 @@ use Rattle.list_changes.specs.declared.change.ChangeKind.{ChangeKind}
 use Rattle.list_changes.specs.declared.change.ChangeKind.TheVariants.{Insert, Delete, Replace}
 use Rattle.list_changes.specs.declared.change.Change.{Change}
 use Rattle.list_changes.specs.Changes.{AreAlike, IsOfKind, Trades, Makes, Leads}
-use Rattle.list_changes.specs.Quiet.{is_quiet, is_after}
+use Rattle.list_changes.specs.Quiet.{is_quiet, is_change_after}
 use Rattle.list_changes.specs.Laws.{AreComposed, HasBounds, IsInBounds, AreSameUpTo, KeepsUpTo, LeadBackByNone}
 
 module _ {X : Type 0} (Alike : X → X → Type 0) where
@@ -165,7 +165,7 @@ module _ {X Y : Type 0} (Alike : X → X → Type 0) (f : X → Y) where
   lt-of m n h = ltb-true m n h
 
   pub quiet-one : ((x y : X) → Alike x y → f y ≡ f x) → (kind : ChangeKind) (last beg end : ℕ)
-      (front gone come back a b : List X) → length front ≡ beg → is_after kind last beg ≡ true → last < length a
+      (front gone come back a b : List X) → length front ≡ beg → is_change_after kind last beg ≡ true → last < length a
       → a ≡ front ++ (gone ++ back) → b ≡ front ++ (come ++ back) → Trades Alike kind beg end gone come
       → AreSameUpTo f last a b
   quiet-one agree Insert last beg end front gone come back a b at quiet lt was now trades =

@@ -5,11 +5,11 @@ use Rattle.list_changes.specs.declared.change.ChangeKind.TheVariants.{Insert, De
 use Rattle.list_changes.specs.declared.change.Change.{Change}
 
 -- what is put in or cut lies after this position
-abbrev pub is_after : ChangeKind → ℕ → ℕ → Bool
-is_after Insert last beg = nat_lt last beg
-is_after Delete last beg = nat_lt last beg
-is_after Replace last beg = true
+abbrev pub is_change_after : ChangeKind → ℕ → ℕ → Bool
+is_change_after Insert last beg = nat_lt last beg
+is_change_after Delete last beg = nat_lt last beg
+is_change_after Replace last beg = true
 
 -- the change replaces, or begins after this position
 abbrev pub is_quiet : ℕ → Change → Bool
-is_quiet last change = is_after change.kind last change.beg
+is_quiet last change = is_change_after change.kind last change.beg

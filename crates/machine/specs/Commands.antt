@@ -97,9 +97,9 @@ IsParameter d w token given =
     (given ≡ Ok token.value)
 
 -- the task, or a refusal of a parameter that tells none
-abbrev pub with_value : {X : Type 0} → Option X → (X → Task) → Task
-with_value None task = refuse BadParameter
-with_value (Some x) task = task x
+abbrev pub task_with_value : {X : Type 0} → Option X → (X → Task) → Task
+task_with_value None task = refuse BadParameter
+task_with_value (Some x) task = task x
 
 -- a change of the looks of the selection
 abbrev pub dress_marked : SiteTexts → Screened → Change → Task
@@ -109,17 +109,17 @@ dress_marked d w change_to =
 
 -- what a command does with its parameter, in the viewer that was clicked, on this text: a row each
 abbrev pub task_of : SiteTexts → Screened → Command → TokenValue → (viewer text : ℕ) → Task
-task_of d w command.SystemOpen given v text = with_value (text_parameter given) (λ n. arrange (Open System n None))
+task_of d w command.SystemOpen given v text = task_with_value (text_parameter given) (λ n. arrange (Open System n None))
 task_of d w command.SystemClose given v text = arrange (Close v)
-task_of d w command.EditOpen given v text = with_value (text_parameter given) (λ n. arrange (Open User n None))
-task_of d w command.EditLoad given v text = with_value (file_parameter given) load
-task_of d w command.EditStore given v text = with_value (file_parameter given) (store text)
+task_of d w command.EditOpen given v text = task_with_value (text_parameter given) (λ n. arrange (Open User n None))
+task_of d w command.EditLoad given v text = task_with_value (file_parameter given) load
+task_of d w command.EditStore given v text = task_with_value (file_parameter given) (store text)
 task_of d w command.EditRecall given v text = recall_at_caret
 task_of d w command.EditRestore given v text = change text restoration
-task_of d w command.EditChangeFont given v text = with_value (font_parameter given) (dress_marked d w)
-task_of d w command.EditChangeColor given v text = with_value (colour_parameter given) (dress_marked d w)
-task_of d w command.EditChangeOffset given v text = with_value (offset_parameter given) (dress_marked d w)
-task_of d w command.EditSearch given v text = with_value (bytes_parameter given) search
+task_of d w command.EditChangeFont given v text = task_with_value (font_parameter given) (dress_marked d w)
+task_of d w command.EditChangeColor given v text = task_with_value (colour_parameter given) (dress_marked d w)
+task_of d w command.EditChangeOffset given v text = task_with_value (offset_parameter given) (dress_marked d w)
+task_of d w command.EditSearch given v text = task_with_value (bytes_parameter given) search
 task_of d w command.ShareForget given v text = forget text
 
 -- the task of a call, whose parameter is looked for where the command asks for one

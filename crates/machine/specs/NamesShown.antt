@@ -23,8 +23,8 @@ shown_from pos [] = []
 shown_from pos (r ∷ ranges) = record { pos = pos; names = r } ∷ shown_from (pos + r.len) ranges
 
 -- the names of what is shown from beg to end
-abbrev pub names_shown : List Char → (beg end : ℕ) → List NamedStretch
-names_shown chars beg end = shown_from beg (ranges_of (map (λ c. c.name) (slice_range chars beg end)))
+abbrev pub named_stretches : List Char → (beg end : ℕ) → List NamedStretch
+named_stretches chars beg end = shown_from beg (ranges_of (map (λ c. c.name) (slice_range chars beg end)))
 
 -- the line of such names: the position of the first, its site and its offset in that one's file, and how many there are
 abbrev pub name_line : NamedStretch → List ℕ
@@ -38,4 +38,4 @@ name_lines stretches = flat_map name_line stretches
 
 -- the answer to `names`: these lines, then `ok`
 abbrev pub names_lines : List Char → (beg end : ℕ) → List ℕ
-names_lines chars beg end = name_lines (names_shown chars beg end) ++ line (codes "ok")
+names_lines chars beg end = name_lines (named_stretches chars beg end) ++ line (codes "ok")

@@ -10,7 +10,7 @@ use Rattle.viewers.specs.Tracks.{seat_index, top, viewer_in}
 use Rattle.viewers.specs.declared.seats.Seat.{Seat}
 use Rattle.machine.specs.SiteTexts.{SiteTexts}
 use Rattle.machine.specs.Printing.{line}
-use Rattle.machine.specs.Windows.{Screened, Window, marked, place_in, row_in, window_of}
+use Rattle.machine.specs.Windows.{Screened, Window, marked, place_in, row_from_anchor, window_of}
 use Rattle.texts.specs.TextState.{TextState}
 
 -- numbers, each after a blank
@@ -55,7 +55,7 @@ views_lines d w =
 -- the cells of a viewer's row, the menu being row 0
 abbrev pub viewer_cells : (v : ℕ) → Window × TextState → (width row : ℕ) → List ℕ
 viewer_cells v shown width row =
-    if row == 0 then cells_of width (menu_of v shown.0.text) else (row_in shown.1 shown.0.anchor width (row - 1)).cells
+    if row == 0 then cells_of width (menu_of v shown.0.text) else (row_from_anchor shown.1 shown.0.anchor width (row - 1)).cells
 
 -- the cells of a track's row; a track without viewers is blank
 abbrev pub track_cells : SiteTexts → Screened → List Seat → (width row : ℕ) → List ℕ

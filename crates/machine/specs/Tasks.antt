@@ -132,8 +132,8 @@ Keeps s form t name part r new =
     Writes s (length t.operations) (most_kept form) name (kept_bytes form t.text t.site t.operations) part r new
 
 -- whether a text has taken something in, or something waits for it
-abbrev pub has_begun : TextState → Bool
-has_begun t = nat_lt 0 (length t.operations + length t.waiting_room)
+abbrev pub text_has_begun : TextState → Bool
+text_has_begun t = nat_lt 0 (length t.operations + length t.waiting_room)
 
 -- the text of this number begins anew, and has taken these operations in
 abbrev pub BeginsWith : State → (i text : ℕ) → List Operation → Reply → State → Type 0
@@ -202,7 +202,7 @@ DoesTask s i d w (keep form text name) part r new =
     (t : TextState) × IsTextAt s i text t × Keeps s form t name part r new
 DoesTask s i d w (reopen text name) part r new =
     (t : TextState) × IsTextAt s i text t
-    × MatchBool (has_begun t) ((part ≡ untouched) × Refuses s Conflict r new) (Reopens s i text t name part r new)
+    × MatchBool (text_has_begun t) ((part ≡ untouched) × Refuses s Conflict r new) (Reopens s i text t name part r new)
 
 -- What a task does where memory was refused: an edit in the ways of one of texts; a load, a store, a keeping, a
 -- reopening, an opening and a print besides with nothing done, after what is tested before the memory. The other tasks take
@@ -230,4 +230,4 @@ ShortTask s i d w (keep form text name) part r new =
     (part ≡ untouched) × ((t : TextState) × IsTextAt s i text t × (length t.operations ≤ most_kept form))
     × Refuses s OutOfMemory r new
 ShortTask s i d w (reopen text name) part r new =
-    ((t : TextState) × IsTextAt s i text t × IsFalse (has_begun t)) × ReopensShort s name part r new
+    ((t : TextState) × IsTextAt s i text t × IsFalse (text_has_begun t)) × ReopensShort s name part r new

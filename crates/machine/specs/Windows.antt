@@ -90,13 +90,13 @@ abbrev pub first_line : TextState → Anchor → ℕ
 first_line t anchor = ends_in (take (place_in t anchor) (bytes_shown t))
 
 -- a row of a window, counted from the first below the menu
-abbrev pub row_in : TextState → Anchor → (width row : ℕ) → Row
-row_in t anchor width row = row_of (bytes_shown t) width (first_line t anchor + row)
+abbrev pub row_from_anchor : TextState → Anchor → (width row : ℕ) → Row
+row_from_anchor t anchor width row = row_of (bytes_shown t) width (first_line t anchor + row)
 
 -- the position that a cell of a window stands for, counted from its first column and the first row below the menu
 abbrev pub position_in : TextState → Anchor → (width col row : ℕ) → ℕ
 position_in t anchor width col row =
-    let there : Row = row_in t anchor width row in place_of there.beg there.end col
+    let there : Row = row_from_anchor t anchor width row in place_of there.beg there.end col
 
 -- a cell below the menu of a viewer: what the viewer shows, and the position that the cell stands for
 pub record Pointed : Type 0 where
@@ -175,8 +175,8 @@ is_row_below w (Some row) = nat_le w.tracks.height row
 is_row_below w None = false
 
 -- whether a viewer may open in these seats, under the next number
-abbrev pub has_room : Screened → List Seat → Option ℕ → Bool
-has_room w seats row = nat_lt w.next (2 ^ 32) && can_open seats (row_for seats row)
+abbrev pub screen_has_room : Screened → List Seat → Option ℕ → Bool
+screen_has_room w seats row = nat_lt w.next (2 ^ 32) && can_open seats (row_for seats row)
 
 -- the screen with the next viewer in these seats of a track
 abbrev pub with_next : Screened → Track → List Seat → (text : ℕ) → Option ℕ → Screened
@@ -190,18 +190,18 @@ with_next w track seats text row =
 abbrev pub opened_at : Screened → Track → (text : ℕ) → Option ℕ → Arranged
 opened_at w track text row =
     if is_row_below w row then Err OutOfRange
-    else (if has_room w (seats_of w.tracks track) row
+    else (if screen_has_room w (seats_of w.tracks track) row
     then Ok (with_next w track (seats_of w.tracks track) text row, Some w.next) else Err NoRoom)
 
 -- the seats in which a viewer stands
-abbrev pub seats_with : Screened → ℕ → List Seat
-seats_with w v = seats_of w.tracks (track_of w v)
+abbrev pub seats_of_viewer : Screened → ℕ → List Seat
+seats_of_viewer w v = seats_of w.tracks (track_of w v)
 
 -- a caret and a selection go with their viewer
 abbrev pub closed_at : Screened → ℕ → Arranged
 closed_at w v =
     if is_open w v then Ok (
-      record (with_track w (track_of w v) (closed (seats_with w v) (seat_of (seats_with w v) v))) {
+      record (with_track w (track_of w v) (closed (seats_of_viewer w v) (seat_of (seats_of_viewer w v) v))) {
         windows = filter (λ entry. not (entry.0 == v)) w.windows;
         caret = option_and_then (λ c. if c.viewer == v then None else Some c) w.caret;
         selected = option_and_then (λ s. if s.viewer == v then None else Some s) w.selected;
@@ -220,7 +220,7 @@ abbrev pub moved_to : Screened → (v row : ℕ) → Arranged
 moved_to w v row =
     if is_open w v then
     (if nat_le w.tracks.height row then Err OutOfRange
-    else moved_in w (track_of w v) (seats_with w v) (seat_of (seats_with w v) v) row)
+    else moved_in w (track_of w v) (seats_of_viewer w v) (seat_of (seats_of_viewer w v) v) row)
     else Err NoViewer
 
 -- the character after which a line begins; a line past the last one is the last one

@@ -11,7 +11,7 @@ use Rattle.char_files.specs.declared.name.Anchor.{Anchor}
 use Rattle.char_files.specs.declared.name.Anchor.TheVariants.{At, Root}
 use Rattle.set_laws.specs.Fronts.{file_len}
 use Rattle.texts.specs.Edit.{Edit, anchor_before, deletion, insertion, is_in_text, looks_change, pieces_of, recalling, restoration, shown_with}
-use Rattle.texts.specs.Order.{chars_from, insert_at}
+use Rattle.texts.specs.Order.{item_chars, with_inserted}
 use Rattle.texts.specs.Outcome.{Shows}
 use Rattle.texts.specs.TextState.{TextState, shown_of}
 use Rattle.texts.specs.declared.edit_refusal.EditRefusal.{EditRefusal}
@@ -30,7 +30,7 @@ past (x ∷ xs) ys n =
 
 -- the last of some characters, whatever follows them
 last_char : (site at : ℕ) (i : Item) (items : List Item) (rest : List Char)
-    → (c : Char) × (slice_get (chars_from site at (i ∷ items) ++ rest) (length items) ≡ Some c)
+    → (c : Char) × (slice_get (item_chars site at (i ∷ items) ++ rest) (length items) ≡ Some c)
     × (c.name ≡ record { site = site; off = at + length items })
 last_char site at i [] rest = (
   record { name = record { site = site; off = at }; byte = i.0; looks = i.1 },
@@ -41,11 +41,11 @@ last_char site at i (j ∷ items) rest =
     let (c, is, named) = last_char site (at + 1) j items rest in
     (c, is, named ∙ ap (λ (off : ℕ). record { site = site; off = off }) (omega arith))
 
-length-chars_from : (site at : ℕ) (items : List Item) → length (chars_from site at items) ≡ length items
+length-chars_from : (site at : ℕ) (items : List Item) → length (item_chars site at items) ≡ length items
 length-chars_from site at [] = refl
 length-chars_from site at (i ∷ items) = ap suc (length-chars_from site (at + 1) items)
 
-longer : (xs run : List Char) (n : ℕ) → length (insert_at xs n run) ≡ length xs + length run
+longer : (xs run : List Char) (n : ℕ) → length (with_inserted xs n run) ≡ length xs + length run
 longer xs run n =
     let all = length-append (take n xs ++ run) (drop n xs) in
     let before = length-append (take n xs) run in
@@ -69,7 +69,7 @@ module _ (t new : TextState) (pos : ℕ) (was : Anchor) where
     at = file_len t.operations t.site
 
     abbrev run : List Char
-    run = chars_from t.site at (i ∷ items)
+    run = item_chars t.site at (i ∷ items)
 
     abbrev rest : List Char
     rest = drop pos (shown_of t)

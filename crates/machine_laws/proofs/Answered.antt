@@ -41,7 +41,7 @@ use Rattle.viewers.specs.Screen.{area_of}
 use Rattle.viewers.specs.declared.screen.Area.{Area}
 use Rattle.machine.specs.Commands.{Change, Clicked, IsParameter, IsTaskAt, IsTaskOfCall, bytes_parameter, clicked, clicked_in}
 use Rattle.machine.specs.Commands.{colour_parameter, dress_marked, file_parameter, font_parameter, is_caret_sign, offset_parameter, task_of}
-use Rattle.machine.specs.Commands.{text_parameter, with_value}
+use Rattle.machine.specs.Commands.{task_with_value, text_parameter}
 use Rattle.machine.specs.SiteTexts.{SiteTexts, with_text}
 use Rattle.machine.specs.Events.{Part, Reply, Task, arrange, change, done, edit_reply, failed, forget, forgot, found, keep}
 use Rattle.machine.specs.Events.{load, messages_of, not_found, opens, print, prints, insert_at_caret, recall_at_caret, refuse, refuses}
@@ -49,7 +49,7 @@ use Rattle.machine.specs.Events.{reopen, search, store, untouched, went_well}
 use Rattle.machine.specs.OnTexts.{EditsText}
 use Rattle.machine.specs.State.{AtText, IsDeskAt, IsTextAt, Refuses, State, with_screen_at}
 use Rattle.machine.specs.Tasks.{AtCaret, BeginsAs, BeginsWith, DoesTask, EditsAt, FileBecomes, Forgets, IfCaret, IsFirstFrom}
-use Rattle.machine.specs.Tasks.{Loads, Searches, StandsAt, has_begun, lines_of_view}
+use Rattle.machine.specs.Tasks.{Loads, Searches, StandsAt, lines_of_view, text_has_begun}
 use Rattle.machine.specs.Windows.{Arranged, Caret, Marked, Screened, Window, arranged, bytes_shown, marked, marked_as}
 use Rattle.machine.specs.Windows.{place_in, stretch_in, viewer_with, window_of}
 use Rattle.machine_laws.proofs.OneOfTexts.{lemma_one_text}
@@ -276,7 +276,7 @@ module _ (plain : OwnEditsArePlain) (s : State) (i : ℕ) (d : SiteTexts) (w : S
 
   -- what is done where something was done in the text already, or nothing was yet
   by_begun : (text : ℕ) (t : TextState) (name : List ℕ) (part : Part) (r : Reply) (new : State) (begun : Bool)
-      → has_begun t ≡ begun → ReopensBy s i text t name part begun r new → ReopensBy s i text t name part (has_begun t) r new
+      → text_has_begun t ≡ begun → ReopensBy s i text t name part begun r new → ReopensBy s i text t name part (text_has_begun t) r new
   by_begun text t name part r new begun is goes =
       subst (λ (b : Bool). ReopensBy s i text t name part b r new) (sym is) goes
 
@@ -370,9 +370,9 @@ module _ (plain : OwnEditsArePlain) (s : State) (i : ℕ) (d : SiteTexts) (w : S
     | inl long ↦ (untouched, (t, there, long))
     | inr few ↦ (went_well, (t, there, few))
   ]
-  parts (reopen text name) (t, there) = by (has_begun t) refl
+  parts (reopen text name) (t, there) = by (text_has_begun t) refl
     where
-      by : (begun : Bool) → has_begun t ≡ begun → (part : Part) × MayHavePart s i w (reopen text name) part
+      by : (begun : Bool) → text_has_begun t ≡ begun → (part : Part) × MayHavePart s i w (reopen text name) part
       by true begun = (untouched, (t, there, begun))
       by false fresh = (failed None, (t, there, fresh))
 
@@ -411,7 +411,7 @@ module _ (plain : OwnEditsArePlain) (s : State) (i : ℕ) (d : SiteTexts) (w : S
       (shown_at selected.viewer shown.0 shown.1 shows)))
 
   told_text : {X : Type 0} (o : Option X) (task : X → Task) → ((x : X) → HasText s i (task x))
-      → HasText s i (with_value o task)
+      → HasText s i (task_with_value o task)
   told_text None task lemma_has_text = tt
   told_text (Some x) task lemma_has_text = lemma_has_text x
 

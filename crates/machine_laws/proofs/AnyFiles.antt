@@ -15,7 +15,7 @@ use Rattle.machine.specs.OnTexts.{CopiesText, CopiesTextShort, EditsNames, Edits
 use Rattle.machine.specs.OnTexts.{SettlesText, TakesText, TakesTextShort, UnpacksText, UnpacksTextShort}
 use Rattle.machine.specs.State.{AtText, IsDeskAt, Refuses, State}
 use Rattle.machine.specs.Tasks.{AtCaret, DoesTask, EditSteps, EditsAt, EditsShortAt, IfCaret, Searches, ShortTask}
-use Rattle.machine.specs.Tasks.{Writes, has_begun}
+use Rattle.machine.specs.Tasks.{Writes, text_has_begun}
 use Rattle.machine.specs.Windows.{Arranged, Caret, Screened, Window, arranged}
 use Rattle.machine.specs.declared.asked.Arrangement.TheVariants.{Close, Move, Open, Point, Scroll, Select}
 use Rattle.machine_laws.proofs.OneReply.{ComesTo}
@@ -92,7 +92,7 @@ module _ (now : Files) where
     task_over (arrange a) r new (free, does) = (free, arranged_over (arranged d w a) r new does)
     task_over (print v) r new (free, is, same) = (free, is, ap over same)
     task_over (keep form text name) r new (t, there, does) = (t, there, written_over _ _ name [] r new does)
-    task_over (reopen text name) r new (t, there, does) = (t, there, reopened_over (has_begun t) r new does)
+    task_over (reopen text name) r new (t, there, does) = (t, there, reopened_over (text_has_begun t) r new does)
 
     short_over : (t : Task) (r : Reply) (new : State) → ShortTask s i d w t untouched r new
         → ShortTask (over s) i d w t untouched r (over new)

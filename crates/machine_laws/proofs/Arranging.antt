@@ -22,9 +22,9 @@ use Rattle.texts.specs.Text.{IsAnchor, IsText}
 use Rattle.texts.specs.TextState.{TextState, shown_of}
 use Rattle.texts.proofs.Chars.{shown_are_chars}
 use Rattle.machine.specs.SiteTexts.{SiteTexts, IsTextOf}
-use Rattle.machine.specs.Windows.{Arranged, Caret, Pointed, Screened, Selected, Window, arranged, closed_at, has_room}
+use Rattle.machine.specs.Windows.{Arranged, Caret, Pointed, Screened, Selected, Window, arranged, closed_at, screen_has_room}
 use Rattle.machine.specs.Windows.{is_open, is_row_below, line_anchor, moved_to, opened_at, pointed, pointed_in, pointed_to}
-use Rattle.machine.specs.Windows.{scrolled_in, seats_with, selected_between, selected_by, selected_from, shown_by, text_of}
+use Rattle.machine.specs.Windows.{scrolled_in, seats_of_viewer, selected_between, selected_by, selected_from, shown_by, text_of}
 use Rattle.machine.specs.Windows.{track_of, viewer_with, window_of, with_next, with_track}
 use Rattle.machine.specs.declared.asked.Arrangement.{Arrangement}
 use Rattle.machine.specs.declared.asked.Arrangement.TheVariants.{Close, Move, Open, Point, Scroll, Select}
@@ -197,7 +197,7 @@ module _ (d : SiteTexts) (w : Screened) (are : (n : ℕ) (t : TextState) → IsT
 
   opened_leaves : (track : Track) (text : ℕ) (row : Option ℕ) → LeavesChars d (opened_at w track text row)
   opened_leaves track text row = cond_both (is_row_below w row) _ _ (LeavesChars d) (λ e. tt)
-      (λ e. cond_both (has_room w (seats_of w.tracks track) row) _ _ (LeavesChars d) (λ e. with_one_more) (λ e. tt))
+      (λ e. cond_both (screen_has_room w (seats_of w.tracks track) row) _ _ (LeavesChars d) (λ e. with_one_more) (λ e. tt))
     where
       more : (v : ℕ) (Has : List Operation → Type 0) → ShowsTextOf d w v Has
           → ShowsTextOf d (with_next w track (seats_of w.tracks track) text row) v Has
@@ -218,7 +218,7 @@ module _ (d : SiteTexts) (w : Screened) (are : (n : ℕ) (t : TextState) → IsT
 
   -- the screen without a viewer
   abbrev closed_screen : ℕ → Screened
-  closed_screen v = record (with_track w (track_of w v) (closed (seats_with w v) (seat_of (seats_with w v) v))) {
+  closed_screen v = record (with_track w (track_of w v) (closed (seats_of_viewer w v) (seat_of (seats_of_viewer w v) v))) {
     windows = without_viewer v w.windows;
     caret = option_and_then (λ (c : Caret). if c.viewer == v then None else Some c) w.caret;
     selected = option_and_then (λ (x : Selected). if x.viewer == v then None else Some x) w.selected;
@@ -266,7 +266,7 @@ module _ (d : SiteTexts) (w : Screened) (are : (n : ℕ) (t : TextState) → IsT
   moved_leaves : (v row : ℕ) → LeavesChars d (moved_to w v row)
   moved_leaves v row = cond_both (is_open w v) _ _ (LeavesChars d)
       (λ e. cond_both (nat_le w.tracks.height row) _ _ (LeavesChars d) (λ e. tt)
-      (λ e. cond_both (can_move (seats_with w v) (seat_of (seats_with w v) v) row) _ _ (LeavesChars d)
+      (λ e. cond_both (can_move (seats_of_viewer w v) (seat_of (seats_of_viewer w v) v) row) _ _ (LeavesChars d)
       (λ e. record { caret = has.caret; selection = has.selection; windows = has.windows }) (λ e. tt))) (λ e. tt)
 
   -- a viewer that is scrolled

@@ -12,7 +12,7 @@ use Rattle.std.proofs.lemmas.Str.Parse.{numerals_by_value, tells_all_ascii_digit
 use Rattle.operations.specs.Operation.{Operation}
 use Rattle.set_laws.specs.Fronts.{AreSites, front_of, of_site}
 use Rattle.texts.specs.TextState.{TextState}
-use Rattle.machine_laws.specs.Laws.{AreNumbered, FrontLinesDetermineFronts}
+use Rattle.machine_laws.specs.Laws.{FrontLinesDetermineFronts, HaveMessageNumbers}
 use Rattle.machine_laws.proofs.RisingSites.{here, there}
 use Rattle.machine.specs.Printing.{front_line, front_lines, waiting_line}
 
@@ -114,17 +114,17 @@ of_test : (b : Bool) (n bound : ℕ) → n < bound → 0 < bound → (if b then 
 of_test true n bound small some = small
 of_test false n bound small some = some
 
-numbered_rest : (op : Operation) (ops : List Operation) → AreNumbered (op ∷ ops) → AreNumbered ops
+numbered_rest : (op : Operation) (ops : List Operation) → HaveMessageNumbers (op ∷ ops) → HaveMessageNumbers ops
 numbered_rest op ops are k d within = are (suc k) d (omega arith)
 
-pub small_front : (ops : List Operation) (site : ℕ) → AreNumbered ops → front_of ops site < 2 ^ 32
+pub small_front : (ops : List Operation) (site : ℕ) → HaveMessageNumbers ops → front_of ops site < 2 ^ 32
 small_front [] site are = omega arith
 small_front (op ∷ ops) site are =
     let own = of_test (op.site == site) op.seq (2 ^ 32) (are 0 op (omega arith)).1 (omega arith) in
     omega (arith, own, small_front ops site (numbered_rest op ops are))
 
 -- a site that has operations is one of theirs
-small_site : (ops : List Operation) (site : ℕ) → AreNumbered ops → 0 < front_of ops site → site < 2 ^ 16
+small_site : (ops : List Operation) (site : ℕ) → HaveMessageNumbers ops → 0 < front_of ops site → site < 2 ^ 16
 small_site [] site are some = absurd (omega (arith, some))
 small_site (op ∷ ops) site are some = elim (cases_lt 0 (front_of ops site)) [
   | inl more ↦ small_site ops site (numbered_rest op ops are) more
@@ -137,7 +137,7 @@ small_site (op ∷ ops) site are some = elim (cases_lt 0 (front_of ops site)) [
         let of_other : of_site site (λ op. op.seq) op ≡ 0 = rw test refl in
         absurd (omega (arith, some, none, of_other))
 
-small_sites : (ops : List Operation) (sites : List ℕ) → AreNumbered ops → AreSites ops sites
+small_sites : (ops : List Operation) (sites : List ℕ) → HaveMessageNumbers ops → AreSites ops sites
     → AreSmall (front_of ops) sites
 small_sites ops sites numbered are s at =
     let site : s < 2 ^ 16 = small_site ops s numbered ((are.all s).0 at) in

@@ -34,7 +34,7 @@ use Rattle.machine.specs.OnTexts.{Prints, SettlesText, TakesText, TakesTextShort
 use Rattle.machine.specs.State.{AtText, IsDeskAt, IsTextAt, Refuses, State, Tells}
 use Rattle.machine.specs.Tasks.{AtCaret, BeginsAs, BeginsWith, DoesTask, EditSteps, EditsAt, EditsShortAt, FileBecomes}
 use Rattle.machine.specs.Tasks.{Forgets, IfCaret, Loads, LoadsShort, Reopens, ReopensShort, Searches, ShortTask, Writes}
-use Rattle.machine.specs.Tasks.{caret_after, has_begun, lines_of_view}
+use Rattle.machine.specs.Tasks.{caret_after, lines_of_view, text_has_begun}
 use Rattle.machine.specs.Windows.{Arranged, Caret, Screened, Window, arranged, place_in, window_of}
 use Rattle.machine.specs.declared.asked.Arrangement.{Arrangement}
 use Rattle.machine.specs.declared.asked.Arrangement.TheVariants.{Close, Move, Open, Point, Scroll, Select}
@@ -253,13 +253,13 @@ module _ (s : State) (i : ℕ) (d : SiteTexts) (w : Screened) (at : IsDeskAt s i
       became name left r ((refuses WriteFault)) new is refl now
 
   -- a text in which nothing was done begins anew
-  module _ (text : ℕ) (t : TextState) (there : IsTextAt s i text t) (fresh : has_begun t ≡ false) where
+  module _ (text : ℕ) (t : TextState) (there : IsTextAt s i text t) (fresh : text_has_begun t ≡ false) where
     begins_with : (ops : List Operation) (r : Reply) (new : State) → All HasSpelling ops
         → BeginsWith s i text ops r new → Goes s r new
     begins_with ops r new spelled (does, is) = silent_goes (λ t u. HasTakenAll (empty_text t.text t.site) ops u) s new i text r
         (λ u v here taken.
         let same : t ≡ u = lemma_one_text s i text t u there here in
-        (begins ops spelled (subst (λ (x : TextState). has_begun x ≡ false) same fresh, taken), ap messages_of is)) does
+        (begins ops spelled (subst (λ (x : TextState). text_has_begun x ≡ false) same fresh, taken), ap messages_of is)) does
 
     begins_as : (file : List ℕ) (r : Reply) (new : State) → BeginsAs s i text t file r new → Goes s r new
     begins_as file r new (inl (none, refused)) = refused_goes s new BadFile r refused
@@ -317,7 +317,7 @@ module _ (s : State) (i : ℕ) (d : SiteTexts) (w : Screened) (at : IsDeskAt s i
   task_goes (arrange a) part r new does = arranges a (arranged d w a) r new refl does.1
   task_goes (print v) part r new (free, is, is_new) = same_goes s new r (prints (lines_of_view d w v)) is refl is_new
   task_goes (keep form text name) part r new (t, there, does) = written _ _ name _ part r new does
-  task_goes (reopen text name) part r new (t, there, does) = elim (by_test (has_begun t) _ _ does) [
+  task_goes (reopen text name) part r new (t, there, does) = elim (by_test (text_has_begun t) _ _ does) [
     | inl begun ↦ refused_goes s new Conflict r begun.1.1
     | inr fresh ↦ reopened text t there fresh.0 name part r new fresh.1
   ]

@@ -53,7 +53,7 @@ use Rattle.machine_laws.proofs.Going.{replies_go, settles_so, takes, takes_short
 use Rattle.machine_laws.proofs.Reaching.{set_cases}
 use Rattle.machine_laws.proofs.Reopening.{Begins}
 use Rattle.machine_laws.proofs.Unpacking.{unpacking_keeps, unpacking_short_keeps}
-use Rattle.machine_laws.specs.Laws.{AreNumbered, Reached, WhatIsReachedIsNumbered, begins, goes_on}
+use Rattle.machine_laws.specs.Laws.{HaveMessageNumbers, Reached, WhatIsReachedIsNumbered, begins, goes_on}
 use Rattle.machine_laws.specs.Laws.{others_write}
 
 -- an operation whose site and seq fit
@@ -63,22 +63,22 @@ IsNumbered op = (op.site < 2 ^ 16) × (op.seq < 2 ^ 32)
 -- the text's own site fits, and so do the operations taken in and those that wait
 record HasNumbers (t : TextState) : Type 0 where
   site : t.site < 2 ^ 16
-  taken : AreNumbered t.operations
-  waits : AreNumbered t.waiting_room
+  taken : HaveMessageNumbers t.operations
+  waits : HaveMessageNumbers t.waiting_room
 
-one : (op : Operation) → IsNumbered op → AreNumbered (op ∷ [])
+one : (op : Operation) → IsNumbered op → HaveMessageNumbers (op ∷ [])
 one op is zero d within = is
 one op is (suc k) d within = absurd (omega (arith, within))
 
-first_of_all : (op : Operation) (ops : List Operation) → AreNumbered (op ∷ ops) → IsNumbered op
+first_of_all : (op : Operation) (ops : List Operation) → HaveMessageNumbers (op ∷ ops) → IsNumbered op
 first_of_all op ops all = all 0 op (omega arith)
 
-rest_of_all : (op : Operation) (ops : List Operation) → AreNumbered (op ∷ ops) → AreNumbered ops
+rest_of_all : (op : Operation) (ops : List Operation) → HaveMessageNumbers (op ∷ ops) → HaveMessageNumbers ops
 rest_of_all op ops all k d within = all (suc k) d (omega arith)
 
 -- where one is taken out of the room, the others stay
-cut_out : (earlier later : List Operation) (op : Operation) → AreNumbered (earlier ++ op ∷ later)
-    → IsNumbered op × AreNumbered (earlier ++ later)
+cut_out : (earlier later : List Operation) (op : Operation) → HaveMessageNumbers (earlier ++ op ∷ later)
+    → IsNumbered op × HaveMessageNumbers (earlier ++ later)
 cut_out [] later op all = (first_of_all op later all, rest_of_all op later all)
 cut_out (a ∷ earlier) later op all =
     let rest = cut_out earlier later op (rest_of_all a (earlier ++ op ∷ later) all) in
@@ -86,7 +86,7 @@ cut_out (a ∷ earlier) later op all =
     (rest.0, All-append IsNumbered (a ∷ []) (earlier ++ later) first rest.1)
 
 -- operations more
-grown_by : (t : TextState) (ops : List Operation) (new : TextState) → AreNumbered ops → HasTakenAll t ops new
+grown_by : (t : TextState) (ops : List Operation) (new : TextState) → HaveMessageNumbers ops → HasTakenAll t ops new
     → HasNumbers t → HasNumbers new
 grown_by t ops new more has is = subst HasNumbers (sym has.grown) (record {
   site = is.site;
@@ -94,18 +94,18 @@ grown_by t ops new more has is = subst HasNumbers (sym has.grown) (record {
   waits = is.waits;
 })
 
-in_room : (t : TextState) (room : List Operation) → AreNumbered room → HasNumbers t → HasNumbers (with_room t room)
+in_room : (t : TextState) (room : List Operation) → HaveMessageNumbers room → HasNumbers t → HasNumbers (with_room t room)
 in_room t room all is = record { site = is.site; taken = is.taken; waits = all }
 
 drained : {t new : TextState} {n m : ℕ} {stopped : Bool} → Drains t n m stopped new → HasNumbers t → HasNumbers new
 drained (ends stay) is = is
 drained (stops earlier later op next ready) is = is
 drained {t} (takes_in {with_op = with_op} earlier later op next ready has drains) is =
-    let parts = cut_out earlier later op (subst AreNumbered next.room is.waits) in
+    let parts = cut_out earlier later op (subst HaveMessageNumbers next.room is.waits) in
     drained drains (grown_by (with_room t (earlier ++ later)) (op ∷ []) with_op (one op parts.0) has
     (in_room t (earlier ++ later) parts.1 is))
 drained {t} (throws_away earlier later op next thrown drains) is =
-    drained drains (in_room t (earlier ++ later) (cut_out earlier later op (subst AreNumbered next.room is.waits)).1 is)
+    drained drains (in_room t (earlier ++ later) (cut_out earlier later op (subst HaveMessageNumbers next.room is.waits)).1 is)
 
 -- a message's operation fits
 
@@ -172,7 +172,7 @@ op_goes true t new op result valid (inr (has, inr stays)) is = subst HasNumbers 
 
 -- a merge takes what the other text has
 
-news_fit : (t other : TextState) → HasNumbers other → AreNumbered (news t other)
+news_fit : (t other : TextState) → HasNumbers other → HaveMessageNumbers (news t other)
 news_fit t other fits = All-filter (is_past_front t) IsNumbered other.operations fits.taken
 
 merges_text : (other : TextState) (r : Reply) (t new : TextState) → HasNumbers other → MergesText other r t new

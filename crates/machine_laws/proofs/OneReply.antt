@@ -42,7 +42,7 @@ use Rattle.machine.specs.Machine.{Does, Short}
 use Rattle.machine.specs.State.{AtText, IsDeskAt, IsTextAt, Refuses, State, Tells, with_screen_at}
 use Rattle.machine.specs.Tasks.{AtCaret, BeginsAs, BeginsWith, DoesTask, EditSteps, EditsAt, EditsShortAt, FileBecomes}
 use Rattle.machine.specs.Tasks.{Forgets, IfCaret, IsFirstFrom, Keeps, Loads, LoadsShort, Reopens, ReopensShort, Searches}
-use Rattle.machine.specs.Tasks.{ShortTask, Stores, WithCaret, Writes, caret_after, has_begun}
+use Rattle.machine.specs.Tasks.{ShortTask, Stores, WithCaret, Writes, caret_after, text_has_begun}
 use Rattle.machine.specs.Windows.{Arranged, Caret, Marked, Screened, Window, arranged, bytes_shown, marked, place_in}
 use Rattle.machine.specs.Windows.{shown_by, text_of, window_of}
 use Rattle.machine.specs.declared.asked.Arrangement.TheVariants.{Close, Move, Open, Point, Scroll, Select}
@@ -265,9 +265,9 @@ ReopensBy s i text t name part begun r new =
     MatchBool begun ((part ≡ untouched) × Refuses s Conflict r new) (Reopens s i text t name part r new)
 
 reopens_by : OneKept → (s : State) (i text : ℕ) (t : TextState) (name : List ℕ) (part : Part) (r r' : Reply)
-    (new new' : State) → ReopensBy s i text t name part (has_begun t) r new
-    → ReopensBy s i text t name part (has_begun t) r' new' → AreSame r r' new new'
-reopens_by kept_so s i text t name part r r' new new' = by_case (has_begun t) _ _ _ _ _
+    (new new' : State) → ReopensBy s i text t name part (text_has_begun t) r new
+    → ReopensBy s i text t name part (text_has_begun t) r' new' → AreSame r r' new new'
+reopens_by kept_so s i text t name part r r' new new' = by_case (text_has_begun t) _ _ _ _ _
     (λ a b. refuses_one s Conflict r r' new new' a.1 b.1) (reopens kept_so s i text t name part r r' new new')
 
 reopens_short : (s : State) (name : List ℕ) (part : Part) (r r' : Reply) (new new' : State)
@@ -323,7 +323,7 @@ tasks file_so kept_so s i d w (keep form text name) part r r' new new' one (t, t
     (lemma_one_text s i text t' t there' there) b)
 tasks file_so kept_so s i d w (reopen text name) part r r' new new' one (t, there, a) (t', there', b) =
     reopens_by kept_so s i text t name part r r' new new' a
-    (subst (λ (x : TextState). ReopensBy s i text x name part (has_begun x) r' new')
+    (subst (λ (x : TextState). ReopensBy s i text x name part (text_has_begun x) r' new')
     (lemma_one_text s i text t' t there' there) b)
 
 -- a click's task

@@ -25,7 +25,7 @@ use Rattle.machine_laws.proofs.Going.{PlaceGoes, ScreensGo, by_arranging, by_car
 use Rattle.machine_laws.proofs.OneOfTexts.{one_element}
 use Rattle.machine_laws.proofs.OneReply.{shown_parts}
 use Rattle.machine_laws.proofs.Reaching.{new_are_texts, new_desks, new_texts, set_old}
-use Rattle.machine_laws.specs.Laws.{HaveTold, IsSound, ShowsTextOf, StandsByChars, WhatARunReachesIsSound, begins}
+use Rattle.machine_laws.specs.Laws.{HaveTold, IsSoundState, ShowsTextOf, StandsByChars, WhatARunReachesIsSound, begins}
 use Rattle.machine_laws.specs.Laws.{goes_on, others_write}
 
 -- screens of texts that follow
@@ -68,18 +68,18 @@ module _ (d d' : SiteTexts) (w : Screened) (sound : HasSoundTexts d) (follow : S
         (has.windows v (shown.0, t) (shows_so d w v shown.0 t at there_t));
   }
 
-sound_at : (s : State) (i : ℕ) (d : SiteTexts) → IsSound s → slice_get s.desks i ≡ Some d → HasSoundTexts d
+sound_at : (s : State) (i : ℕ) (d : SiteTexts) → IsSoundState s → slice_get s.desks i ≡ Some d → HasSoundTexts d
 sound_at s i d sound at n t there = (sound.texts i n t (d, at, there), sound.told i n t (d, at, there))
 
 -- a desk has as many texts as before
-desks_followed : (s new : State) → IsSound s → StateFollows s new → (i : ℕ) (d : SiteTexts)
+desks_followed : (s new : State) → IsSoundState s → StateFollows s new → (i : ℕ) (d : SiteTexts)
     → slice_get new.desks i ≡ Some d → length d.texts ≡ MAX_TEXT
 desks_followed s new sound follow i d' at' =
     let (d, at, goes) = follow i d' at' in
     goes.2 ∙ sound.desks i d at
 
 -- where no screen changes
-sound_texts : (s new : State) → IsSound s → StateFollows s new → new.screens ≡ s.screens → IsSound new
+sound_texts : (s new : State) → IsSoundState s → StateFollows s new → new.screens ≡ s.screens → IsSoundState new
 sound_texts s new sound follow same = record {
   desks = desks_followed s new sound follow;
   texts = texts_follow s new follow sound.texts sound.told;
@@ -93,9 +93,9 @@ sound_texts s new sound follow same = record {
 }
 
 -- where one does
-sound_screen : (s new : State) (i : ℕ) (d : SiteTexts) (w w' : Screened) → IsSound s → StateFollows s new
+sound_screen : (s new : State) (i : ℕ) (d : SiteTexts) (w w' : Screened) → IsSoundState s → StateFollows s new
     → new.screens ≡ slice_set s.screens i w' → IsDeskAt s i d w
-    → ((d' : SiteTexts) → slice_get new.desks i ≡ Some d' → SiteFollows d d' → StandsByChars d' w') → IsSound new
+    → ((d' : SiteTexts) → slice_get new.desks i ≡ Some d' → SiteFollows d d' → StandsByChars d' w') → IsSoundState new
 sound_screen s new i d w w' sound follow same at has = record {
   desks = desks_followed s new sound follow;
   texts = texts_follow s new follow sound.texts sound.told;
@@ -132,7 +132,7 @@ caret_stands d w c window t anchor is is_c shows goes has =
     (one_element (window_of d w c.viewer) x (window, t) shows_x shows) stood in
     caret_set d w (record c { anchor = anchor }) ((window, t), shows, place_stands t c.anchor anchor is goes old) has
 
-screens_go : (s new : State) → IsSound s → StateFollows s new → ScreensGo s new → IsSound new
+screens_go : (s new : State) → IsSoundState s → StateFollows s new → ScreensGo s new → IsSoundState new
 screens_go s new sound follow (no_screen same) = sound_texts s new sound follow same
 screens_go s new sound follow (by_arranging i d w a out at is texts same) =
     let leaves : StandsByChars d out.0 = subst (LeavesChars d) is
@@ -171,7 +171,7 @@ new_told first count width height files i text t there =
     subst (λ (x : TextState). x.asked ≡ length x.operations) is refl
 
 -- what is sound doesn't hang on the files
-over_other_files : (s : State) (now : Files) → IsSound s → IsSound (record s { files = now })
+over_other_files : (s : State) (now : Files) → IsSoundState s → IsSoundState (record s { files = now })
 over_other_files s now sound = record {
   desks = sound.desks;
   texts = sound.texts;
@@ -180,7 +180,7 @@ over_other_files s now sound = record {
 }
 
 module _ (plain : OwnEditsArePlain) (good : Good []) (none : AreIdentified []) (order : OneWriterGoesAfterCauses) where
-  new_sound : (first count width height : ℕ) (files : Files) → IsSound (new_state first count width height files)
+  new_sound : (first count width height : ℕ) (files : Files) → IsSoundState (new_state first count width height files)
   new_sound first count width height files = record {
     desks = new_desks first count width height files;
     texts = new_are_texts good none order first count width height files;

@@ -11,14 +11,14 @@ use Rattle.set_laws.specs.Sets.{AreIdentified, IsPartOf}
 use Rattle.set_laws.proofs.Closing.{nothing_is_identified}
 use Rattle.texts.specs.SiteFiles.{HasSiteFile}
 use Rattle.texts.specs.Taking.{HasTakenAll}
-use Rattle.texts.specs.TextState.{TextState, empty_text, state_of}
+use Rattle.texts.specs.TextState.{TextState, empty_text, text_state_of}
 use Rattle.texts.proofs.Chars.{has_chars, one_chars}
-use Rattle.machine.specs.Tasks.{has_begun}
+use Rattle.machine.specs.Tasks.{text_has_begun}
 use Rattle.machine_laws.proofs.Reaching.{no_name}
 
 -- in this text nothing was done yet, and it begins anew with these operations
 abbrev pub Begins : List Operation → TextState → TextState → Type 0
-Begins ops t u = (has_begun t ≡ false) × HasTakenAll (empty_text t.text t.site) ops u
+Begins ops t u = (text_has_begun t ≡ false) × HasTakenAll (empty_text t.text t.site) ops u
 
 -- operations that a message tells, which are good, have identities
 spelled_identified : (ops : List Operation) → Good ops → All HasSpelling ops → AreIdentified ops
@@ -33,7 +33,7 @@ pub some_begun : (text site : ℕ) (ops : List Operation) → HasSiteFile text s
 some_begun text site ops has =
     let good : Good ops = subst Good (take-length ops) (has.in_order (length ops)) in
     let (chars, are) = has_chars ops good in (
-      state_of text site ops chars [] [] [] 0,
+      text_state_of text site ops chars [] [] [] 0,
       record {
         is = record {
           good = good;
@@ -60,5 +60,5 @@ one_begun t u u' ops taken taken' =
     taken.grown ∙ ap (λ (x : List Char). record t { operations = all; order = x }) order ∙ sym taken'.grown
 
 -- a text in which nothing was done holds nothing
-pub held_nothing : (t : TextState) (ops : List Operation) → has_begun t ≡ false → IsPartOf t.operations ops
+pub held_nothing : (t : TextState) (ops : List Operation) → text_has_begun t ≡ false → IsPartOf t.operations ops
 held_nothing t ops fresh op (k, within, is) = absurd (grind (arith, fresh, within))

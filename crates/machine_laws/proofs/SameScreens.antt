@@ -16,7 +16,7 @@ use Rattle.operations.specs.Operation.{Operation, key_of}
 use Rattle.tree_order.specs.Laws.{AreSameSet}
 use Rattle.tree_order.specs.Shown.{deletes_by, hides, is_visible, restores_by, up_to}
 use Rattle.tree_order.proofs.ShownLemmas.{any_agree}
-use Rattle.texts.specs.Laws.{AreAlike, OperationsDetermineTheText}
+use Rattle.texts.specs.Laws.{AreTextsAlike, OperationsDetermineTheText}
 use Rattle.texts.specs.Text.{IsText}
 use Rattle.texts.specs.TextState.{TextState}
 use Rattle.viewers.specs.Screen.{user_width}
@@ -74,7 +74,7 @@ look_alike tell t u is_t is_u same = record {
   before = λ c k. places (At c) k - (if visible k c then 1 else 0);
 }
   where
-    alike : AreAlike t u
+    alike : AreTextsAlike t u
     alike = tell t u is_t is_u same
 
     visible : is_visible t.operations ≡ is_visible u.operations

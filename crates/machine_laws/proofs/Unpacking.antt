@@ -18,7 +18,7 @@ use Rattle.texts.specs.Text.{IsText}
 use Rattle.texts.specs.TextState.{TextState}
 use Rattle.texts.specs.declared.took.Took.{Took}
 use Rattle.text_chunks.proofs.Messages.{message_of_op}
-use Rattle.text_chunks.specs.Unpacking.{HandsIn, HandsInAll, StaysWhole, TakesOpSo, Unpacks, UnpacksShort, counted, nothing_unpacked, refusal_after}
+use Rattle.text_chunks.specs.Unpacking.{HandsIn, HandsInAll, StaysWhole, TakesOpSo, Unpacks, UnpacksShort, counted_in, nothing_unpacked, refusal_after}
 use Rattle.text_chunks.specs.declared.unpacked.UnpackRefusal.{UnpackRefusal}
 use Rattle.text_chunks.specs.declared.unpacked.UnpackRefusal.TheVariants.{Whole, Partial}
 use Rattle.text_chunks.specs.declared.unpacked.Unpacked.{Unpacked}
@@ -51,7 +51,7 @@ module _ (P : TextState → Type 0)
       → HandsIn done c was t ops short result new → P t → P new
   handing_keeps done c was t [] short result new spelled (is_short, is, same) has = subst P (sym same) has
   handing_keeps done c was t (op ∷ ops) short result new spelled (one, Ok how, mid, takes, goes) has =
-      handing_keeps (done + 1) (counted c t mid how) (was || one) mid ops short result new (All-tail HasSpelling op ops spelled)
+      handing_keeps (done + 1) (counted_in c t mid how) (was || one) mid ops short result new (All-tail HasSpelling op ops spelled)
       goes (step one t mid op (Ok how) (All-head HasSpelling op ops spelled) takes has)
   handing_keeps done c was t (op ∷ ops) short result new spelled (one, Err why, mid, takes, goes) has =
       subst P (sym goes.2) (step one t mid op (Err why) (All-head HasSpelling op ops spelled) takes has)
@@ -114,7 +114,7 @@ stays_short : (done : ℕ) (c : Unpacked) (t : TextState) (ops : List Operation)
     (new : TextState) → HandsIn done c true t ops false result new → ⊥
 stays_short done c t [] result new (is_short, is, same) = absurd cc
 stays_short done c t (op ∷ ops) result new (one, Ok how, mid, takes, goes) =
-    stays_short (done + 1) (counted c t mid how) mid ops result new goes
+    stays_short (done + 1) (counted_in c t mid how) mid ops result new goes
 stays_short done c t (op ∷ ops) result new (one, Err why, mid, takes, goes) =
     let is_short = goes.0 in absurd cc
 
@@ -122,7 +122,7 @@ stays_short done c t (op ∷ ops) result new (one, Err why, mid, takes, goes) =
 abbrev GoesOn : (done : ℕ) → Unpacked → (t mid : TextState) → List Operation → Result Took Refusal
     → Result Unpacked UnpackRefusal → TextState → Type 0
 GoesOn done c t mid ops took result new =
-    MatchResult took (λ how. HandsIn (done + 1) (counted c t mid how) false mid ops false result new)
+    MatchResult took (λ how. HandsIn (done + 1) (counted_in c t mid how) false mid ops false result new)
     (λ why. (false ≡ false) × (result ≡ Err (refusal_after done why)) × (new ≡ mid))
 
 answered_so : (done : ℕ) (c : Unpacked) (t : TextState) (ops : List Operation) (mid mid' : TextState)
@@ -138,11 +138,11 @@ module _ (takes_so : TakesOneWay) where
       → HandsIn done c false t ops false result' new' → (result ≡ result') × (new ≡ new')
   one_handing done c t [] result result' new new' is spelled a b = (a.1 ∙ sym b.1, a.2 ∙ sym b.2)
   one_handing done c t (op ∷ ops) result result' new new' is spelled (true, Ok how, mid, takes, goes) b =
-      absurd (stays_short (done + 1) (counted c t mid how) mid ops result new goes)
+      absurd (stays_short (done + 1) (counted_in c t mid how) mid ops result new goes)
   one_handing done c t (op ∷ ops) result result' new new' is spelled (true, Err why, mid, takes, goes) b =
       let is_short = goes.0 in absurd cc
   one_handing done c t (op ∷ ops) result result' new new' is spelled a (true, Ok how, mid, takes, goes) =
-      absurd (stays_short (done + 1) (counted c t mid how) mid ops result' new' goes)
+      absurd (stays_short (done + 1) (counted_in c t mid how) mid ops result' new' goes)
   one_handing done c t (op ∷ ops) result result' new new' is spelled a (true, Err why, mid, takes, goes) =
       let is_short = goes.0 in absurd cc
   one_handing done c t (op ∷ ops) result result' new new' is spelled (false, Ok how, mid, takes, goes)
@@ -150,7 +150,7 @@ module _ (takes_so : TakesOneWay) where
       let valid = All-head HasSpelling op ops spelled in
       let same = takes_so.whole t mid' mid (spelling op) took' (Ok how) is (message_of_op t mid' op took' valid takes')
       (message_of_op t mid op (Ok how) valid takes) in
-      one_handing (done + 1) (counted c t mid how) mid ops result result' new new'
+      one_handing (done + 1) (counted_in c t mid how) mid ops result result' new new'
       (op_grows false t mid op (Ok how) valid takes is).is (All-tail HasSpelling op ops spelled) goes
       (answered_so done c t ops mid mid' took' (Ok how) result' new' same.0 same.1 goes')
   one_handing done c t (op ∷ ops) result result' new new' is spelled (false, Err why, mid, takes, goes)
@@ -198,7 +198,7 @@ later_is_partial : (done : ℕ) (c : Unpacked) (was : Bool) (t : TextState) (ops
     (new : TextState) → HandsIn (done + 1) c was t ops short (Err (Whole why)) new → ⊥
 later_is_partial done c was t [] short why new (is_short, is, same) = absurd cc
 later_is_partial done c was t (op ∷ ops) short why new (one, Ok how, mid, takes, goes) =
-    later_is_partial (done + 1) (counted c t mid how) (was || one) mid ops short why new goes
+    later_is_partial (done + 1) (counted_in c t mid how) (was || one) mid ops short why new goes
 later_is_partial done c was t (op ∷ ops) short why new (one, Err why', mid, takes, goes) =
     let same = goes.1 in
     let later : ((done + 1) == 0) ≡ false = ne_eqb (done + 1) 0 (omega arith) in
@@ -215,7 +215,7 @@ first_refused : (t : TextState) (ops : List Operation) (why : Refusal) (new : Te
     → HandsInAll t ops true (Err (Whole why)) new → (why ≡ OutOfMemory) × (new ≡ t)
 first_refused t [] why new (is_short, is, same) = absurd cc
 first_refused t (op ∷ ops) why new (one, Ok how, mid, takes, goes) =
-    absurd (later_is_partial 0 (counted nothing_unpacked t mid how) (false || one) mid ops true why new goes)
+    absurd (later_is_partial 0 (counted_in nothing_unpacked t mid how) (false || one) mid ops true why new goes)
 first_refused t (op ∷ ops) why new (true, Err why', mid, takes, goes) =
     let stayed = short_op t mid op why' takes in
     let same : why ≡ why' = let is = goes.1 in cc in

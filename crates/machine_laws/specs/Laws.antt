@@ -25,7 +25,7 @@ use Rattle.machine.specs.Events.{settles, stops, store, takes, untouched, went_w
 use Rattle.machine.specs.Machine.{Does, Replies, Short}
 use Rattle.machine.specs.OnTexts.{EditsText, EditsTextShort, Prints, QueriesText}
 use Rattle.machine.specs.State.{IsDeskAt, IsTextAt, State, new_state}
-use Rattle.machine.specs.Tasks.{caret_after, has_begun, lines_of_view}
+use Rattle.machine.specs.Tasks.{caret_after, lines_of_view, text_has_begun}
 use Rattle.machine.specs.Windows.{Caret, Screened, Selected, Window, window_of}
 use Rattle.machine.specs.declared.asked.Query.{Query}
 use Rattle.machine.specs.declared.asked.Query.TheVariants.{Front, Pack, Since}
@@ -75,14 +75,14 @@ FrontsDetermineWhatIsPrinted =
     → HaveEqualFronts t.operations u.operations → AnswerTheSame t u
 
 -- the sites and the seqs are numbers that a message has places for
-abbrev pub AreNumbered : List Operation → Type 0
-AreNumbered ops = All (λ op. (op.site < 2 ^ 16) × (op.seq < 2 ^ 32)) ops
+abbrev pub HaveMessageNumbers : List Operation → Type 0
+HaveMessageNumbers ops = All (λ op. (op.site < 2 ^ 16) × (op.seq < 2 ^ 32)) ops
 
 -- what a run of sites below 2^16 comes to is numbered so
 abbrev pub WhatIsReachedIsNumbered : Type 0
 WhatIsReachedIsNumbered =
     (first count width height : ℕ) (files : Files) (s : State) (i text : ℕ) (t : TextState) → first + count ≤ 2 ^ 16
-    → Reached first count width height files s → IsTextAt s i text t → AreNumbered t.operations
+    → Reached first count width height files s → IsTextAt s i text t → HaveMessageNumbers t.operations
 
 -- the answer to `front` of a text: these lines of its fronts, and then how many operations wait
 abbrev pub PrintsFronts : TextState → List ℕ → Type 0
@@ -90,7 +90,7 @@ PrintsFronts t lines = Prints Front t (lines ++ waiting_line (length t.waiting_r
 
 -- texts whose lines of fronts are the same, byte for byte, have equal fronts, however many operations wait
 abbrev pub FrontLinesDetermineFronts : Type 0
-FrontLinesDetermineFronts = (t u : TextState) (lines : List ℕ) → AreNumbered t.operations → AreNumbered u.operations
+FrontLinesDetermineFronts = (t u : TextState) (lines : List ℕ) → HaveMessageNumbers t.operations → HaveMessageNumbers u.operations
     → PrintsFronts t lines → PrintsFronts u lines → HaveEqualFronts t.operations u.operations
 
 -- What two replies tell of refused memory is one: the same shape, with the same counts. The counts of an unpacking don't tell to
@@ -197,24 +197,24 @@ MayHavePart s i w (keep form text name) untouched =
 MayHavePart s i w (keep form text name) part =
     (t : TextState) × IsTextAt s i text t × (length t.operations ≤ most_kept form)
 MayHavePart s i w (reopen text name) untouched =
-    (t : TextState) × IsTextAt s i text t × IsTrue (has_begun t)
+    (t : TextState) × IsTextAt s i text t × IsTrue (text_has_begun t)
 MayHavePart s i w (reopen text name) went_well =
-    ((t : TextState) × IsTextAt s i text t × IsFalse (has_begun t)) × IsKeptFileThere s name
+    ((t : TextState) × IsTextAt s i text t × IsFalse (text_has_begun t)) × IsKeptFileThere s name
 MayHavePart s i w (reopen text name) (failed left) =
-    (t : TextState) × IsTextAt s i text t × IsFalse (has_begun t)
+    (t : TextState) × IsTextAt s i text t × IsFalse (text_has_begun t)
 MayHavePart s i w t part = part ≡ untouched
 
 -- an event is answered where memory is there, with this part of the files
-abbrev pub IsAnswered : State → Event → Part → Type 0
-IsAnswered s e part = (r : Reply) × (new : State) × Does s e part r new
+abbrev pub IsEventAnswered : State → Event → Part → Type 0
+IsEventAnswered s e part = (r : Reply) × (new : State) × Does s e part r new
 
 -- At a desk each task whose text is there has a part of the files that may be, and is answered with each such part; and so
 -- is each click, by the task of its cell.
 pub record AnswersAll (s : State) (i : ℕ) (d : SiteTexts) (w : Screened) : Type 0 where
   pub parts : (t : Task) → HasText s i t → (part : Part) × MayHavePart s i w t part
-  pub tasks : (t : Task) (part : Part) → HasText s i t → MayHavePart s i w t part → IsAnswered s (ask i t) part
+  pub tasks : (t : Task) (part : Part) → HasText s i t → MayHavePart s i w t part → IsEventAnswered s (ask i t) part
   pub clicks : (col row : ℕ) → (t : Task) × IsTaskAt d w col row t × HasText s i t
-      × ((part : Part) → MayHavePart s i w t part → IsAnswered s (click i col row) part)
+      × ((part : Part) → MayHavePart s i w t part → IsEventAnswered s (click i col row) part)
 
 -- so it is at each desk whose caret has a text, in each state whose texts are what their operations define
 abbrev pub EachTaskIsAnswered : Type 0
@@ -237,7 +237,7 @@ pub record StandsByChars (d : SiteTexts) (w : Screened) : Type 0 where
 
 -- each desk has a text of each number; each text is what its operations define and has told its changes; and all that each
 -- screen points at are its characters
-pub record IsSound (s : State) : Type 0 where
+pub record IsSoundState (s : State) : Type 0 where
   pub desks : (i : ℕ) (d : SiteTexts) → slice_get s.desks i ≡ Some d → length d.texts ≡ MAX_TEXT
   pub texts : AreTexts s
   pub told : HaveTold s
@@ -246,7 +246,7 @@ pub record IsSound (s : State) : Type 0 where
 -- so it is whatever a run does
 abbrev pub WhatARunReachesIsSound : Type 0
 WhatARunReachesIsSound = (first count width height : ℕ) (files : Files) (s : State)
-    → Reached first count width height files s → IsSound s
+    → Reached first count width height files s → IsSoundState s
 
 -- Two desks have equally many texts, and those of one number, each what its operations define, have taken in the same
 -- operations, in whatever order.

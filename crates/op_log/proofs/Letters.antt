@@ -14,7 +14,7 @@ use Rattle.operations.specs.declared.typing.Typing.{Typing}
 use Rattle.op_log.specs.declared.stretch.TypedRun.{TypedRun}
 use Rattle.op_log.specs.declared.stretch.Stretch.{Stretch}
 use Rattle.op_log.specs.declared.stretch.Stretch.TheVariants.{Typed}
-use Rattle.op_log.specs.Stretches.{AreStretches, EndsLast, GoesOn, IsThere, Shared, all_ops, anchor_of, cause_of, letter, ops_of, shared}
+use Rattle.op_log.specs.Stretches.{AreStretches, EndsLast, IsStretchThere, Shared, TypingGoesOn, all_ops, anchor_of, cause_of, letter_of_run, ops_of, shared}
 use Rattle.op_log.proofs.Stretches.{Extends, begun_ends, begun_ops, begun_there, is_letter, longer_all, longer_are, pushed_are, pushed_ops}
 
 -- a run of another length
@@ -22,8 +22,8 @@ abbrev pub with_len : TypedRun → ℕ → TypedRun
 with_len r n = record r { len = n }
 
 -- the next letter is that of the run
-pub next_letter : {looks : List Looks} {r : TypedRun} {n : ℕ} {t : Typing} → GoesOn looks r n t → (byte : ℕ)
-    → typed_letter t byte ≡ letter looks r n byte
+pub next_letter : {looks : List Looks} {r : TypedRun} {n : ℕ} {t : Typing} → TypingGoesOn looks r n t → (byte : ℕ)
+    → typed_letter t byte ≡ letter_of_run looks r n byte
 next_letter {looks} {r} {n} {t} on byte =
     is_letter (typed_letter t byte) looks r n byte on.text on.site on.seq on.stamp
     (ap (λ (a : Anchor). insert a t.at t.looks (byte ∷ [])) on.cause
@@ -36,8 +36,8 @@ named zero off some = absurd (omega (arith, some))
 named (suc site) off some = refl
 
 -- after its letter the site types on where the run is one longer
-goes_on_more : {looks : List Looks} {r : TypedRun} {n : ℕ} {t : Typing} → GoesOn looks r n t → 0 < t.site
-    → GoesOn looks r (suc n) (after_letter t)
+goes_on_more : {looks : List Looks} {r : TypedRun} {n : ℕ} {t : Typing} → TypingGoesOn looks r n t → 0 < t.site
+    → TypingGoesOn looks r (suc n) (after_letter t)
 goes_on_more {looks} {r} {n} {t} on some = record {
   text = on.text;
   site = on.site;
@@ -54,8 +54,8 @@ cause_alike r len zero = refl
 cause_alike r len (suc n) = refl
 
 -- how many letters the run has doesn't matter
-goes_on_alike : {looks : List Looks} {r : TypedRun} {n : ℕ} {t : Typing} → GoesOn looks r n t → (len : ℕ)
-    → GoesOn looks (with_len r len) n t
+goes_on_alike : {looks : List Looks} {r : TypedRun} {n : ℕ} {t : Typing} → TypingGoesOn looks r n t → (len : ℕ)
+    → TypingGoesOn looks (with_len r len) n t
 goes_on_alike {looks} {r} {n} {t} on len = record {
   text = on.text;
   site = on.site;
@@ -74,7 +74,7 @@ pub record Grown (s : Shared) (ops : List Operation) (bytes : List ℕ) (before 
 
 -- the last run, longer by letters that go on where it ends
 pub lengthened : (s : Shared) (before : List Stretch) (r : TypedRun) (firsts : List ℕ) (len : ℕ) (t : Typing) (more : List ℕ)
-    → AreStretches s (before ++ Typed r ∷ []) firsts len → GoesOn s.looks r r.len t → All HasSpelling (letters t more)
+    → AreStretches s (before ++ Typed r ∷ []) firsts len → TypingGoesOn s.looks r r.len t → All HasSpelling (letters t more)
     → (bytes : List ℕ) → bytes ≡ s.bytes ++ more → (n : ℕ) → n ≡ r.len + length more → (m : ℕ) → m ≡ len + length more
     → Grown s (all_ops s (before ++ Typed r ∷ [])) bytes before r n firsts m (letters t more)
 lengthened s before r firsts len t [] are on spelled bytes is n n_is m m_is =
@@ -88,12 +88,12 @@ lengthened s before r firsts len t [] are on spelled bytes is n n_is m m_is =
 lengthened s before r firsts len t (b ∷ more) are on spelled bytes is n n_is m m_is =
     let op : Operation = typed_letter t b in
     let own : HasSpelling op = All-head HasSpelling op (letters (after_letter t) more) spelled in
-    let next : op ≡ letter s.looks r r.len b = next_letter on b in
+    let next : op ≡ letter_of_run s.looks r r.len b = next_letter on b in
     let s' : Shared = shared (s.bytes ++ b ∷ []) s.looks s.singles in
     let r' : TypedRun = with_len r (r.len + 1) in
     let one : suc r.len ≡ r.len + 1 = omega arith in
-    let on' : GoesOn s.looks r' (r.len + 1) (after_letter t) =
-    subst (λ (k : ℕ). GoesOn s.looks r' k (after_letter t)) one (goes_on_alike (goes_on_more on own.site.0) (r.len + 1)) in
+    let on' : TypingGoesOn s.looks r' (r.len + 1) (after_letter t) =
+    subst (λ (k : ℕ). TypingGoesOn s.looks r' k (after_letter t)) one (goes_on_alike (goes_on_more on own.site.0) (r.len + 1)) in
     let rest = lengthened s' before r' firsts (len + 1) (after_letter t) more
     (longer_are s b op own before r firsts len are next) on'
     (All-tail HasSpelling op (letters (after_letter t) more) spelled) bytes (is ∙ sym (append_assoc s.bytes (b ∷ []) more)) n
@@ -110,7 +110,7 @@ lengthened s before r firsts len t (b ∷ more) are on spelled bytes is n n_is m
 -- a run that begins with letters
 pub begun : (s : Shared) (sts : List Stretch) (firsts : List ℕ) (len : ℕ) → AreStretches s sts firsts len
     → (looks added : List Looks) → looks ≡ s.looks ++ added → (r : TypedRun) → r.from ≡ length s.bytes → r.looks < length looks
-    → r.cause_off < 16777216 → (t : Typing) → GoesOn looks r 0 t → (more : List ℕ) → 0 < length more
+    → r.cause_off < 16777216 → (t : Typing) → TypingGoesOn looks r 0 t → (more : List ℕ) → 0 < length more
     → All HasSpelling (letters t more) → (bytes : List ℕ) → bytes ≡ s.bytes ++ more → r.len ≡ length more
     → Grown (shared s.bytes looks s.singles) (all_ops s sts) bytes sts r r.len (firsts ++ len ∷ []) (len + length more)
     (letters t more)
@@ -120,14 +120,14 @@ begun s sts firsts len are looks added grown r from there cause t on (b ∷ more
     let own : HasSpelling op = All-head HasSpelling op (letters (after_letter t) more) spelled in
     let r' : TypedRun = with_len r 1 in
     let s' : Shared = shared (s.bytes ++ b ∷ []) looks s.singles in
-    let on' : GoesOn looks r' 0 t = goes_on_alike on 1 in
-    let next : op ≡ letter looks r' 0 b = next_letter on' b in
+    let on' : TypingGoesOn looks r' 0 t = goes_on_alike on 1 in
+    let next : op ≡ letter_of_run looks r' 0 b = next_letter on' b in
     let grows : Extends s s' = record {
       bytes = (b ∷ [], refl);
       looks = (added, grown);
       singles = ([], sym (append-nil s.singles));
     } in
-    let there' : IsThere s' (Typed r') = begun_there s s' grows op r' b refl from refl there cause next in
+    let there' : IsStretchThere s' (Typed r') = begun_there s s' grows op r' b refl from refl there cause next in
     let ops : ops_of s' (Typed r') ≡ op ∷ [] = begun_ops s s' grows op r' b refl from refl there cause next in
     let ends : EndsLast s' (Typed r') = begun_ends s s' grows op r' b refl from refl there cause next in
     let count : length s'.bytes ≤ length s.bytes + 1 = omega (arith, length-append s.bytes (b ∷ [])) in

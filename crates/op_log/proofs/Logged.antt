@@ -16,7 +16,7 @@ use Rattle.set_laws.specs.Sets.{AreIdentified, AreHeldToTheFront}
 use Rattle.set_laws.proofs.Covered.{from_span, one_insert}
 use Rattle.set_laws.proofs.Lengths.{appended_by}
 use Rattle.op_log.specs.declared.site_log.Entry.{Entry}
-use Rattle.op_log.specs.Tables.{SiteSeen, Tables, table_of, end_of, IsFirstPast}
+use Rattle.op_log.specs.Tables.{SiteSeen, LogTables, log_table, entries_end, IsFirstPast}
 use Rattle.op_log.specs.Logged.{IsEntryOf, IsTableOf, AreLogged}
 use Rattle.op_log.proofs.Lists.{Contains-slice_get, slice_get-some}
 use Rattle.op_log.proofs.Files.{within_front, starts_empty}
@@ -47,10 +47,10 @@ module _ {ops : List Operation} (known : AreIdentified ops) {site : ℕ} {t : Si
   )
 
   -- the last entry tells how long the file is
-  ends_as_file : end_of t.entries ≡ file_len ops site
+  ends_as_file : entries_end t.entries ≡ file_len ops site
   ends_as_file = by_length (length t.entries) refl
     where
-      by_length : (n : ℕ) → length t.entries ≡ n → end_of t.entries ≡ file_len ops site
+      by_length : (n : ℕ) → length t.entries ≡ n → entries_end t.entries ≡ file_len ops site
       by_length zero is =
           let front = table.front in
           let none : slice_get t.entries (length t.entries - 1) ≡ None =
@@ -108,15 +108,15 @@ pub told_value : (ops : List Operation) (site seq : ℕ) (told : Option Entry) �
 told_value ops site seq (Some e) told = told
 told_value ops site seq None none = tt
 
-module _ {ops : List Operation} {tables : Tables} {stamp : ℕ} (logged : AreLogged ops tables stamp) where
+module _ {ops : List Operation} {tables : LogTables} {stamp : ℕ} (logged : AreLogged ops tables stamp) where
   -- what was answered by a table tells where the operation stands
   pub entry_tells : (site seq : ℕ) {found told : Option Entry} → found ≡ told → (seq ≡ 0 → found ≡ None)
-      → (0 < seq → found ≡ slice_get (table_of tables site).entries (seq - 1)) → Tells ops site seq told
+      → (0 < seq → found ≡ slice_get (log_table tables site).entries (seq - 1)) → Tells ops site seq told
   entry_tells site zero is none some =
       subst (Tells ops site 0) (sym (none refl) ∙ is) (λ h. let counted = logged.known.counted h.0 h.1 in
       let at = h.3 in omega arith)
   entry_tells site (suc k) {found} {told} is none some =
-      let t = table_of tables site in
+      let t = log_table tables site in
       let table = logged.by_site site in
       let front = table.front in
       let index : suc k - 1 ≡ k = omega arith in
@@ -138,14 +138,14 @@ module _ {ops : List Operation} {tables : Tables} {stamp : ℕ} (logged : AreLog
   lemma_are_held_to_the_front site seq = held_to_front logged.known (logged.by_site site) seq
 
   -- how long a site's file is
-  pub file_told : (site : ℕ) → end_of (table_of tables site).entries ≡ file_len ops site
+  pub file_told : (site : ℕ) → entries_end (log_table tables site).entries ≡ file_len ops site
   file_told site = ends_as_file logged.known (logged.by_site site)
 
-  pub table_rises : (site : ℕ) → IsNonDecreasingBy (λ (e : Entry). e.end) (table_of tables site).entries
+  pub table_rises : (site : ℕ) → IsNonDecreasingBy (λ (e : Entry). e.end) (log_table tables site).entries
   table_rises site = ends_rise logged.known (logged.by_site site)
 
   module _ (name : CharName) {e : Entry}
-      (first : IsFirstPast (table_of tables name.site).entries name.off e) where
+      (first : IsFirstPast (log_table tables name.site).entries name.off e) where
     -- the entry that was found tells where an operation of the name's site stands
     pub entry : IsEntryOf ops name.site (suc first.at) e
     entry = (logged.by_site name.site).entries first.at e first.there

@@ -17,7 +17,7 @@ use Rattle.set_laws.specs.Sets.{AreIdentified}
 use Rattle.set_laws.proofs.Lengths.{appended_by}
 use Rattle.set_laws.proofs.OneMore.{with_one, with_one_identified}
 use Rattle.op_log.specs.declared.site_log.Entry.{Entry}
-use Rattle.op_log.specs.Tables.{SiteSeen, Tables, end_of, table_of}
+use Rattle.op_log.specs.Tables.{LogTables, SiteSeen, entries_end, log_table}
 use Rattle.op_log.specs.Logged.{IsEntryOf, IsTableOf, AreLogged}
 use Rattle.set_laws.proofs.Counting.{greatest-push}
 use Rattle.op_log.proofs.Lists.{slice_get-append_left, slice_get-push, slice_get-push_cases}
@@ -33,8 +33,8 @@ fits_at_end site len (restore names) is begins low = omega arith
 fits_at_end site len (change_looks sel looks names) is begins low = omega arith
 
 -- so where a table tells how long the file is
-pub fits_by_table : {ops : List Operation} {tables : Tables} {stamp : ℕ} → AreLogged ops tables stamp
-    → (op : Operation) (site len : ℕ) → site ≡ op.site → len ≡ end_of (table_of tables site).entries
+pub fits_by_table : {ops : List Operation} {tables : LogTables} {stamp : ℕ} → AreLogged ops tables stamp
+    → (op : Operation) (site len : ℕ) → site ≡ op.site → len ≡ entries_end (log_table tables site).entries
     → IsKind op.site op.kind → Begins op.kind (file_len ops op.site) → len ≤ MAX_FILE
     → len + appended_len op.kind ≤ MAX_FILE
 fits_by_table {ops} logged op site len on told is begin low =
@@ -158,13 +158,13 @@ module _ (ops : List Operation) (op : Operation) (next : op.seq ≡ front_of ops
             omega arith
 
 -- the tables of a log in which an operation was entered are those of the operations with that one
-pub pushed : {ops : List Operation} {tables : Tables} {stamp : ℕ} → AreLogged ops tables stamp
-    → (tables' : Tables) (op : Operation) (site : ℕ) (new : Entry)
+pub pushed : {ops : List Operation} {tables : LogTables} {stamp : ℕ} → AreLogged ops tables stamp
+    → (tables' : LogTables) (op : Operation) (site : ℕ) (new : Entry)
     → op.seq ≡ front_of ops op.site + 1 → Begins op.kind (file_len ops op.site)
     → op.stamp ≤ MAX_STAMP → site ≡ op.site → new.stamp ≡ op.stamp → new.index ≡ length ops
-    → new.end ≡ end_of (table_of tables site).entries + appended_len op.kind
-    → (table_of tables' site).entries ≡ (table_of tables site).entries ++ new ∷ []
-    → ((other : ℕ) → other ≢ site → table_of tables' other ≡ table_of tables other)
+    → new.end ≡ entries_end (log_table tables site).entries + appended_len op.kind
+    → (log_table tables' site).entries ≡ (log_table tables site).entries ++ new ∷ []
+    → ((other : ℕ) → other ≢ site → log_table tables' other ≡ log_table tables other)
     → AreLogged (ops ++ op ∷ []) tables' (max new.stamp stamp)
 pushed {ops} {tables} {stamp} logged tables' op site new next begin low on is index ends entries
     others =
@@ -181,16 +181,16 @@ pushed {ops} {tables} {stamp} logged tables' op site new next begin low on is in
     ends' : new.end ≡ file_len ops op.site + appended_len op.kind
     ends' = ends ∙ ap (λ (n : ℕ). n + appended_len op.kind) (file_told logged site ∙ ap (file_len ops) on)
 
-    entries' : (table_of tables' op.site).entries ≡ (table_of tables op.site).entries ++ new ∷ []
+    entries' : (log_table tables' op.site).entries ≡ (log_table tables op.site).entries ++ new ∷ []
     entries' =
-        subst (λ (s : ℕ). (table_of tables' s).entries ≡ (table_of tables s).entries ++ new ∷ []) on entries
+        subst (λ (s : ℕ). (log_table tables' s).entries ≡ (log_table tables s).entries ++ new ∷ []) on entries
 
-    by_site : (s : ℕ) → IsTableOf (with_one ops op) s (table_of tables' s)
+    by_site : (s : ℕ) → IsTableOf (with_one ops op) s (log_table tables' s)
     by_site s = elim (cases_Bool (eqb op.site s)) [
-      | inl e ↦ subst (λ (s : ℕ). IsTableOf (with_one ops op) s (table_of tables' s)) (eqb-true _ _ e)
-          (grown_table ops op next logged.known new index ends' is (table_of tables op.site)
-          (table_of tables' op.site) (logged.by_site op.site) entries')
+      | inl e ↦ subst (λ (s : ℕ). IsTableOf (with_one ops op) s (log_table tables' s)) (eqb-true _ _ e)
+          (grown_table ops op next logged.known new index ends' is (log_table tables op.site)
+          (log_table tables' op.site) (logged.by_site op.site) entries')
       | inr e ↦ subst (IsTableOf (with_one ops op) s)
           (sym (others s (λ there. both_ways _ e (eq-eqb op.site s (sym on ∙ sym there)))))
-          (kept_table ops op next logged.known s (table_of tables s) e (logged.by_site s))
+          (kept_table ops op next logged.known s (log_table tables s) e (logged.by_site s))
     ]

@@ -10,7 +10,7 @@ use Rattle.operations.specs.Spelling.{HasSpelling}
 use Rattle.operations.specs.declared.typing.Typing.{Typing}
 use Rattle.set_laws.specs.Fronts.{front_of, file_len}
 use Rattle.op_log.specs.declared.site_log.Entry.{Entry}
-use Rattle.op_log.specs.Tables.{SiteSeen, Tables, end_of, letter_entries, letter_entry, table_of, unknown}
+use Rattle.op_log.specs.Tables.{LogTables, SiteSeen, entries_end, letter_entries, letter_entry, log_table, unknown}
 use Rattle.op_log.specs.Logged.{AreLogged}
 use Rattle.op_log.proofs.Lists.{slice_get-push}
 use Rattle.op_log.proofs.Logged.{file_told}
@@ -35,25 +35,25 @@ entries_after first (suc n) =
     (same_entry (one first.stamp) (one first.end) (one first.index))
 
 -- a table more, which stands for the one of its site
-with_table : Tables → ℕ → List Entry → Tables
+with_table : LogTables → ℕ → List Entry → LogTables
 with_table tables site entries = (site, record { entries = entries; room = 0 }) ∷ tables
 
-own_table : (tables : Tables) (site : ℕ) (entries : List Entry)
-    → (table_of (with_table tables site entries) site).entries ≡ entries
+own_table : (tables : LogTables) (site : ℕ) (entries : List Entry)
+    → (log_table (with_table tables site entries) site).entries ≡ entries
 unfolding with_table
 own_table tables site entries =
     ap (λ (o : Option SiteSeen). (option_map_or (λ (t : SiteSeen). t) o unknown).entries)
     (cond-true _ _ _ (eq-eqb site site refl))
 
-other_table : (tables : Tables) (site : ℕ) (entries : List Entry) (other : ℕ) → other ≢ site
-    → table_of (with_table tables site entries) other ≡ table_of tables other
+other_table : (tables : LogTables) (site : ℕ) (entries : List Entry) (other : ℕ) → other ≢ site
+    → log_table (with_table tables site entries) other ≡ log_table tables other
 unfolding with_table
 other_table tables site entries other apart =
     ap (λ (o : Option SiteSeen). option_map_or (λ (t : SiteSeen). t) o unknown)
     (cond-false _ _ _ (ne_eqb other site apart))
 
 -- the file ends where the last entry does
-end_of-push : (entries : List Entry) (e : Entry) → end_of (entries ++ e ∷ []) ≡ e.end
+end_of-push : (entries : List Entry) (e : Entry) → entries_end (entries ++ e ∷ []) ≡ e.end
 end_of-push entries e =
     let len = length-append entries (e ∷ []) in
     let last : length (entries ++ e ∷ []) - 1 ≡ length entries = omega arith in
@@ -61,8 +61,8 @@ end_of-push entries e =
     ∙ ap (λ (o : Option Entry). option_map_or (λ (d : Entry). d.end) o 0) (slice_get-push entries e)
 
 -- tables of the same entries
-same_entries : {ops : List Operation} {tables : Tables} {stamp : ℕ} → AreLogged ops tables stamp → (tables' : Tables)
-    → ((site : ℕ) → (table_of tables' site).entries ≡ (table_of tables site).entries) → AreLogged ops tables' stamp
+same_entries : {ops : List Operation} {tables : LogTables} {stamp : ℕ} → AreLogged ops tables stamp → (tables' : LogTables)
+    → ((site : ℕ) → (log_table tables' site).entries ≡ (log_table tables site).entries) → AreLogged ops tables' stamp
 same_entries {ops} {tables} {stamp} logged tables' same = record {
   by_site = λ site. record {
     entries = λ k e is. (logged.by_site site).entries k e (ap (λ (es : List Entry). slice_get es k) (sym (same site)) ∙ is);
@@ -86,36 +86,36 @@ last_stamp_is first zero stamp = omega arith
 last_stamp_is first (suc len) stamp = let rest = last_stamp_is (first + 1) len (max first stamp) in omega (arith, rest)
 
 -- the tables in which letters were entered are those of the operations with the letters
-each_pushed : (bytes : List ℕ) {ops : List Operation} {tables : Tables} {stamp : ℕ} → AreLogged ops tables stamp
-    → (tables' : Tables) (t : Typing) (first : Entry) → t.seq ≡ front_of ops t.site + 1 → t.at ≡ file_len ops t.site
+each_pushed : (bytes : List ℕ) {ops : List Operation} {tables : LogTables} {stamp : ℕ} → AreLogged ops tables stamp
+    → (tables' : LogTables) (t : Typing) (first : Entry) → t.seq ≡ front_of ops t.site + 1 → t.at ≡ file_len ops t.site
     → All HasSpelling (letters t bytes) → first.stamp ≡ t.stamp → first.end ≡ t.at + 1 → first.index ≡ length ops
-    → (table_of tables' t.site).entries ≡ (table_of tables t.site).entries ++ letter_entries first (length bytes)
-    → ((other : ℕ) → other ≢ t.site → table_of tables' other ≡ table_of tables other)
+    → (log_table tables' t.site).entries ≡ (log_table tables t.site).entries ++ letter_entries first (length bytes)
+    → ((other : ℕ) → other ≢ t.site → log_table tables' other ≡ log_table tables other)
     → AreLogged (ops ++ letters t bytes) tables' (last_stamp first.stamp (length bytes) stamp)
 unfolding last_stamp
 each_pushed [] {ops} {tables} {stamp} logged tables' t first next begins spelled stamped ends index entries others =
     subst (λ (xs : List Operation). AreLogged xs tables' stamp) (sym (append-nil ops)) (same_entries logged tables' same)
   where
-    same : (site : ℕ) → (table_of tables' site).entries ≡ (table_of tables site).entries
+    same : (site : ℕ) → (log_table tables' site).entries ≡ (log_table tables site).entries
     same site = elim (cases_eq site t.site) [
-      | inl is ↦ subst (λ (s : ℕ). (table_of tables' s).entries ≡ (table_of tables s).entries) (sym is)
-          (entries ∙ append-nil (table_of tables t.site).entries)
+      | inl is ↦ subst (λ (s : ℕ). (log_table tables' s).entries ≡ (log_table tables s).entries) (sym is)
+          (entries ∙ append-nil (log_table tables t.site).entries)
       | inr apart ↦ ap (λ (x : SiteSeen). x.entries) (others site apart)
     ]
 each_pushed (b ∷ bytes) {ops} {tables} {stamp} logged tables' t first next begins spelled stamped ends index entries others =
     let op : Operation = letter t b in
     let own : HasSpelling op = All-head HasSpelling op (letters (after_letter t) bytes) spelled in
-    let old : List Entry = (table_of tables t.site).entries in
-    let with_first : Tables = with_table tables t.site (old ++ first ∷ []) in
-    let here : (table_of with_first t.site).entries ≡ old ++ first ∷ [] = own_table tables t.site (old ++ first ∷ []) in
-    let file : end_of old ≡ file_len ops t.site = file_told logged t.site in
+    let old : List Entry = (log_table tables t.site).entries in
+    let with_first : LogTables = with_table tables t.site (old ++ first ∷ []) in
+    let here : (log_table with_first t.site).entries ≡ old ++ first ∷ [] = own_table tables t.site (old ++ first ∷ []) in
+    let file : entries_end old ≡ file_len ops t.site = file_told logged t.site in
     let one : AreLogged (ops ++ op ∷ []) with_first (max first.stamp stamp) =
     pushed logged with_first op t.site first next begins own.stamp.1 refl stamped index (omega (arith, ends, begins, file)) here
     (other_table tables t.site (old ++ first ∷ [])) in
     let front = own_greatest (λ o. o.seq) ops op in
     let next' : t.seq + 1 ≡ front_of (ops ++ op ∷ []) t.site + 1 = omega (arith, front, next) in
-    let file' : end_of (table_of with_first t.site).entries ≡ file_len (ops ++ op ∷ []) t.site = file_told one t.site in
-    let last : end_of (table_of with_first t.site).entries ≡ first.end = ap end_of here ∙ end_of-push old first in
+    let file' : entries_end (log_table with_first t.site).entries ≡ file_len (ops ++ op ∷ []) t.site = file_told one t.site in
+    let last : entries_end (log_table with_first t.site).entries ≡ first.end = ap entries_end here ∙ end_of-push old first in
     let rest = each_pushed bytes one tables' (after_letter t) (letter_entry first 1) next'
     (omega (arith, ends, file', last)) (All-tail HasSpelling op (letters (after_letter t) bytes) spelled)
     (omega (arith, stamped)) (omega (arith, ends)) (omega (arith, index, length-append ops (op ∷ [])))
@@ -127,12 +127,12 @@ each_pushed (b ∷ bytes) {ops} {tables} {stamp} logged tables' t first next beg
     (append_assoc ops (op ∷ []) (letters (after_letter t) bytes)) rest
 
 -- the same, with the stamp of the last letter
-pub pushed_letters : (bytes : List ℕ) {ops : List Operation} {tables : Tables} {stamp : ℕ} → 0 < length bytes
-    → AreLogged ops tables stamp → (tables' : Tables) (t : Typing) (first : Entry) → t.seq ≡ front_of ops t.site + 1
+pub pushed_letters : (bytes : List ℕ) {ops : List Operation} {tables : LogTables} {stamp : ℕ} → 0 < length bytes
+    → AreLogged ops tables stamp → (tables' : LogTables) (t : Typing) (first : Entry) → t.seq ≡ front_of ops t.site + 1
     → t.at ≡ file_len ops t.site → All HasSpelling (letters t bytes) → first.stamp ≡ t.stamp → first.end ≡ t.at + 1
     → first.index ≡ length ops
-    → (table_of tables' t.site).entries ≡ (table_of tables t.site).entries ++ letter_entries first (length bytes)
-    → ((other : ℕ) → other ≢ t.site → table_of tables' other ≡ table_of tables other)
+    → (log_table tables' t.site).entries ≡ (log_table tables t.site).entries ++ letter_entries first (length bytes)
+    → ((other : ℕ) → other ≢ t.site → log_table tables' other ≡ log_table tables other)
     → AreLogged (ops ++ letters t bytes) tables' (max (first.stamp + (length bytes - 1)) stamp)
 pushed_letters [] some logged tables' t first next begins spelled stamped ends index entries others = absurd (omega (arith, some))
 pushed_letters (b ∷ bytes) {ops} {tables} {stamp} some logged tables' t first next begins spelled stamped ends index entries others =

@@ -22,7 +22,7 @@ use Rattle.op_log.specs.declared.stretch.Stretch.TheVariants.{Typed, Deleted, Si
 use Rattle.operations.specs.Spelling.{HasSpelling}
 use Rattle.std.proofs.Math.Seq.{get_or-append_seam, take-length}
 use Rattle.op_log.specs.Stretches.{AreFirsts, AreStretches, EndsLast}
-use Rattle.op_log.specs.Stretches.{Shared, shared, cause_of, letter, one_delete, looks_in, typed_op, typed_ops, ops_of, all_ops, IsThere}
+use Rattle.op_log.specs.Stretches.{Shared, shared, cause_of, letter_of_run, one_delete, looks_in, typed_op, typed_ops, ops_of, all_ops, IsStretchThere}
 
 -- looks that compare alike with those of a run
 pub looks_at : (own found : Looks) (looks : List Looks) (r : TypedRun) → r.looks < length looks
@@ -41,7 +41,7 @@ one_byte (b ∷ d ∷ bytes) byte len is = absurd (omega (arith, len))
 -- an operation that has all that a letter has
 pub is_letter : (op : Operation) (looks : List Looks) (r : TypedRun) (k byte : ℕ) → op.text ≡ r.text → op.site ≡ r.site
     → op.seq ≡ r.seq + k → op.stamp ≡ r.stamp + k
-    → op.kind ≡ insert (cause_of r k) (r.at + k) (looks_in looks r) (byte ∷ []) → op ≡ letter looks r k byte
+    → op.kind ≡ insert (cause_of r k) (r.at + k) (looks_in looks r) (byte ∷ []) → op ≡ letter_of_run looks r k byte
 is_letter op looks r k byte text site seq stamp kind =
     let made : ℕ → ℕ → ℕ → ℕ → OpKind → Operation = λ t s q p d.
     record { text = t; site = s; seq = q; stamp = p; kind = d } in
@@ -71,7 +71,7 @@ stays s = record {
 }
 
 module _ (s t : Shared) (grows : Extends s t) where
-  letter_stays : (r : TypedRun) → IsThere s (Typed r) → (k : ℕ) → k < r.len → typed_op t r k ≡ typed_op s r k
+  letter_stays : (r : TypedRun) → IsStretchThere s (Typed r) → (k : ℕ) → k < r.len → typed_op t r k ≡ typed_op s r k
   letter_stays r (some, within, looks_there, cause) k lt =
       let (bytes, is) = grows.bytes in
       let (looks, looks_is) = grows.looks in
@@ -88,13 +88,13 @@ module _ (s t : Shared) (grows : Extends s t) where
       } in
       ap (λ (b : ℕ). made (looks_in t.looks r) b) byte ∙ ap (λ (l : Looks). made l (get_or s.bytes (r.from + k) 0)) own
 
-  letters_stay : (r : TypedRun) → IsThere s (Typed r) → (n : ℕ) → n ≤ r.len → typed_ops t r n ≡ typed_ops s r n
+  letters_stay : (r : TypedRun) → IsStretchThere s (Typed r) → (n : ℕ) → n ≤ r.len → typed_ops t r n ≡ typed_ops s r n
   letters_stay r there zero le = refl
   letters_stay r there (suc n) le =
       ap (λ (ops : List Operation). ops ++ typed_op t r n ∷ []) (letters_stay r there n (omega (arith, le)))
       ∙ ap (λ (op : Operation). typed_ops s r n ++ op ∷ []) (letter_stays r there n (omega (arith, le)))
 
-  pub stretch_stays : (st : Stretch) → IsThere s st → ops_of t st ≡ ops_of s st
+  pub stretch_stays : (st : Stretch) → IsStretchThere s st → ops_of t st ≡ ops_of s st
   stretch_stays (Typed r) there = letters_stay r there r.len (omega arith)
   stretch_stays (Deleted d) there = refl
   stretch_stays (Single i) there =
@@ -102,7 +102,7 @@ module _ (s t : Shared) (grows : Extends s t) where
       ap (λ (l : List Operation). ops_of (shared t.bytes t.looks l) (Single i)) is
       ∙ ap (λ (o : Option Operation). option_map_or (λ (op : Operation). op ∷ []) o []) (slice_get_left s.singles singles i there)
 
-  pub there_stays : (st : Stretch) → IsThere s st → IsThere t st
+  pub there_stays : (st : Stretch) → IsStretchThere s st → IsStretchThere t st
   there_stays (Typed r) (some, within, looks_there, cause) =
       let (bytes, is) = grows.bytes in
       let (looks, looks_is) = grows.looks in
@@ -115,13 +115,13 @@ module _ (s t : Shared) (grows : Extends s t) where
       let many : length t.singles ≡ length s.singles + length singles = ap length is ∙ length-append s.singles singles in
       omega (arith, many, there)
 
-  pub all_stay : (sts : List Stretch) → All (IsThere s) sts → all_ops t sts ≡ all_ops s sts
+  pub all_stay : (sts : List Stretch) → All (IsStretchThere s) sts → all_ops t sts ≡ all_ops s sts
   all_stay [] there = refl
   all_stay (st ∷ sts) there =
-      ap (λ (ops : List Operation). ops ++ all_ops t sts) (stretch_stays st (All-head (IsThere s) st sts there))
-      ∙ ap (λ (ops : List Operation). ops_of s st ++ ops) (all_stay sts (All-tail (IsThere s) st sts there))
+      ap (λ (ops : List Operation). ops ++ all_ops t sts) (stretch_stays st (All-head (IsStretchThere s) st sts there))
+      ∙ ap (λ (ops : List Operation). ops_of s st ++ ops) (all_stay sts (All-tail (IsStretchThere s) st sts there))
 
-  pub all_there_stay : (sts : List Stretch) → All (IsThere s) sts → All (IsThere t) sts
+  pub all_there_stay : (sts : List Stretch) → All (IsStretchThere s) sts → All (IsStretchThere t) sts
   all_there_stay sts there = λ k d lt. there_stays (get_or sts k d) (there k d lt)
 
 -- ---- what runs have
@@ -170,16 +170,16 @@ take_left xs ys zero le = refl
 take_left [] ys (suc k) le = absurd (omega (arith, le))
 take_left (x ∷ xs) ys (suc k) le = ap (λ (zs : List _). x ∷ zs) (take_left xs ys k (omega (arith, le)))
 
-taken_there : (s : Shared) (sts : List Stretch) (k : ℕ) → All (IsThere s) sts → All (IsThere s) (take k sts)
+taken_there : (s : Shared) (sts : List Stretch) (k : ℕ) → All (IsStretchThere s) sts → All (IsStretchThere s) (take k sts)
 taken_there s sts zero there = λ i d lt. absurd (omega (arith, lt))
 taken_there s [] (suc k) there = there
 taken_there s (st ∷ sts) (suc k) there =
-    All-cons (IsThere s) st (take k sts) (All-head (IsThere s) st sts there)
-    (taken_there s sts k (All-tail (IsThere s) st sts there))
+    All-cons (IsStretchThere s) st (take k sts) (All-head (IsStretchThere s) st sts there)
+    (taken_there s sts k (All-tail (IsStretchThere s) st sts there))
 
 -- the numbers before stretches, of which the last may be another
 firsts_stay : (s t : Shared) (before : List Stretch) (was now : Stretch) (firsts : List ℕ) → Extends s t
-    → All (IsThere s) before → AreFirsts s (before ++ was ∷ []) firsts → AreFirsts t (before ++ now ∷ []) firsts
+    → All (IsStretchThere s) before → AreFirsts s (before ++ was ∷ []) firsts → AreFirsts t (before ++ now ∷ []) firsts
 firsts_stay s t before was now firsts grows there are =
     let one : (st : Stretch) → length (before ++ st ∷ []) ≡ length before + 1 = λ st. length-append before (st ∷ []) in
     let many_was = one was in
@@ -216,7 +216,7 @@ last_is (z ∷ xs) (w ∷ ys) x y is =
 module _ (s t : Shared) (grows : Extends s t) (op : Operation) (spelled : HasSpelling op) where
   -- one stretch more
   module _ (sts : List Stretch) (firsts : List ℕ) (len : ℕ) (are : AreStretches s sts firsts len) (st : Stretch)
-      (there : IsThere t st) (ops : ops_of t st ≡ op ∷ []) (ends : EndsLast t st) where
+      (there : IsStretchThere t st) (ops : ops_of t st ≡ op ∷ []) (ends : EndsLast t st) where
     pub pushed_ops : all_ops t (sts ++ st ∷ []) ≡ all_ops s sts ++ op ∷ []
     pushed_ops =
         all_more t sts st ∙ ap (λ (l : List Operation). l ++ ops_of t st) (all_stay s t grows sts are.there)
@@ -229,8 +229,8 @@ module _ (s t : Shared) (grows : Extends s t) (op : Operation) (spelled : HasSpe
         let counted : length (all_ops s sts ++ op ∷ []) ≡ length (all_ops s sts) + 1 =
         length-append (all_ops s sts) (op ∷ []) in
         record {
-          there = All-append (IsThere t) sts (st ∷ []) (all_there_stay s t grows sts are.there)
-              (All-cons (IsThere t) st [] there (λ i d lt. absurd (omega (arith, lt))));
+          there = All-append (IsStretchThere t) sts (st ∷ []) (all_there_stay s t grows sts are.there)
+              (All-cons (IsStretchThere t) st [] there (λ i d lt. absurd (omega (arith, lt))));
           before = record {
             many = omega (arith, many, numbers, are.before.many);
             each = λ k d lt. each k d (omega (arith, lt, many));
@@ -266,7 +266,7 @@ module _ (s t : Shared) (grows : Extends s t) (op : Operation) (spelled : HasSpe
 -- the last run one letter longer
 module _ (s : Shared) (byte : ℕ) (op : Operation) (spelled : HasSpelling op) (before : List Stretch) (r : TypedRun)
     (firsts : List ℕ) (len : ℕ) (are : AreStretches s (before ++ Typed r ∷ []) firsts len)
-    (next : op ≡ letter s.looks r r.len byte) where
+    (next : op ≡ letter_of_run s.looks r r.len byte) where
   abbrev longer : TypedRun
   longer = record r { len = r.len + 1 }
 
@@ -280,21 +280,21 @@ module _ (s : Shared) (byte : ℕ) (op : Operation) (spelled : HasSpelling op) (
     singles = ([], sym (append-nil s.singles));
   }
 
-  was_there : All (IsThere s) (before ++ Typed r ∷ [])
+  was_there : All (IsStretchThere s) (before ++ Typed r ∷ [])
   was_there = are.there
 
-  run_there : IsThere s (Typed r)
-  run_there = All-head (IsThere s) (Typed r) [] (all_right (IsThere s) before (Typed r ∷ []) was_there)
+  run_there : IsStretchThere s (Typed r)
+  run_there = All-head (IsStretchThere s) (Typed r) [] (all_right (IsStretchThere s) before (Typed r ∷ []) was_there)
 
-  before_there : All (IsThere s) before
-  before_there = all_left (IsThere s) before (Typed r ∷ []) was_there
+  before_there : All (IsStretchThere s) before
+  before_there = all_left (IsStretchThere s) before (Typed r ∷ []) was_there
 
   ends : r.from + r.len ≡ length s.bytes
   ends = are.last before (Typed r) refl
 
   new_letter : typed_op after r r.len ≡ op
   new_letter =
-      let made : ℕ → Operation = λ b. letter s.looks r r.len b in
+      let made : ℕ → Operation = λ b. letter_of_run s.looks r r.len b in
       ap (λ (n : ℕ). made (get_or (s.bytes ++ byte ∷ []) n 0)) ends ∙ ap made (get_or-append_seam s.bytes byte [] 0) ∙ sym next
 
   longer_ops : ops_of after (Typed longer) ≡ ops_of s (Typed r) ++ op ∷ []
@@ -318,11 +318,11 @@ module _ (s : Shared) (byte : ℕ) (op : Operation) (spelled : HasSpelling op) (
       let bytes : length (s.bytes ++ byte ∷ []) ≡ length s.bytes + 1 = length-append s.bytes (byte ∷ []) in
       let counted : length (all_ops s (before ++ Typed r ∷ []) ++ op ∷ []) ≡ length (all_ops s (before ++ Typed r ∷ [])) + 1 =
       length-append (all_ops s (before ++ Typed r ∷ [])) (op ∷ []) in
-      let here : IsThere after (Typed longer) = (omega arith, omega (arith, ends, bytes), run_there.2, run_there.3) in
+      let here : IsStretchThere after (Typed longer) = (omega arith, omega (arith, ends, bytes), run_there.2, run_there.3) in
       let end : longer.from + longer.len ≡ length after.bytes = omega (arith, ends, bytes) in
       record {
-        there = All-append (IsThere after) before (Typed longer ∷ []) (all_there_stay s after grows before before_there)
-            (All-cons (IsThere after) (Typed longer) [] here (λ i d lt. absurd (omega (arith, lt))));
+        there = All-append (IsStretchThere after) before (Typed longer ∷ []) (all_there_stay s after grows before before_there)
+            (All-cons (IsStretchThere after) (Typed longer) [] here (λ i d lt. absurd (omega (arith, lt))));
         before = firsts_stay s after before (Typed r) (Typed longer) firsts grows before_there are.before;
         many = omega (arith, are.many, counted, ap length longer_all);
         letters = omega (arith, are.letters, bytes);
@@ -399,14 +399,14 @@ module _ (s : Shared) (sts : List Stretch) (firsts : List ℕ) (len : ℕ) (are 
       ap (λ (ops : List Operation). slice_get ops at) whole
       ∙ slice_get_after before (ops_of s st) (all_ops s rest) (at - first) at place is_within
 
-  pub stretch_there : IsThere s st
-  stretch_there = subst (IsThere s) is (are.there slot st has_slot)
+  pub stretch_there : IsStretchThere s st
+  stretch_there = subst (IsStretchThere s) is (are.there slot st has_slot)
 
 -- this stretch has the operation at a place, after so many others of it
 pub record IsFound (s : Shared) (sts : List Stretch) (at : ℕ) (st : Stretch) (k : ℕ) : Type 0 where
   pub is : slice_get (all_ops s sts) at ≡ slice_get (ops_of s st) k
   pub within : k < length (ops_of s st)
-  pub there : IsThere s st
+  pub there : IsStretchThere s st
 
 pub found_in : (s : Shared) (sts : List Stretch) (firsts : List ℕ) (len : ℕ) → AreStretches s sts firsts len
     → (slot at : ℕ) (st : Stretch) (first : ℕ) → slot < length firsts → get_or sts slot st ≡ st
@@ -429,10 +429,10 @@ module _ (s : Shared) (sts : List Stretch) (at : ℕ) (r : TypedRun) (k : ℕ) (
   byte_there = omega (arith, few, found.there.1)
 
   pub letter_found : (byte : ℕ) → byte ≡ get_or s.bytes (r.from + k) byte
-      → slice_get (all_ops s sts) at ≡ Some (letter s.looks r k byte)
+      → slice_get (all_ops s sts) at ≡ Some (letter_of_run s.looks r k byte)
   letter_found byte is =
       found.is ∙ letter_at s r r.len k few
-      ∙ ap (λ (b : ℕ). Some (letter s.looks r k b)) (sym (is ∙ get_or_default s.bytes (r.from + k) byte 0 byte_there))
+      ∙ ap (λ (b : ℕ). Some (letter_of_run s.looks r k b)) (sym (is ∙ get_or_default s.bytes (r.from + k) byte 0 byte_there))
 
 pub deleted_found : (s : Shared) (sts : List Stretch) (at : ℕ) (d : OneDelete) (k : ℕ) → IsFound s sts at (Deleted d) k
     → slice_get (all_ops s sts) at ≡ Some (one_delete d)
@@ -457,11 +457,11 @@ spelled_at ops all k op there =
 -- a run that begins with a letter
 module _ (s t : Shared) (grows : Extends s t) (op : Operation) (r : TypedRun) (byte : ℕ) (one : r.len ≡ 1)
     (from : r.from ≡ length s.bytes) (bytes : t.bytes ≡ s.bytes ++ byte ∷ []) (looks : r.looks < length t.looks)
-    (cause : r.cause_off < 16777216) (is : op ≡ letter t.looks r 0 byte) where
+    (cause : r.cause_off < 16777216) (is : op ≡ letter_of_run t.looks r 0 byte) where
   many_bytes : length t.bytes ≡ length s.bytes + 1
   many_bytes = ap length bytes ∙ length-append s.bytes (byte ∷ [])
 
-  pub begun_there : IsThere t (Typed r)
+  pub begun_there : IsStretchThere t (Typed r)
   begun_there = (omega (arith, one), omega (arith, one, from, many_bytes), looks, cause)
 
   pub begun_ends : EndsLast t (Typed r)
@@ -473,7 +473,7 @@ module _ (s t : Shared) (grows : Extends s t) (op : Operation) (r : TypedRun) (b
       let read : get_or t.bytes (r.from + 0) 0 ≡ byte =
       ap (λ (l : List ℕ). get_or l (r.from + 0) 0) bytes ∙ ap (λ (n : ℕ). get_or (s.bytes ++ byte ∷ []) n 0) first
       ∙ get_or-append_seam s.bytes byte [] 0 in
-      ap (typed_ops t r) one ∙ ap (λ (b : ℕ). letter t.looks r 0 b ∷ []) read ∙ ap (λ (o : Operation). o ∷ []) (sym is)
+      ap (typed_ops t r) one ∙ ap (λ (b : ℕ). letter_of_run t.looks r 0 b ∷ []) read ∙ ap (λ (o : Operation). o ∷ []) (sym is)
 
 -- an operation that stands alone
 pub alone_ops : (s : Shared) (op : Operation)

@@ -6,7 +6,7 @@ use Rattle.tree_order.specs.Good.{file_before}
 use Rattle.set_laws.specs.Fronts.{front_of, greatest_stamp}
 use Rattle.set_laws.specs.Sets.{AreIdentified}
 use Rattle.op_log.specs.declared.site_log.Entry.{Entry}
-use Rattle.op_log.specs.Tables.{SiteSeen, Tables, table_of}
+use Rattle.op_log.specs.Tables.{LogTables, SiteSeen, log_table}
 
 -- the entry tells where the site's operation of this seq stands, where the site's file ends after it, and the
 -- operation's stamp
@@ -25,8 +25,8 @@ pub record IsTableOf (ops : List Operation) (site : ℕ) (t : SiteSeen) : Type 0
 
 -- the tables are those of the operations, of which each has an identity of its own, and each Insert of which begins
 -- where its site's file ended
-pub record AreLogged (ops : List Operation) (tables : Tables) (stamp : ℕ) : Type 0 where
-  pub by_site : (site : ℕ) → IsTableOf ops site (table_of tables site)
+pub record AreLogged (ops : List Operation) (tables : LogTables) (stamp : ℕ) : Type 0 where
+  pub by_site : (site : ℕ) → IsTableOf ops site (log_table tables site)
   pub greatest : stamp ≡ greatest_stamp ops
   pub low : stamp ≤ MAX_STAMP
   pub known : AreIdentified ops

@@ -61,8 +61,8 @@ abbrev pub looks_in : List Looks → TypedRun → Looks
 looks_in looks r = slice_index_or looks r.looks plain_looks
 
 -- the Insert of the k-th letter of a run, if this is the letter
-abbrev pub letter : List Looks → TypedRun → ℕ → (byte : ℕ) → Operation
-letter looks r k byte = record {
+abbrev pub letter_of_run : List Looks → TypedRun → ℕ → (byte : ℕ) → Operation
+letter_of_run looks r k byte = record {
   text = r.text;
   site = r.site;
   seq = r.seq + k;
@@ -72,7 +72,7 @@ letter looks r k byte = record {
 
 -- the k-th operation of a run
 abbrev pub typed_op : Shared → TypedRun → ℕ → Operation
-typed_op s r k = letter s.looks r k (slice_index_or s.bytes (r.from + k) 0)
+typed_op s r k = letter_of_run s.looks r k (slice_index_or s.bytes (r.from + k) 0)
 
 -- the first n operations of a run
 abbrev pub typed_ops : Shared → TypedRun → ℕ → List Operation
@@ -80,7 +80,7 @@ typed_ops s r zero = []
 typed_ops s r (suc n) = typed_ops s r n ++ typed_op s r n ∷ []
 
 -- the site types on where the first n letters of a run end
-pub record GoesOn (looks : List Looks) (r : TypedRun) (n : ℕ) (t : Typing) : Type 0 where
+pub record TypingGoesOn (looks : List Looks) (r : TypedRun) (n : ℕ) (t : Typing) : Type 0 where
   pub text : t.text ≡ r.text
   pub site : t.site ≡ r.site
   pub seq : t.seq ≡ r.seq + n
@@ -110,11 +110,11 @@ abbrev pub all_ops : Shared → List Stretch → List Operation
 all_ops s stretches = flat_map (ops_of s) stretches
 
 -- what a stretch names is there
-abbrev pub IsThere : Shared → Stretch → Type 0
-IsThere s (Typed r) =
+abbrev pub IsStretchThere : Shared → Stretch → Type 0
+IsStretchThere s (Typed r) =
     (0 < r.len) × (r.from + r.len ≤ length s.bytes) × (r.looks < length s.looks) × (r.cause_off < 16777216)
-IsThere s (Deleted d) = Unit {0}
-IsThere s (Single i) = i < length s.singles
+IsStretchThere s (Deleted d) = Unit {0}
+IsStretchThere s (Single i) = i < length s.singles
 
 -- the numbers tell how many operations stand before each stretch
 pub record AreFirsts (s : Shared) (stretches : List Stretch) (firsts : List ℕ) : Type 0 where
@@ -134,7 +134,7 @@ LastEndsLast s stretches =
 
 -- the stretches, how many operations stand before each, and how many there are: no fewer than bytes of letters
 pub record AreStretches (s : Shared) (stretches : List Stretch) (firsts : List ℕ) (len : ℕ) : Type 0 where
-  pub there : All (IsThere s) stretches
+  pub there : All (IsStretchThere s) stretches
   pub before : AreFirsts s stretches firsts
   pub many : len ≡ length (all_ops s stretches)
   pub letters : length s.bytes ≤ len

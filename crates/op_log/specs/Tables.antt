@@ -10,8 +10,8 @@ pub record SiteSeen : Type 0 where
   pub room : ℕ
 
 -- how long the site's file is after the last entry
-abbrev pub end_of : List Entry → ℕ
-end_of entries = option_map_or (λ e. e.end) (slice_get entries (length entries - 1)) 0
+abbrev pub entries_end : List Entry → ℕ
+entries_end entries = option_map_or (λ e. e.end) (slice_get entries (length entries - 1)) 0
 
 -- the first entry whose operation ends its site's file after the offset
 pub record IsFirstPast (entries : List Entry) (off : ℕ) (e : Entry) : Type 0 where
@@ -38,21 +38,21 @@ letter_entries first zero = []
 letter_entries first (suc n) = letter_entries first n ++ letter_entry first n ∷ []
 
 -- tables by their sites' numbers
-abbrev pub Tables : Type 0
-Tables = List (ℕ × SiteSeen)
+abbrev pub LogTables : Type 0
+LogTables = List (ℕ × SiteSeen)
 
 -- nothing is known of a site
 abbrev pub unknown : SiteSeen
 unknown = record { entries = []; room = 0 }
 
 -- a site's table; an empty one where there is none
-abbrev pub table_of : Tables → ℕ → SiteSeen
-table_of tables site = option_map_or (λ t. t) (lookup (nat_eq site) tables) unknown
+abbrev pub log_table : LogTables → ℕ → SiteSeen
+log_table tables site = option_map_or (λ t. t) (lookup (nat_eq site) tables) unknown
 
 -- a site's front: how many entries its table has
-abbrev pub front_in : Tables → ℕ → ℕ
-front_in tables site = length (table_of tables site).entries
+abbrev pub table_front : LogTables → ℕ → ℕ
+table_front tables site = length (log_table tables site).entries
 
 -- how many operations more of each site take no memory
-abbrev pub rooms_of : Tables → List (ℕ × ℕ)
+abbrev pub rooms_of : LogTables → List (ℕ × ℕ)
 rooms_of tables = map (λ t. (t.0, t.1.room)) tables

@@ -3,7 +3,7 @@ ghost use Rattle.std.specs.Prelude.{None as Nothing};
 ghost use Rattle.std.specs.Option.{option_map};
 ghost use Rattle.std.specs.List.Sorted.{IsNonDecreasingBy};
 ghost use Rattle.looks.specs.Refusal.{RefusedForMemoryAlone};
-ghost use Rattle.op_log.specs.Tables.{end_of, letter_entries, EndBy, EndsPast, IsFirstPast};
+ghost use Rattle.op_log.specs.Tables.{entries_end, letter_entries, EndBy, EndsPast, IsFirstPast};
 
 use char_files::MAX_FILE;
 use looks::Refusal;
@@ -30,7 +30,7 @@ pub(crate) struct SiteLog {
 impl Model for SiteLog {
     ghost use Rattle.std.specs.Prelude.{◌<◌, ◌≤◌, ◌-◌, ◌^◌, vec_len, vec_capacity};
     ghost use Rattle.char_files.specs.declared.TheConstants.{MAX_FILE};
-    ghost use Rattle.op_log.specs.Tables.{SiteSeen, end_of};
+    ghost use Rattle.op_log.specs.Tables.{SiteSeen, entries_end};
 
     ghost Value = { SiteSeen };
 
@@ -39,7 +39,7 @@ impl Model for SiteLog {
       room = vec_capacity l.entries - vec_len l.entries;
     } };
 
-    ghost invariant = { λ l. (vec_len l.entries < 2 ^ 32) × (end_of l.entries.items ≤ MAX_FILE) };
+    ghost invariant = { λ l. (vec_len l.entries < 2 ^ 32) × (entries_end l.entries.items ≤ MAX_FILE) };
 }
 
 // Where to look first for the entry that ends past this offset: in proportion, as if all operations appended alike.
@@ -71,7 +71,7 @@ fn low_index(entries: &[Entry], from: usize, off: u32) -> usize
 
 // The slot of an entry that ends past this offset: this one, or one after it. Each step is twice the one before.
 fn high_index(entries: &[Entry], from: usize, off: u32) -> usize
-    requires past { off < end_of entries.now }
+    requires past { off < entries_end entries.now }
     requires within { from < length entries.now }
     ensures high { EndsPast entries.now off result }
     ensures within { from ≤ result }
@@ -105,7 +105,7 @@ impl SiteLog {
 
     // How long the site's file is.
     pub(crate) fn file_len(&self) -> u32
-        ensures value { result ≡ end_of self.now.entries }
+        ensures value { result ≡ entries_end self.now.entries }
         ensures bound { result ≤ MAX_FILE }
     {
         match self.entries.last() {
@@ -128,7 +128,7 @@ impl SiteLog {
     // The first operation after which the site's file is longer than this.
     pub(crate) fn entry_past(&self, off: u32) -> Entry
         requires rising { IsNonDecreasingBy (λ e. e.end) self.now.entries }
-        requires within { off < end_of self.now.entries }
+        requires within { off < entries_end self.now.entries }
         ensures { IsFirstPast self.now.entries off result }
     {
         let entries = self.entries.as_slice();

@@ -7,7 +7,7 @@ ghost use Rattle.op_log.specs.declared.stretch.Stretch.TheVariants.{Deleted, Sin
 ghost use Rattle.looks.specs.Refusal.{RefusedForMemoryAlone};
 ghost use Rattle.operations.specs.Operation.{insert};
 ghost use Rattle.operations.specs.Spelling.{HasSpelling};
-ghost use Rattle.op_log.specs.Stretches.{anchor_of, cause_of, letter, looks_in, GoesOn};
+ghost use Rattle.op_log.specs.Stretches.{anchor_of, cause_of, letter_of_run, looks_in, TypingGoesOn};
 
 use crate::one_delete::OneDelete;
 use char_files::{Anchor, MAX_FILE, Name, SiteNo, TextNo};
@@ -113,8 +113,8 @@ pub(crate) fn byte_of_letter(looks: &[Looks], run: &TypedRun, k: u32, op: &Op) -
     requires stamp { run.now.stamp + k < 18446744073709551616 }
     requires at { run.now.at + k < 16777216 }
     requires cause { run.now.cause_off < 16777216 }
-    ensures some { IfSome result (λ byte. op.now ≡ letter looks.now run.now k byte) }
-    ensures none { IfNone result ((byte : ℕ) → op.now ≡ letter looks.now run.now k byte → ⊥) }
+    ensures some { IfSome result (λ byte. op.now ≡ letter_of_run looks.now run.now k byte) }
+    ensures none { IfNone result ((byte : ℕ) → op.now ≡ letter_of_run looks.now run.now k byte → ⊥) }
 {
     if !has_head(run, k, op) {
         return None;
@@ -143,9 +143,9 @@ pub(crate) fn byte_of_letter(looks: &[Looks], run: &TypedRun, k: u32, op: &Op) -
 // Whether this letter of a run is this operation.
 pub(crate) fn is_letter(looks: &[Looks], run: &TypedRun, k: u32, byte: u8, op: &Op) -> bool
     requires looks { run.now.looks < length looks.now }
-    requires spelled { HasSpelling (letter looks.now run.now k byte) }
+    requires spelled { HasSpelling (letter_of_run looks.now run.now k byte) }
     requires cause { run.now.cause_off < 16777216 }
-    ensures { IsTrue result ↔ (letter looks.now run.now k byte ≡ op.now) }
+    ensures { IsTrue result ↔ (letter_of_run looks.now run.now k byte ≡ op.now) }
 {
     match byte_of_letter(looks, run, k, op) {
         Some(found) => found == byte,
@@ -178,9 +178,9 @@ pub(crate) fn are_one_letter(
     there: u8,
 ) -> bool
     requires looks { (run.now.looks < length looks.now) × (other.now.looks < length others.now) }
-    requires spelled { HasSpelling (letter looks.now run.now k byte) × HasSpelling (letter others.now other.now j there) }
+    requires spelled { HasSpelling (letter_of_run looks.now run.now k byte) × HasSpelling (letter_of_run others.now other.now j there) }
     requires cause { (run.now.cause_off < 16777216) × (other.now.cause_off < 16777216) }
-    ensures { IsTrue result ↔ (letter looks.now run.now k byte ≡ letter others.now other.now j there) }
+    ensures { IsTrue result ↔ (letter_of_run looks.now run.now k byte ≡ letter_of_run others.now other.now j there) }
 {
     if !have_one_head(run, k, other, j)
         || cause_of(run, k) != cause_of(other, j)
@@ -207,7 +207,7 @@ pub(crate) fn next_byte(stretches: &[Stretch], looks: &[Looks], op: &Op) -> Opti
     requires { (before : List Stretch) (r : TypedRun) → stretches.now ≡ before ++ Typed r ∷ []
         → (r.looks < length looks.now) × (r.cause_off < 16777216) }
     ensures { IfSome result (λ byte. (before : List Stretch) × (r : TypedRun) × (stretches.now ≡ before ++ Typed r ∷ [])
-        × (op.now ≡ letter looks.now r r.len byte) × (r.len < 16777216)) }
+        × (op.now ≡ letter_of_run looks.now r r.len byte) × (r.len < 16777216)) }
 {
     match stretches.last() {
         Some(Stretch::Typed(run)) if may_go_on(run) => byte_of_letter(looks, run, run.len, op),
@@ -219,7 +219,7 @@ pub(crate) fn next_byte(stretches: &[Stretch], looks: &[Looks], op: &Op) -> Opti
 fn goes_on_from(looks: &[Looks], run: &TypedRun, typing: &Typing) -> bool
     requires looks { run.now.looks < length looks.now }
     requires cause { run.now.cause_off < 16777216 }
-    ensures { IsTrue result → GoesOn looks.now run.now run.now.len typing.now }
+    ensures { IsTrue result → TypingGoesOn looks.now run.now run.now.len typing.now }
 {
     may_go_on(run)
         && typing.text == run.text
@@ -236,7 +236,7 @@ pub(crate) fn goes_on(stretches: &[Stretch], looks: &[Looks], typing: &Typing) -
     requires { (before : List Stretch) (r : TypedRun) → stretches.now ≡ before ++ Typed r ∷ []
         → (r.looks < length looks.now) × (r.cause_off < 16777216) }
     ensures { IsTrue result → (before : List Stretch) × (r : TypedRun) × (stretches.now ≡ before ++ Typed r ∷ [])
-        × GoesOn looks.now r r.len typing.now }
+        × TypingGoesOn looks.now r r.len typing.now }
 {
     match stretches.last() {
         Some(Stretch::Typed(run)) => goes_on_from(looks, run, typing),
@@ -305,9 +305,9 @@ pub(crate) fn letter(
     byte: u8,
 ) -> Result<Op, Refusal>
     requires looks { run.now.looks < length looks.now }
-    requires spelled { HasSpelling (letter looks.now run.now k byte) }
+    requires spelled { HasSpelling (letter_of_run looks.now run.now k byte) }
     requires cause { run.now.cause_off < 16777216 }
-    ensures ok { IfOk result (λ op. op ≡ letter looks.now run.now k byte) }
+    ensures ok { IfOk result (λ op. op ≡ letter_of_run looks.now run.now k byte) }
     ensures errors { RefusedForMemoryAlone result }
 {
     let kind = Kind::Insert {

@@ -19,8 +19,8 @@ use Rattle.operations.specs.declared.kind.TheConstants.{MAX_INSERT}
 use Rattle.operations.specs.declared.op.TheConstants.{MAX_STAMP}
 use Rattle.operations.specs.NameSet.{Range, IsNamed}
 use Rattle.operations.specs.Operation.{OpKind, insert, delete, restore, change_looks, Operation}
-use Rattle.operations.specs.Reading.{Makes, anchor_of, anchor_at, fits_in_file, is_cause, insert_at}
-use Rattle.operations.specs.Reading.{delete_at, restore_at, change_at, kind_at, tag_at, stamp_at, Header}
+use Rattle.operations.specs.Reading.{FindsWithMemory, checked_anchor, anchor_at, fits_in_file, is_cause, insert_at}
+use Rattle.operations.specs.Reading.{delete_at, restore_at, change_at, kind_at, message_tag_at, stamp_at, Header}
 use Rattle.operations.specs.Reading.{header_at}
 use Rattle.operations.specs.Reading.{operation_of, operation_at, message_of, SpellsNone}
 use Rattle.byte_fields.specs.Fields.{number_spelling}
@@ -52,7 +52,7 @@ anchor_name-spelling : (a : Anchor) → anchor_spelling a ≡ name_spelling (anc
 anchor_name-spelling Root = refl
 anchor_name-spelling (At name) = refl
 
-anchor_name-again : (a : Anchor) → IsAnchor a → anchor_of (anchor_name a).site (anchor_name a).off ≡ Some a
+anchor_name-again : (a : Anchor) → IsAnchor a → checked_anchor (anchor_name a).site (anchor_name a).off ≡ Some a
 anchor_name-again Root h = refl
 anchor_name-again (At name) h =
     let ne : eqb name.site 0 ≡ false = ne_eqb _ _ (λ z. absurd (omega arith)) in
@@ -69,7 +69,7 @@ record Names (site off : ℕ) (a : Anchor) : Type 0 where
   is : IsAnchor a
   spelled : anchor_spelling a ≡ number_spelling w16 site ++ number_spelling w32 off
 
-names : (site off : ℕ) (a : Anchor) → site < 2 ^ 16 → anchor_of site off ≡ Some a → Names site off a
+names : (site off : ℕ) (a : Anchor) → site < 2 ^ 16 → checked_anchor site off ≡ Some a → Names site off a
 names site off a lt e = go (eqb site 0) refl e
   where
     here : (b : Bool) → eqb off 0 ≡ b → eqb site 0 ≡ true → cond b (Some Root) None ≡ Some a
@@ -112,7 +112,7 @@ anchor_reads =
       takes = λ bytes a rest fits e.
           let s = step _ _ _ site _ bytes (a, rest) fits e in
           let t = step _ _ _ off _ s.rest (a, rest) s.took.rest_fits s.goes_on in
-          let u = bind_some (anchor_of s.x t.x) _ (a, rest) t.goes_on in
+          let u = bind_some (checked_anchor s.x t.x) _ (a, rest) t.goes_on in
           let is = names s.x t.x u.0 s.took.in_range u.1 in
           let whole : bytes ≡ anchor_spelling u.0 ++ t.rest =
           s.took.parts ∙ ap (λ (x : List ℕ). number_spelling w16 s.x ++ x) t.took.parts
@@ -355,7 +355,7 @@ kind_reads number site = record {
 abbrev IsAny : ℕ → Type 0
 IsAny n = Unit {0}
 
-tag_takes : (bytes : List ℕ) (kind : ℕ) (rest : List ℕ) → IsBytes bytes → tag_at bytes ≡ Some (kind, rest)
+tag_takes : (bytes : List ℕ) (kind : ℕ) (rest : List ℕ) → IsBytes bytes → message_tag_at bytes ≡ Some (kind, rest)
     → Took tag_spelling IsAny bytes kind rest
 unfolding tag_spelling
 tag_takes [] kind rest fits e = absurd cc
@@ -377,7 +377,7 @@ tag_takes (o ∷ t ∷ version ∷ k ∷ bytes) kind rest fits e =
       in_range = tt;
     })
 
-tag_reads : Reads tag_at tag_spelling IsAny
+tag_reads : Reads message_tag_at tag_spelling IsAny
 unfolding tag_spelling
 tag_reads = record {
   takes = tag_takes;
@@ -558,12 +558,12 @@ same_operation a b is is' e = some_is a b (sym (message_again a is) ∙ ap messa
 -- ---- what a function makes of a message
 
 pub made_is : (bytes : List ℕ) (r : Result Operation Refusal) → IsBytes bytes
-    → Makes (λ op. op) r (message_of bytes) → IfOk r (λ op. bytes ≡ spelling op)
+    → FindsWithMemory (λ op. op) r (message_of bytes) → IfOk r (λ op. bytes ≡ spelling op)
 made_is bytes (Ok op) fits made = (message_takes bytes op fits made).1
 made_is bytes (Err e) fits made = tt
 
 pub made_only : (bytes : List ℕ) (r : Result Operation Refusal) (op : Operation) → HasSpelling op
-    → bytes ≡ spelling op → Makes (λ op. op) r (message_of bytes) → IfOk r (λ decoded. decoded ≡ op)
+    → bytes ≡ spelling op → FindsWithMemory (λ op. op) r (message_of bytes) → IfOk r (λ decoded. decoded ≡ op)
 made_only bytes (Ok decoded) op is e made =
     some_is decoded op (sym made ∙ ap message_of e ∙ message_again op is)
 made_only bytes (Err refusal) op is e made = tt
@@ -581,7 +581,7 @@ none_spelled bytes fits = (λ none op is e. not_none op is e none, λ none. go (
     go (Some op) is none = let read = message_takes bytes op fits is in absurd (none op read.0 read.1)
 
 pub made_malformed : (bytes : List ℕ) (r : Result Operation Refusal) → IsBytes bytes
-    → Makes (λ op. op) r (message_of bytes) → IsErrOf r Malformed ↔ SpellsNone bytes
+    → FindsWithMemory (λ op. op) r (message_of bytes) → IsErrOf r Malformed ↔ SpellsNone bytes
 made_malformed bytes (Ok op) fits made = (
   λ h. absurd (cc),
   λ none. let nothing =

@@ -28,9 +28,9 @@ use Rattle.operations.specs.Operation.{OpKind, insert, delete, restore, change_l
 use Rattle.operations.specs.Spelling.{HasSpelling, version_byte, looks_spelling, spelling}
 
 -- the same of a function that takes memory, which can be refused only where reading finds a value
-abbrev pub Makes : {X Y : Type 0} → (X → Y) → Result X Refusal → Option Y → Type 0
-Makes view (Ok x) read = read ≡ Some (view x)
-Makes view (Err e) read = ((e ≡ Malformed) × (read ≡ None)) ⊎ ((e ≡ OutOfMemory) × IsSome read)
+abbrev pub FindsWithMemory : {X Y : Type 0} → (X → Y) → Result X Refusal → Option Y → Type 0
+FindsWithMemory view (Ok x) read = read ≡ Some (view x)
+FindsWithMemory view (Err e) read = ((e ≡ Malformed) × (read ≡ None)) ⊎ ((e ≡ OutOfMemory) × IsSome read)
 
 -- 1 to 31 letters, digits and full stops, the first a letter
 abbrev pub is_font_name : List ℕ → Bool
@@ -95,8 +95,8 @@ sel_at bytes = do
   if nat_lt 0 bits.0 && nat_lt bits.0 8 then Some (selection_of bits.0, bits.1) else None
 
 -- the root is offset 0 of site 0, which has no other one; an offset in a site's file is below MAX_FILE
-abbrev pub anchor_of : ℕ → ℕ → Option Anchor
-anchor_of site off =
+abbrev pub checked_anchor : ℕ → ℕ → Option Anchor
+checked_anchor site off =
     if site == 0 then (if off == 0 then Some Root else None)
     else (if nat_lt off MAX_FILE then Some (At (record { site = site; off = off })) else None)
 
@@ -105,7 +105,7 @@ unfoldable pub anchor_at : List ℕ → Option (Anchor × List ℕ)
 anchor_at bytes = do
   site ← number_at w16 bytes
   off ← number_at w32 site.1
-  anchor ← anchor_of site.0 off.0
+  anchor ← checked_anchor site.0 off.0
   Some (anchor, off.1)
 
 -- a range of names, within its site's file
@@ -192,10 +192,10 @@ kind_at kind site bytes =
     else (if kind == 4 then restore_at bytes else None)))
 
 -- the letters OT, the version of the kind, and its number
-abbrev pub tag_at : List ℕ → Option (ℕ × List ℕ)
-tag_at (o ∷ t ∷ version ∷ kind ∷ rest) =
+abbrev pub message_tag_at : List ℕ → Option (ℕ × List ℕ)
+message_tag_at (o ∷ t ∷ version ∷ kind ∷ rest) =
     if o == 79 && t == 84 && version == version_byte kind then Some (kind, rest) else None
-tag_at bytes = None
+message_tag_at bytes = None
 
 -- a stamp, 1 to 2^48 - 1
 unfoldable pub stamp_at : List ℕ → Option (ℕ × List ℕ)
@@ -214,7 +214,7 @@ pub record Header : Type 0 where
 -- the tag, the text, the identity, the stamp
 unfoldable pub header_at : List ℕ → Option (Header × List ℕ)
 header_at bytes = do
-  kind ← tag_at bytes
+  kind ← message_tag_at bytes
   text ← positive_at w16 kind.1
   site ← positive_at w16 text.1
   seq ← positive_at w32 site.1

@@ -6,8 +6,8 @@ ghost use Rattle.looks.specs.Refusal.{RefusedForMemoryAlone};
 ghost use Rattle.operations.specs.Operation.{Operation};
 ghost use Rattle.operations.specs.Spelling.{HasSpelling, looks_spelling, spelling};
 ghost use Rattle.byte_fields.specs.Fields.{Finds};
-ghost use Rattle.operations.specs.Reading.{Makes, looks_len_at, fits_in_file, is_cause, insert_at};
-ghost use Rattle.operations.specs.Reading.{delete_at, restore_at, change_at, kind_at, tag_at, stamp_at};
+ghost use Rattle.operations.specs.Reading.{FindsWithMemory, looks_len_at, fits_in_file, is_cause, insert_at};
+ghost use Rattle.operations.specs.Reading.{delete_at, restore_at, change_at, kind_at, message_tag_at, stamp_at};
 ghost use Rattle.operations.specs.Reading.{header_at, operation_of, operation_at, message_of, SpellsNone};
 ghost use Rattle.operations.specs.Reading.{NoneBeginsAnother, LooksAreDetermined, NoneIsShared};
 ghost use Rattle.operations.specs.Parts.{view_header, view_parts, NamesFew};
@@ -139,7 +139,7 @@ fn parts_at(kind: u8, site: SiteNo, bytes: &[u8]) -> Option<(Parts<'_>, &[u8])>
 
 // The number of the kind, after what tells a message and the kind's version.
 fn tag_at(bytes: &[u8]) -> Option<(u8, &[u8])>
-    ensures { Finds (λ x. (x.0, x.1.now)) result (tag_at bytes.now) }
+    ensures { Finds (λ x. (x.0, x.1.now)) result (message_tag_at bytes.now) }
 {
     match bytes {
         [b'O', b'T', version, kind, rest @ ..] if *version == version_of(*kind) => {
@@ -244,7 +244,7 @@ fn operation_from(alloc: Global, header: Header, parts: Parts<'_>) -> Result<Op,
 }
 
 fn read_message(alloc: Global, bytes: &[u8]) -> Result<Op, Refusal>
-    ensures { Makes (λ op. op) result (message_of bytes.now) }
+    ensures { FindsWithMemory (λ op. op) result (message_of bytes.now) }
 {
     let Some((header, parts)) = message_of(bytes) else {
         return Err(Refusal::Malformed);

@@ -20,7 +20,7 @@ use Rattle.operations.specs.Operation.{Operation}
 use Rattle.operations.specs.Spelling.{HasSpelling, looks_spelling}
 use Rattle.packed.specs.Numbers.{sevens, step_spelling}
 use Rattle.packed.specs.declared.expected.Expected.{Expected}
-use Rattle.packed.specs.Told.{Told, after, expected, noted, told_on, told_after}
+use Rattle.packed.specs.Told.{Told, after_one_more, expected, noted, told_on, told_after}
 use Rattle.packed.specs.Spelling.{is_code, time_lead, looks_lead, place_lead, bytes_spelling, edit_spelling, packed_next, packed_after}
 use Rattle.packed.specs.Reading.{CanBeNext}
 use Rattle.packed.specs.Laws.{CanFollow}
@@ -48,7 +48,7 @@ fewer_letters chunk end found most bytes less within plain =
 
 -- letters that stand in front end before what is the first code, where so many bytes are looked at
 pub before_the_code : (chunk : Bool) (found most : ℕ) (typed rest : List ℕ) → AreLetters chunk typed → length typed ≤ most
-    → ((b : ℕ) (after : List ℕ) → drop found (take most (typed ++ rest)) ≡ b ∷ after → is_code chunk b ≡ true)
+    → ((b : ℕ) (after_one_more : List ℕ) → drop found (take most (typed ++ rest)) ≡ b ∷ after_one_more → is_code chunk b ≡ true)
     → length typed ≤ found
 before_the_code chunk found most [] rest plain few ended = omega arith
 before_the_code chunk found zero (b ∷ typed) rest plain few ended = absurd (omega (arith, few))
@@ -93,7 +93,7 @@ letter_packed t text typing b on plain =
 
 -- what is expected then
 expected_then : (t : Told) (typing : Typing) (b : ℕ)
-    → expected (told_on t (letter typing b)) typing.site ≡ after (expected t typing.site) (letter typing b)
+    → expected (told_on t (letter typing b)) typing.site ≡ after_one_more (expected t typing.site) (letter typing b)
 expected_then t typing b =
     expected_on t (letter typing b) typing.site ∙ cond-true (eqb typing.site typing.site) _ _ (eq-eqb _ _ refl)
 
@@ -313,7 +313,7 @@ none_is_code t text typing (b ∷ c ∷ bytes) are =
 pub record BeginsTyped (t : Told) (text : ℕ) (typing : Typing) (bytes : List ℕ) : Type 0 where
   pub first : ℕ
   pub after : List ℕ
-  pub is : bytes ≡ first ∷ after
+  pub is : bytes ≡ first ∷ after_one_more
   pub on : TypesOn t text typing
   pub plain : is_code t.in_chunk first ≡ false
   pub spelled : HasSpelling (letter typing first)
@@ -436,7 +436,7 @@ letters_told t typing b (c ∷ bytes) =
     let len : (expected u typing.site).len ≡ (expected t typing.site).len + 1 =
     ap (λ (e : Expected). e.len) (expected_then t typing b) in
     letters_told u (after_letter typing) c bytes
-    ∙ noted_twice t typing.site (after (expected t typing.site) (letter typing b))
+    ∙ noted_twice t typing.site (after_one_more (expected t typing.site) (letter typing b))
     (typed_so_far (after_letter typing) (expected u typing.site).len (length bytes))
     ∙ ap (λ (e : Expected). noted t typing.site e)
     (same_typed_to typing.site typing.looks _ _ _ _ _ _ _ _ (omega arith) (omega (arith, len)) (omega arith) (omega arith))
@@ -457,9 +457,9 @@ last_in typing b [] spelled =
       at = omega (arith, is.kind.in_file);
     }
 last_in typing b (c ∷ bytes) spelled =
-    let after = last_in (after_letter typing) c bytes
+    let after_one_more = last_in (after_letter typing) c bytes
     (All-tail HasSpelling (letter typing b) (letters (after_letter typing) (c ∷ bytes)) spelled) in
-    record { seq = omega (arith, after.seq); stamp = omega (arith, after.stamp); at = omega (arith, after.at) }
+    record { seq = omega (arith, after_one_more.seq); stamp = omega (arith, after_one_more.stamp); at = omega (arith, after_one_more.at) }
 
 -- ---- letters that come next
 

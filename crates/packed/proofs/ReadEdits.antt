@@ -18,10 +18,10 @@ use Rattle.operations.specs.Spelling.{selected_spelling, IsKind, IsCause}
 use Rattle.operations.proofs.ReadLooks.{sel_reads, selected_looks_reads}
 use Rattle.packed.specs.Sets.{packed_set, is_one}
 use Rattle.packed.specs.declared.expected.Expected.{Expected}
-use Rattle.packed.specs.Told.{IsInFile}
+use Rattle.packed.specs.Told.{IsOffsetInFile}
 use Rattle.packed.specs.Spelling.{is_code, looks_lead, place_lead, bytes_spelling, delete_spelling, edit_spelling}
-use Rattle.packed.specs.Reading.{typed_at, place_at, bytes_at, one_from, insert_from, here_at, placed_at}
-use Rattle.packed.specs.Reading.{delete_at, restore_at, change_at, edit_at}
+use Rattle.packed.specs.Reading.{typed_looks_at, place_at, bytes_at, one_from, insert_from, here_at, placed_at}
+use Rattle.packed.specs.Reading.{packed_delete_at, packed_restore_at, packed_change_at, edit_at}
 use Rattle.packed.proofs.ReadSets.{packed_set_reads}
 use Rattle.packed.proofs.Starts.{Starts, AfterTime, after_time, starts_less, bytes_start, one_starts, place_starts, looks_start, letter_is}
 use Rattle.packed.proofs.ReadParts.{either, same_as_itself, typed_taken, typed_again, typed_not}
@@ -37,9 +37,9 @@ many_spelling caret (r ∷ []) e = cond-false (eqb r.len 1) _ _ e
 many_spelling caret (r ∷ s ∷ names) e = refl
 
 delete_taken : (chunk : Bool) (e : Expected) (bytes : List ℕ) (kind : OpKind) (rest : List ℕ) → IsBytes bytes
-    → delete_at bytes ≡ Some (kind, rest)
+    → packed_delete_at bytes ≡ Some (kind, rest)
     → Took (edit_spelling chunk e) (λ kind. Begins kind e.len) (7 ∷ bytes) kind rest
-unfolding delete_at
+unfolding packed_delete_at
 delete_taken chunk e bytes kind rest fits h =
     let s = step _ _ _ packed_set_reads _ bytes (kind, rest) fits h in
     let g = not_stopped (is_one s.x) (Some (delete s.x, s.rest)) (kind, rest) s.goes_on in
@@ -53,9 +53,9 @@ delete_taken chunk e bytes kind rest fits h =
     })
 
 restore_taken : (chunk : Bool) (e : Expected) (bytes : List ℕ) (kind : OpKind) (rest : List ℕ) → IsBytes bytes
-    → restore_at bytes ≡ Some (kind, rest)
+    → packed_restore_at bytes ≡ Some (kind, rest)
     → Took (edit_spelling chunk e) (λ kind. Begins kind e.len) (12 ∷ bytes) kind rest
-unfolding restore_at
+unfolding packed_restore_at
 restore_taken chunk e bytes kind rest fits h =
     let s = step _ _ _ packed_set_reads _ bytes (kind, rest) fits h in
     subst (λ (p : OpKind × List ℕ). Took (edit_spelling chunk e) (λ kind. Begins kind e.len) (12 ∷ bytes) p.0 p.1)
@@ -69,9 +69,9 @@ change_split sel looks names rest =
     ap (λ (r : List ℕ). bits_of sel ∷ r) (append_assoc (selected_spelling sel looks) (packed_set names) rest)
 
 change_taken : (chunk : Bool) (e : Expected) (bytes : List ℕ) (kind : OpKind) (rest : List ℕ) → IsBytes bytes
-    → change_at bytes ≡ Some (kind, rest)
+    → packed_change_at bytes ≡ Some (kind, rest)
     → Took (edit_spelling chunk e) (λ kind. Begins kind e.len) (11 ∷ bytes) kind rest
-unfolding change_at
+unfolding packed_change_at
 change_taken chunk e bytes kind rest fits h =
     let s = step _ _ _ sel_reads _ bytes (kind, rest) fits h in
     let t = step _ _ _ (selected_looks_reads s.x) _ s.rest (kind, rest) s.took.rest_fits s.goes_on in
@@ -142,12 +142,12 @@ here_taken chunk e looks place bytes kind rest fits h =
 three_parts : (a b c rest : List ℕ) → (a ++ b ++ c) ++ rest ≡ a ++ (b ++ (c ++ rest))
 three_parts a b c rest = append_assoc (a ++ b) c rest ∙ append_assoc a b (c ++ rest)
 
-placed_taken : (chunk : Bool) (e : Expected) (bytes : List ℕ) (kind : OpKind) (rest : List ℕ) → IsInFile e.caret → IsBytes bytes
+placed_taken : (chunk : Bool) (e : Expected) (bytes : List ℕ) (kind : OpKind) (rest : List ℕ) → IsOffsetInFile e.caret → IsBytes bytes
     → placed_at chunk e bytes ≡ Some (kind, rest)
     → Took (edit_spelling chunk e) (λ kind. Begins kind e.len) bytes kind rest
 unfolding placed_at
 placed_taken chunk e bytes kind rest below fits h =
-    let s = bind_some (typed_at e.looks bytes) _ (kind, rest) h in
+    let s = bind_some (typed_looks_at e.looks bytes) _ (kind, rest) h in
     let looks = typed_taken e.looks bytes s.0.0 s.0.1 fits s.1 in
     let t = bind_some (place_at e.caret s.0.1) _ (kind, rest) s.2 in
     let place = place_taken e.caret s.0.1 t.0.0 t.0.1 below looks.rest_fits t.1 in
@@ -162,7 +162,7 @@ placed_taken chunk e bytes kind rest below fits h =
       in_range = here.begins;
     }
 
-pub edit_taken : (chunk : Bool) (e : Expected) (bytes : List ℕ) (kind : OpKind) (rest : List ℕ) → IsInFile e.caret → IsBytes bytes
+pub edit_taken : (chunk : Bool) (e : Expected) (bytes : List ℕ) (kind : OpKind) (rest : List ℕ) → IsOffsetInFile e.caret → IsBytes bytes
     → edit_at chunk e bytes ≡ Some (kind, rest)
     → Took (edit_spelling chunk e) (λ kind. Begins kind e.len) bytes kind rest
 unfolding edit_at
@@ -208,7 +208,7 @@ insert_again chunk e looks place (b ∷ c ∷ bytes) rest some few =
     rw (bytes_again chunk (b ∷ c ∷ bytes) rest (some, omega (arith, few))) refl
 
 -- read as it is written, where its looks and its place were read
-placed_again : (chunk : Bool) (e : Expected) (looks : Looks) (place : Anchor) (last rest : List ℕ) (kind : OpKind) → IsInFile e.caret
+placed_again : (chunk : Bool) (e : Expected) (looks : Looks) (place : Anchor) (last rest : List ℕ) (kind : OpKind) → IsOffsetInFile e.caret
     → IsLooks looks → IsPlace place → Starts 5 (last ++ rest)
     → here_at chunk e looks place (last ++ rest) ≡ Some (kind, rest)
     → edit_at chunk e ((looks_lead e.looks looks ++ place_lead e.caret place ++ last) ++ rest) ≡ Some (kind, rest)
@@ -224,7 +224,7 @@ placed_again chunk e looks place last rest kind below is at start here =
     ) here
 
 -- with no looks of its own
-one_again : (chunk : Bool) (e : Expected) (name : CharName) (rest : List ℕ) → IsInFile e.caret → IsName name
+one_again : (chunk : Bool) (e : Expected) (name : CharName) (rest : List ℕ) → IsOffsetInFile e.caret → IsName name
     → edit_at chunk e ((place_lead e.caret (At name) ++ 8 ∷ []) ++ rest) ≡ Some (delete (of_name name ∷ []), rest)
 unfolding placed_at here_at
 one_again chunk e name rest below is =
@@ -238,9 +238,9 @@ one_again chunk e name rest below is =
       same_as_itself e.looks,
     ) refl
 
-delete_again : (chunk : Bool) (e : Expected) (names : List Range) (rest : List ℕ) → IsInFile e.caret → IsNamed names
+delete_again : (chunk : Bool) (e : Expected) (names : List Range) (rest : List ℕ) → IsOffsetInFile e.caret → IsNamed names
     → edit_at chunk e (delete_spelling e.caret names ++ rest) ≡ Some (delete names, rest)
-unfolding edit_at delete_at
+unfolding edit_at packed_delete_at
 delete_again chunk e names rest below is = by (is_one names) refl
   where
     one : (names : List Range) → IsNamed names → is_one names ≡ true
@@ -265,9 +265,9 @@ change_again : (chunk : Bool) (e : Expected) (site : ℕ) (sel : Selection) (loo
     → IsKind site (change_looks sel looks names)
     → edit_at chunk e ((11 ∷ bits_of sel ∷ selected_spelling sel looks ++ packed_set names) ++ rest)
     ≡ Some (change_looks sel looks names, rest)
-unfolding edit_at change_at
+unfolding edit_at packed_change_at
 change_again chunk e site sel looks names rest is =
-    ap change_at (change_split sel looks names rest)
+    ap packed_change_at (change_split sel looks names rest)
     ∙ rw (
       sel_reads.again sel (selected_spelling sel looks ++ (packed_set names ++ rest)) is.some,
       (selected_looks_reads sel).again looks (packed_set names ++ rest) (is.valid_looks, is.plain_elsewhere),
@@ -276,14 +276,14 @@ change_again chunk e site sel looks names rest is =
 
 restore_again : (chunk : Bool) (e : Expected) (names : List Range) (rest : List ℕ) → IsNamed names
     → edit_at chunk e ((12 ∷ packed_set names) ++ rest) ≡ Some (restore names, rest)
-unfolding edit_at restore_at
+unfolding edit_at packed_restore_at
 restore_again chunk e names rest is = rw (packed_set_reads.again names rest is) refl
 
 place_of_cause : (site at : ℕ) (cause : Anchor) → IsCause site at cause → IsPlace cause
 place_of_cause site at Root is = tt
 place_of_cause site at (At name) is = (is.0, is.1, is.2)
 
-pub edit_again : (chunk : Bool) (e : Expected) (site : ℕ) (kind : OpKind) (rest : List ℕ) → IsInFile e.caret → IsKind site kind
+pub edit_again : (chunk : Bool) (e : Expected) (site : ℕ) (kind : OpKind) (rest : List ℕ) → IsOffsetInFile e.caret → IsKind site kind
     → Begins kind e.len → edit_at chunk e (edit_spelling chunk e kind ++ rest) ≡ Some (kind, rest)
 edit_again chunk e site (insert cause at looks bytes) rest below is begins =
     placed_again chunk e looks cause (bytes_spelling chunk bytes) rest (insert cause at looks bytes) below is.valid_looks

@@ -7,7 +7,7 @@ use Rattle.operations.specs.Spelling.{HasSpelling}
 use Rattle.packed.specs.declared.expected.Expected.{Expected}
 use Rattle.packed.specs.Told.{Told, expected, IsNext, CaretsAreInFiles}
 use Rattle.packed.specs.Spelling.{time_lead, edit_spelling, packed_next}
-use Rattle.packed.specs.Reading.{typed_at, place_at, bytes_at, insert_from, here_at, placed_at}
+use Rattle.packed.specs.Reading.{typed_looks_at, place_at, bytes_at, insert_from, here_at, placed_at}
 use Rattle.packed.specs.Reading.{time_at, edit_at, Parts, parts_at, next_of_parts, CanBeNext}
 use Rattle.packed.proofs.ReadParts.{time_taken, time_again}
 use Rattle.packed.proofs.ReadEdits.{edit_taken, edit_again, edit_starts}
@@ -93,7 +93,7 @@ none_read told text bytes op rest below can e h =
 
 -- in a chunk no operation begins with 15
 edit_is_none : (chunk : Bool) (e : Expected) (bytes : List ℕ) → chunk ≡ true → edit_at chunk e (15 ∷ bytes) ≡ None
-unfolding edit_at placed_at typed_at place_at here_at insert_from bytes_at
+unfolding edit_at placed_at typed_looks_at place_at here_at insert_from bytes_at
 edit_is_none true e bytes in_chunk = refl
 edit_is_none false e bytes in_chunk = absurd cc
 

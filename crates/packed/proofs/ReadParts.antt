@@ -13,7 +13,7 @@ use Rattle.operations.specs.Spelling.{looks_spelling}
 use Rattle.operations.proofs.ReadLooks.{looks_reads}
 use Rattle.packed.specs.Numbers.{sevens}
 use Rattle.packed.specs.Spelling.{is_last, time_lead, looks_lead}
-use Rattle.packed.specs.Reading.{site_at, same_site, other_site_at, later_at, time_at, other_looks_at, typed_at}
+use Rattle.packed.specs.Reading.{site_at, same_site, other_site_at, later_at, time_at, other_looks_at, typed_looks_at}
 use Rattle.packed.proofs.Sevens.{sevens_reads}
 use Rattle.packed.proofs.Starts.{past_ne, Starts, AfterTime}
 
@@ -221,8 +221,8 @@ other_looks_taken typed bytes l rest fits e =
     })
 
 pub typed_taken : (typed : Looks) (bytes : List ℕ) (l : Looks) (rest : List ℕ) → IsBytes bytes
-    → typed_at typed bytes ≡ Some (l, rest) → Took (looks_lead typed) Whatever bytes l rest
-unfolding typed_at
+    → typed_looks_at typed bytes ≡ Some (l, rest) → Took (looks_lead typed) Whatever bytes l rest
+unfolding typed_looks_at
 typed_taken typed bytes l rest fits e =
     let s = step _ _ _ byte_reads _ bytes (l, rest) fits e in
     elim (either (eqb s.x 3) _ _ _ s.goes_on) [
@@ -240,21 +240,21 @@ typed_taken typed bytes l rest fits e =
           })
     ]
 
-pub typed_not : (typed : Looks) (rest : List ℕ) → Starts 3 rest → typed_at typed rest ≡ Some (typed, rest)
-unfolding typed_at
+pub typed_not : (typed : Looks) (rest : List ℕ) → Starts 3 rest → typed_looks_at typed rest ≡ Some (typed, rest)
+unfolding typed_looks_at
 typed_not typed rest s =
     let three = past_ne 3 s.first 3 s.start.past (omega arith) (omega arith) in
     rw s.is (rw three refl)
 
 pub typed_again : (typed l : Looks) (rest : List ℕ) → IsLooks l → Starts 3 rest
-    → typed_at typed (looks_lead typed l ++ rest) ≡ Some (l, rest)
-unfolding typed_at other_looks_at
+    → typed_looks_at typed (looks_lead typed l ++ rest) ≡ Some (l, rest)
+unfolding typed_looks_at other_looks_at
 typed_again typed l rest is s =
     elim (cases_Bool (same_looks typed l)) [
       | inl same ↦
-          ap (λ (r : List ℕ). typed_at typed (r ++ rest)) (cond-true (same_looks typed l) [] (3 ∷ looks_spelling l) same)
+          ap (λ (r : List ℕ). typed_looks_at typed (r ++ rest)) (cond-true (same_looks typed l) [] (3 ∷ looks_spelling l) same)
           ∙ typed_not typed rest s ∙ ap (λ (k : Looks). Some (k, rest)) (same_from typed l same)
       | inr other ↦
-          ap (λ (r : List ℕ). typed_at typed (r ++ rest)) (cond-false (same_looks typed l) [] (3 ∷ looks_spelling l) other)
+          ap (λ (r : List ℕ). typed_looks_at typed (r ++ rest)) (cond-false (same_looks typed l) [] (3 ∷ looks_spelling l) other)
           ∙ rw (looks_reads.again l rest is, other) refl
     ]

@@ -11,7 +11,7 @@ use Rattle.char_files.specs.declared.TheConstants.{MAX_FILE}
 use Rattle.char_files.specs.declared.name.Anchor.{Anchor}
 use Rattle.char_files.specs.declared.name.Anchor.TheVariants.{Root, At}
 use Rattle.packed.specs.Numbers.{sevens, step_spelling}
-use Rattle.packed.specs.Told.{IsInFile}
+use Rattle.packed.specs.Told.{IsOffsetInFile}
 use Rattle.packed.specs.Spelling.{is_code, place_lead, bytes_spelling}
 use Rattle.packed.specs.Reading.{named, near_at, root_from, is_of, name_from, far_at, step_from, place_at}
 use Rattle.packed.specs.Reading.{long_at, code_at, bytes_at}
@@ -133,12 +133,12 @@ far_taken caret bytes p rest fits e =
           (name_taken caret s.x s.rest p rest s.took.rest_fits h.1)
     ]
 
-step_taken : (caret : Anchor) (bytes : List ℕ) (p : Anchor) (rest : List ℕ) → IsInFile caret → IsBytes bytes
+step_taken : (caret : Anchor) (bytes : List ℕ) (p : Anchor) (rest : List ℕ) → IsOffsetInFile caret → IsBytes bytes
     → step_from caret bytes ≡ Some (p, rest) → Took (place_lead caret) Whatever (4 ∷ bytes) p rest
 step_taken Root bytes p rest below fits e = absurd cc
 step_taken (At caret) bytes p rest below fits e = near_taken caret bytes p rest below fits e
 
-pub place_taken : (caret : Anchor) (bytes : List ℕ) (p : Anchor) (rest : List ℕ) → IsInFile caret → IsBytes bytes
+pub place_taken : (caret : Anchor) (bytes : List ℕ) (p : Anchor) (rest : List ℕ) → IsOffsetInFile caret → IsBytes bytes
     → place_at caret bytes ≡ Some (p, rest) → Took (place_lead caret) Whatever bytes p rest
 unfolding place_at
 place_taken caret bytes p rest below fits e =
@@ -200,7 +200,7 @@ near_again caret name rest below is on apart =
       apart,
     ) refl
 
-pub place_again : (caret p : Anchor) (rest : List ℕ) → IsInFile caret → IsPlace p → Starts 5 rest
+pub place_again : (caret p : Anchor) (rest : List ℕ) → IsOffsetInFile caret → IsPlace p → Starts 5 rest
     → place_at caret (place_lead caret p ++ rest) ≡ Some (p, rest)
 unfolding place_at far_at
 place_again Root Root rest below is s = place_not Root rest s

@@ -19,15 +19,15 @@ use Rattle.operations.proofs.Joins.{is_set_of}
 use Rattle.byte_fields.specs.Fields.{◌>>=◌}
 use Rattle.byte_fields.proofs.Readers.{IsBytes, Took, Reads, step, bind_some, some_is}
 use Rattle.packed.specs.Numbers.{sevens, sevens_at}
-use Rattle.packed.specs.Sets.{Follows, gap_before, range_after, ranges_after, packed_set, range_of, range_after_at}
-use Rattle.packed.specs.Sets.{ranges_after_at, ranges_in, packed_set_at}
+use Rattle.packed.specs.Sets.{FollowsApart, gap_before, range_after, ranges_after, packed_set, range_in_file, range_after_at}
+use Rattle.packed.specs.Sets.{ranges_after_at, packed_ranges_in, packed_set_at}
 use Rattle.packed.proofs.Sevens.{sevens_reads}
 use Rattle.packed.proofs.WriteSets.{AreAfter, after_nothing, set_after}
 
 -- ---- one range
 
 abbrev IsNext : (site end : ℕ) → Range → Type 0
-IsNext site end r = IsRange r × Follows site end r
+IsNext site end r = IsRange r × FollowsApart site end r
 
 range_split : (site end : ℕ) (r : Range) (rest : List ℕ) → range_after site end r ++ rest
     ≡ sevens (r.site - site) ++ (sevens (gap_before site end r) ++ (sevens (r.len - 1) ++ rest))
@@ -38,17 +38,17 @@ range_split site end r rest = simp append_assoc
 abbrev at_gap : (further end gap : ℕ) → ℕ
 at_gap further end gap = cond (eqb further 0) (end + 1 + gap) gap
 
-range_is : (site at len : ℕ) (r : Range) → range_of site at len ≡ Some r
+range_is : (site at len : ℕ) (r : Range) → range_in_file site at len ≡ Some r
     → (0 < site) × (site < 2 ^ 16) × (at + len ≤ MAX_FILE) × (record { site = site; at = at; len = len } ≡ r)
 range_is site at len r e = grind (arith, nat_tests)
 
 range_there : (site at len : ℕ) → 0 < site → site < 2 ^ 16 → at + len ≤ MAX_FILE
-    → range_of site at len ≡ Some (record { site = site; at = at; len = len })
+    → range_in_file site at len ≡ Some (record { site = site; at = at; len = len })
 range_there site at len a b c = grind (arith, nat_tests)
 
 -- the three numbers tell a range that follows, and the range tells them
 told : (site end further gap more : ℕ) (r : Range)
-    → range_of (site + further) (at_gap further end gap) (more + 1) ≡ Some r
+    → range_in_file (site + further) (at_gap further end gap) (more + 1) ≡ Some r
     → IsNext site end r × (r.site - site ≡ further) × (gap_before site end r ≡ gap) × (r.len - 1 ≡ more)
 told site end further gap more r e =
     let h = range_is (site + further) (at_gap further end gap) (more + 1) r e in
@@ -56,14 +56,14 @@ told site end further gap more r e =
     let at-is : at_gap further end gap ≡ r.at = ap (λ (s : Range). s.at) h.3 in
     let len-is : more + 1 ≡ r.len = ap (λ (s : Range). s.len) h.3 in
     let range : IsRange r = (omega arith, omega arith, omega arith, omega arith) in
-    let follows : Follows site end r = grind (arith, nat_tests) in
+    let follows : FollowsApart site end r = grind (arith, nat_tests) in
     let gap-is : gap_before site end r ≡ gap = grind (arith, nat_tests) in
     ((range, follows), omega arith, gap-is, omega arith)
 
 tells : (site end : ℕ) (r : Range) → IsNext site end r
-    → range_of (site + (r.site - site)) (at_gap (r.site - site) end (gap_before site end r)) (r.len - 1 + 1) ≡ Some r
+    → range_in_file (site + (r.site - site)) (at_gap (r.site - site) end (gap_before site end r)) (r.len - 1 + 1) ≡ Some r
 tells site end r h =
-    let follows : Follows site end r = h.1 in
+    let follows : FollowsApart site end r = h.1 in
     let site-is : site + (r.site - site) ≡ r.site = grind arith in
     let at-is : at_gap (r.site - site) end (gap_before site end r) ≡ r.at = grind (arith, nat_tests) in
     let len-is : r.len - 1 + 1 ≡ r.len = omega (arith, h.0.2) in
@@ -82,7 +82,7 @@ range_reads site end = record {
       let s = step _ _ _ sevens_reads _ bytes (r, rest) fits e in
       let t = step _ _ _ sevens_reads _ s.rest (r, rest) s.took.rest_fits s.goes_on in
       let u = step _ _ _ sevens_reads _ t.rest (r, rest) t.took.rest_fits t.goes_on in
-      let h = bind_some (range_of (site + s.x) (at_gap s.x end t.x) (u.x + 1)) _ (r, rest) u.goes_on in
+      let h = bind_some (range_in_file (site + s.x) (at_gap s.x end t.x) (u.x + 1)) _ (r, rest) u.goes_on in
       let is = told site end s.x t.x u.x h.0 h.1 in
       let whole : bytes ≡ range_after site end h.0 ++ u.rest =
       spelled site end h.0 s.x t.x u.x bytes s.rest t.rest u.rest is.1 is.2 is.3 s.took.parts t.took.parts
@@ -91,7 +91,7 @@ range_reads site end = record {
       (some_is (h.0, u.rest) (r, rest) h.2)
       (record { parts = whole; rest_fits = u.took.rest_fits; in_range = is.0 });
   again = λ r rest is.
-      let follows : Follows site end r = is.1 in
+      let follows : FollowsApart site end r = is.1 in
       let gap : gap_before site end r < 2 ^ 49 = grind (arith, nat_tests) in
       ap (range_after_at site end) (range_split site end r rest)
       ∙ rw (
@@ -207,7 +207,7 @@ set_of-ranges ranges set =
 -- what is read after its count is a set
 pub read_is_named : (bytes : List ℕ) (more : ℕ) (raw rest : List ℕ) → IsBytes bytes → sevens_at bytes ≡ Some (more, raw)
     → more < MAX_RANGES → option_map (λ x. x.1) (ranges_after_at (more + 1) 0 0 raw) ≡ Some rest
-    → IsSome (ranges_after_at (more + 1) 0 0 raw) × IsNamed (ranges_in (more + 1) raw)
+    → IsSome (ranges_after_at (more + 1) 0 0 raw) × IsNamed (packed_ranges_in (more + 1) raw)
 read_is_named bytes more raw rest fits first few e = go (ranges_after_at (more + 1) 0 0 raw) refl e
   where
     go : (read : Option (List Range × List ℕ)) → ranges_after_at (more + 1) 0 0 raw ≡ read
@@ -300,7 +300,7 @@ read_there None there = absurd cc
 read_there (Some x) there = (x.1, refl)
 
 pub none_read : (count : ℕ) (bytes : List ℕ) → IsSome (ranges_after_at count 0 0 bytes)
-    → IsRead (ranges_in count bytes) [] count 0 0 0 bytes
+    → IsRead (packed_ranges_in count bytes) [] count 0 0 0 bytes
 none_read count bytes there =
     let is = read_there (ranges_after_at count 0 0 bytes) there in
     record {

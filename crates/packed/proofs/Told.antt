@@ -12,8 +12,8 @@ use Rattle.operations.specs.NameSet.{Range, IsNamed, IsRange}
 use Rattle.operations.specs.Operation.{Operation, OpKind, insert, delete, restore, change_looks}
 use Rattle.operations.specs.Spelling.{HasSpelling, IsKind}
 use Rattle.packed.specs.declared.expected.Expected.{Expected}
-use Rattle.packed.specs.Told.{at_first, before_first, caret_after, after, Told, nothing_told, nothing_begun, noted, has_begun, begun_at, expected, told_on, told_after}
-use Rattle.packed.specs.Told.{IsInFile, CaretsAreInFiles, expected_after, OwnOperationsTell}
+use Rattle.packed.specs.Told.{at_first, before_first, own_caret_after, after_one_more, Told, nothing_told, nothing_begun, noted, has_begun, begun_at, expected, told_on, told_after}
+use Rattle.packed.specs.Told.{IsOffsetInFile, CaretsAreInFiles, expected_after, OwnOperationsTell}
 
 eqb_flips : (x y : ℕ) → eqb x y ≡ eqb y x
 eqb_flips x y =
@@ -100,44 +100,44 @@ not_begun told site none = by (lookup (nat_eq site) told.sites) none
 
 -- one operation more tells of its own site alone
 pub expected_on : (told : Told) (op : Operation) (site : ℕ)
-    → expected (told_on told op) site ≡ cond (eqb op.site site) (after (expected told op.site) op) (expected told site)
-expected_on told op site = expected_noted told op.site (after (expected told op.site) op) site
+    → expected (told_on told op) site ≡ cond (eqb op.site site) (after_one_more (expected told op.site) op) (expected told site)
+expected_on told op site = expected_noted told op.site (after_one_more (expected told op.site) op) site
 
-before_in : (names : List Range) → IsNamed names → IsInFile (before_first names)
+before_in : (names : List Range) → IsNamed names → IsOffsetInFile (before_first names)
 before_in [] named = tt
 before_in (r ∷ names) named = by (eqb r.at 0)
   where
     range : IsRange r
     range = named.set.ranges 0 r (omega arith)
 
-    by : (b : Bool) → IsInFile (cond b Root (At (record { site = r.site; off = r.at - 1 })))
+    by : (b : Bool) → IsOffsetInFile (cond b Root (At (record { site = r.site; off = r.at - 1 })))
     by true = tt
     by false = omega (arith, range.2, range.3)
 
-caret_in : (site : ℕ) (caret : Anchor) (kind : OpKind) → IsKind site kind → IsInFile caret
-    → IsInFile (caret_after site caret kind)
+caret_in : (site : ℕ) (caret : Anchor) (kind : OpKind) → IsKind site kind → IsOffsetInFile caret
+    → IsOffsetInFile (own_caret_after site caret kind)
 caret_in site caret (insert cause at looks bytes) is below = omega (arith, is.some, is.in_file)
 caret_in site caret (delete names) is below = before_in names is
 caret_in site caret (restore names) is below = below
 caret_in site caret (change_looks sel looks names) is below = below
 
 -- the carets stay within the files
-pub carets_noted : (told : Told) (of : ℕ) (new : Expected) → IsInFile new.caret → CaretsAreInFiles told
+pub carets_noted : (told : Told) (of : ℕ) (new : Expected) → IsOffsetInFile new.caret → CaretsAreInFiles told
     → CaretsAreInFiles (noted told of new)
 carets_noted told of new here below site =
-    subst (λ (e : Expected). IsInFile e.caret) (sym (expected_noted told of new site)) (by (eqb of site))
+    subst (λ (e : Expected). IsOffsetInFile e.caret) (sym (expected_noted told of new site)) (by (eqb of site))
   where
-    by : (b : Bool) → IsInFile (cond b new (expected told site)).caret
+    by : (b : Bool) → IsOffsetInFile (cond b new (expected told site)).caret
     by true = here
     by false = below site
 
 pub caret_on : (told : Told) (op : Operation) → HasSpelling op → CaretsAreInFiles told
-    → IsInFile (after (expected told op.site) op).caret
+    → IsOffsetInFile (after_one_more (expected told op.site) op).caret
 caret_on told op is below = caret_in op.site (expected told op.site).caret op.kind is.kind (below op.site)
 
 pub carets_on : (told : Told) (op : Operation) → HasSpelling op → CaretsAreInFiles told → CaretsAreInFiles (told_on told op)
 carets_on told op is below =
-    carets_noted told op.site (after (expected told op.site) op) (caret_on told op is below) below
+    carets_noted told op.site (after_one_more (expected told op.site) op) (caret_on told op is below) below
 
 pub carets_begun : (told : Told) (site seq stamp len : ℕ) → CaretsAreInFiles told
     → CaretsAreInFiles (begun_at told site seq stamp len)
@@ -164,9 +164,9 @@ own_tell (op ∷ ops) told site =
     rest = filter (λ (op : Operation). eqb op.site site) ops
 
     by : (b : Bool) → eqb op.site site ≡ b
-        → expected_after (cond b (after (expected told op.site) op) (expected told site)) rest
+        → expected_after (cond b (after_one_more (expected told op.site) op) (expected told site)) rest
         ≡ expected_after (expected told site) (cond b (op ∷ rest) rest)
-    by true e = ap (λ (s : ℕ). expected_after (after (expected told s) op) rest) (eqb-true op.site site e)
+    by true e = ap (λ (s : ℕ). expected_after (after_one_more (expected told s) op) rest) (eqb-true op.site site e)
     by false e = refl
 
 pub own_operations_tell : OwnOperationsTell

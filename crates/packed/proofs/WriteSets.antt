@@ -3,13 +3,13 @@ use Rattle.std.proofs.Common.{◌≡◌, ℕ, ◌+◌, ◌<◌, ◌≤◌, inl, 
 use Rattle.std.proofs.lemmas.List.{append-nil, drop_more, drop_all}
 use Rattle.operations.specs.NameSet.{Range, IsRange, IsBefore, IsSet}
 use Rattle.operations.proofs.WithName.{First, IsRising, rising, ranges_of, pairs_of}
-use Rattle.packed.specs.Sets.{Follows, range_after, ranges_after}
+use Rattle.packed.specs.Sets.{FollowsApart, range_after, ranges_after}
 use Rattle.packed.proofs.Parts.{IsPut, none_put, put_more, put_rest}
 
 -- each range is in its file, and after the one before
 abbrev pub AreAfter : (site end : ℕ) → List Range → Type 0
 AreAfter site end [] = Unit {0}
-AreAfter site end (r ∷ ranges) = IsRange r × Follows site end r × AreAfter r.site (r.at + r.len) ranges
+AreAfter site end (r ∷ ranges) = IsRange r × FollowsApart site end r × AreAfter r.site (r.at + r.len) ranges
 
 after_first : (r : Range) (ranges : List Range) → First (IsBefore r) ranges → IsRising ranges
     → AreAfter r.site (r.at + r.len) ranges
@@ -46,10 +46,10 @@ nothing_put old ranges set = record {
 
 -- the next range
 pub next_follows : (old new : List ℕ) (ranges : List Range) (i site end : ℕ) (r : Range) → i < length ranges
-    → r ≡ get_or ranges i r → IsPutTo old new ranges i site end → Follows site end r
+    → r ≡ get_or ranges i r → IsPutTo old new ranges i site end → FollowsApart site end r
 next_follows old new ranges i site end r lt is so_far =
     let split : drop i ranges ≡ get_or ranges i r ∷ drop (i + 1) ranges = drop_more ranges i r lt in
-    subst (Follows site end) (sym is) (subst (AreAfter site end) split so_far.later).1
+    subst (FollowsApart site end) (sym is) (subst (AreAfter site end) split so_far.later).1
 
 pub range_put : (old mid new : List ℕ) (ranges : List Range) (i site end : ℕ) (r : Range) → i < length ranges
     → r ≡ get_or ranges i r → IsPutTo old mid ranges i site end → new ≡ mid ++ range_after site end r

@@ -57,8 +57,8 @@ other_looks_at typed bytes = do
   if same_looks typed looks.0 then None else Some looks
 
 -- an Insert's looks
-unfoldable pub typed_at : Looks → List ℕ → Option (Looks × List ℕ)
-typed_at typed bytes = do
+unfoldable pub typed_looks_at : Looks → List ℕ → Option (Looks × List ℕ)
+typed_looks_at typed bytes = do
   first ← byte_at bytes
   if first.0 == 3 then other_looks_at typed first.1 else Some (typed, bytes)
 
@@ -150,25 +150,25 @@ here_at in_chunk e looks place bytes = do
 -- an Insert or a Delete of one character
 unfoldable pub placed_at : (in_chunk : Bool) → Expected → List ℕ → Option (OpKind × List ℕ)
 placed_at in_chunk e bytes = do
-  looks ← typed_at e.looks bytes
+  looks ← typed_looks_at e.looks bytes
   place ← place_at e.caret looks.1
   here_at in_chunk e looks.0 place.0 place.1
 
 -- a Delete of another set than one character
-unfoldable pub delete_at : List ℕ → Option (OpKind × List ℕ)
-delete_at bytes = do
+unfoldable pub packed_delete_at : List ℕ → Option (OpKind × List ℕ)
+packed_delete_at bytes = do
   names ← packed_set_at bytes
   if is_one names.0 then None else Some (delete names.0, names.1)
 
 -- a Restore
-unfoldable pub restore_at : List ℕ → Option (OpKind × List ℕ)
-restore_at bytes = do
+unfoldable pub packed_restore_at : List ℕ → Option (OpKind × List ℕ)
+packed_restore_at bytes = do
   names ← packed_set_at bytes
   Some (restore names.0, names.1)
 
 -- a ChangeLooks
-unfoldable pub change_at : List ℕ → Option (OpKind × List ℕ)
-change_at bytes = do
+unfoldable pub packed_change_at : List ℕ → Option (OpKind × List ℕ)
+packed_change_at bytes = do
   sel ← sel_at bytes
   looks ← selected_at sel.0 sel.1
   names ← packed_set_at looks.1
@@ -178,9 +178,9 @@ change_at bytes = do
 unfoldable pub edit_at : (in_chunk : Bool) → Expected → List ℕ → Option (OpKind × List ℕ)
 edit_at in_chunk e bytes = do
   first ← byte_at bytes
-  if first.0 == 7 then delete_at first.1
-      else (if first.0 == 11 then change_at first.1
-      else (if first.0 == 12 then restore_at first.1 else placed_at in_chunk e bytes))
+  if first.0 == 7 then packed_delete_at first.1
+      else (if first.0 == 11 then packed_change_at first.1
+      else (if first.0 == 12 then packed_restore_at first.1 else placed_at in_chunk e bytes))
 
 -- the site, by how much the stamp is above the one expected, and what is done
 pub record Parts : Type 0 where

@@ -16,5 +16,5 @@ view_edit (edit.Restore names) = restore names
 view_edit (edit.ChangeLooks sel looks names) = change_looks sel looks names
 
 -- the parts of an operation
-abbrev pub view_parts : Read → Parts
-view_parts r = record { site = r.site; more = r.more; kind = view_edit r.edit }
+abbrev pub view_read : Read → Parts
+view_read r = record { site = r.site; more = r.more; kind = view_edit r.edit }

@@ -9,8 +9,8 @@ use Rattle.operations.specs.NameSet.{Range}
 use Rattle.packed.specs.Numbers.{sevens, sevens_at}
 
 -- r stands after a range of this site that ends there, and doesn't touch it
-abbrev pub Follows : (site end : ℕ) → Range → Type 0
-Follows site end r = (site < r.site) ⊎ ((site ≡ r.site) × (end < r.at))
+abbrev pub FollowsApart : (site end : ℕ) → Range → Type 0
+FollowsApart site end r = (site < r.site) ⊎ ((site ≡ r.site) × (end < r.at))
 
 -- how many names are between, if the site is the same, else before r
 abbrev pub gap_before : (site end : ℕ) → Range → ℕ
@@ -30,8 +30,8 @@ unfoldable pub packed_set : List Range → List ℕ
 packed_set names = sevens (length names - 1) ++ ranges_after 0 0 names
 
 -- these names, where there is such a site and they are within its file
-abbrev pub range_of : (site at len : ℕ) → Option Range
-range_of site at len =
+abbrev pub range_in_file : (site at len : ℕ) → Option Range
+range_in_file site at len =
     if nat_lt 0 site && nat_lt site (2 ^ 16) && nat_le (at + len) MAX_FILE
     then Some (record { site = site; at = at; len = len }) else None
 
@@ -41,7 +41,7 @@ range_after_at site end bytes = do
   further ← sevens_at bytes
   gap ← sevens_at further.1
   more ← sevens_at gap.1
-  range ← range_of (site + further.0) (if further.0 == 0 then end + 1 + gap.0 else gap.0) (more.0 + 1)
+  range ← range_in_file (site + further.0) (if further.0 == 0 then end + 1 + gap.0 else gap.0) (more.0 + 1)
   Some (range, more.1)
 
 -- so many ranges, each after the one before
@@ -53,8 +53,8 @@ ranges_after_at (suc n) site end bytes = do
   Some (first.0 ∷ others.0, others.1)
 
 -- so many ranges; none where the bytes don't begin with so many
-abbrev pub ranges_in : ℕ → List ℕ → List Range
-ranges_in count bytes = option_map_or (λ x. x.0) (ranges_after_at count 0 0 bytes) []
+abbrev pub packed_ranges_in : ℕ → List ℕ → List Range
+packed_ranges_in count bytes = option_map_or (λ x. x.0) (ranges_after_at count 0 0 bytes) []
 
 -- a set of names: 1 to 1,024 ranges
 unfoldable pub packed_set_at : List ℕ → Option (List Range × List ℕ)

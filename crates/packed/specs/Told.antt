@@ -24,11 +24,11 @@ before_first (r ∷ names) = if r.at == 0 then Root else At (record { site = r.s
 
 -- where a site's caret stands after its operation: an Insert leaves it on its last byte, a Delete on the name one offset before
 -- the first that it names
-abbrev pub caret_after : ℕ → Anchor → OpKind → Anchor
-caret_after site caret (insert cause at looks bytes) = At (record { site = site; off = at + length bytes - 1 })
-caret_after site caret (delete names) = before_first names
-caret_after site caret (restore names) = caret
-caret_after site caret (change_looks sel looks names) = caret
+abbrev pub own_caret_after : ℕ → Anchor → OpKind → Anchor
+own_caret_after site caret (insert cause at looks bytes) = At (record { site = site; off = at + length bytes - 1 })
+own_caret_after site caret (delete names) = before_first names
+own_caret_after site caret (restore names) = caret
+own_caret_after site caret (change_looks sel looks names) = caret
 
 -- the looks that a site types in after its operation: those of its last Insert
 abbrev pub looks_after : Looks → OpKind → Looks
@@ -38,13 +38,13 @@ looks_after typed (restore names) = typed
 looks_after typed (change_looks sel looks names) = typed
 
 -- what is expected of a site after one operation more of it
-abbrev pub after : Expected → Operation → Expected
-after e op =
+abbrev pub after_one_more : Expected → Operation → Expected
+after_one_more e op =
     record {
       seq = op.seq;
       len = e.len + appended_len op.kind;
       stamp = op.stamp;
-      caret = caret_after op.site e.caret op.kind;
+      caret = own_caret_after op.site e.caret op.kind;
       looks = looks_after e.looks op.kind;
     }
 
@@ -81,7 +81,7 @@ begun_at told site seq stamp len = noted told site (record at_first { seq = seq;
 
 -- what is told after one operation more
 abbrev pub told_on : Told → Operation → Told
-told_on told op = noted told op.site (after (expected told op.site) op)
+told_on told op = noted told op.site (after_one_more (expected told op.site) op)
 
 -- what is told after operations more
 abbrev pub told_after : Told → List Operation → Told
@@ -100,18 +100,18 @@ pub record IsNext (told : Told) (op : Operation) : Type 0 where
   pub above : (expected told op.site).stamp < op.stamp
 
 -- the root, or an offset that a site's file can have
-abbrev pub IsInFile : Anchor → Type 0
-IsInFile Root = Unit {0}
-IsInFile (At name) = name.off < MAX_FILE
+abbrev pub IsOffsetInFile : Anchor → Type 0
+IsOffsetInFile Root = Unit {0}
+IsOffsetInFile (At name) = name.off < MAX_FILE
 
 -- each site's caret is within a file
 abbrev pub CaretsAreInFiles : Told → Type 0
-CaretsAreInFiles told = (site : ℕ) → IsInFile (expected told site).caret
+CaretsAreInFiles told = (site : ℕ) → IsOffsetInFile (expected told site).caret
 
 -- what is expected of a site after these operations of it alone
 abbrev pub expected_after : Expected → List Operation → Expected
 expected_after e [] = e
-expected_after e (op ∷ ops) = expected_after (after e op) ops
+expected_after e (op ∷ ops) = expected_after (after_one_more e op) ops
 
 -- what is expected of a site is told by its own operations, wherever the others' stand among them
 abbrev pub OwnOperationsTell : Type 0

@@ -2,7 +2,7 @@ ghost use Rattle.std.specs.Prelude.{◌≡◌, ◌+◌, ◌<◌};
 ghost use Rattle.char_files.specs.declared.TheConstants.{MAX_FILE};
 ghost use Rattle.char_files.specs.declared.name.Anchor.TheVariants.{At};
 ghost use Rattle.operations.specs.Operation.{Begins, appended_len};
-ghost use Rattle.packed.specs.Told.{after, at_first, before_first, caret_after, looks_after};
+ghost use Rattle.packed.specs.Told.{after_one_more, at_first, before_first, looks_after, own_caret_after};
 
 use char_files::{Anchor, Name, SiteNo};
 use looks::Looks;
@@ -91,7 +91,7 @@ impl Expected {
 
     // Where the site's caret is after its next operation.
     fn caret_after(&self, op: &Op) -> Anchor
-        ensures { result ≡ caret_after op.now.site self.now.caret op.now.kind }
+        ensures { result ≡ own_caret_after op.now.site self.now.caret op.now.kind }
     {
         op.lemma_has_spelling();
         match op.kind() {
@@ -116,7 +116,7 @@ impl Expected {
     // What is expected of the site after its next operation.
     pub(crate) fn after(&self, op: &Op) -> Expected
         requires { Begins op.now.kind self.now.len }
-        ensures { result ≡ after self.now op.now }
+        ensures { result ≡ after_one_more self.now op.now }
     {
         Expected {
             seq: op.seq(),

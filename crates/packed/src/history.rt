@@ -4,10 +4,10 @@ ghost use Rattle.byte_fields.specs.Fields.{Appends, Finds};
 ghost use Rattle.operations.specs.Operation.{Begins, Operation};
 ghost use Rattle.operations.specs.Spelling.{HasSpelling};
 ghost use Rattle.operations.specs.declared.op.TheConstants.{MAX_STAMP};
-ghost use Rattle.packed.specs.Told.{nothing_told, nothing_begun, begun_at, has_begun, noted, expected, told_on, IsNext, IsInFile, CaretsAreInFiles};
+ghost use Rattle.packed.specs.Told.{nothing_told, nothing_begun, begun_at, has_begun, noted, expected, told_on, IsNext, IsOffsetInFile, CaretsAreInFiles};
 ghost use Rattle.packed.specs.Spelling.{packed_next};
 ghost use Rattle.packed.specs.Reading.{parts_at, next_of_parts, CanBeNext, BeginsWithNone};
-ghost use Rattle.packed.specs.Seen.{view_parts};
+ghost use Rattle.packed.specs.Seen.{view_read};
 
 mod letters;
 
@@ -118,7 +118,7 @@ impl History {
 
     // Notes what is expected of a site. Refused `OutOfMemory` alone, and then all is as before.
     fn tell(&mut self, site: SiteNo, expected: Expected) -> Result<(), Refusal>
-        requires { IsInFile expected.caret }
+        requires { IsOffsetInFile expected.caret }
         ensures ok { OnOk result (self.new ≡ noted self.old site expected) }
         ensures room { has_begun self.old site ≡ true → IsOk result }
         ensures errors { RefusedForMemoryAlone result }
@@ -208,7 +208,7 @@ impl History {
     // The parts of the next operation, and the bytes after it.
     #[tactic(auto, unfolding(crate::specs::Reading::parts_at))]
     fn parts_at<'a>(&self, bytes: &'a [u8]) -> Option<(Read<'a>, &'a [u8])>
-        ensures { Finds (λ x. (view_parts x.0, x.1.now)) result (parts_at self.now bytes.now) }
+        ensures { Finds (λ x. (view_read x.0, x.1.now)) result (parts_at self.now bytes.now) }
     {
         let Some(((site, more), rest)) = time_at(self.last, bytes) else {
             return None;
@@ -222,8 +222,8 @@ impl History {
 
     // The next operation of these parts; `BadFile` where it has no spelling.
     fn make(&self, alloc: Global, text: TextNo, read: Read<'_>) -> Result<Op, Refusal>
-        ensures ok { IfOk result (λ op. op ≡ next_of_parts self.now text (view_parts read.entry)) }
-        ensures bad { IsErrOf result Refusal.BadFile → ¬ HasSpelling (next_of_parts self.now text (view_parts read.entry)) }
+        ensures ok { IfOk result (λ op. op ≡ next_of_parts self.now text (view_read read.entry)) }
+        ensures bad { IsErrOf result Refusal.BadFile → ¬ HasSpelling (next_of_parts self.now text (view_read read.entry)) }
         ensures errors { IfErr result (λ e. (e ≡ Refusal.BadFile) ⊎ (e ≡ Refusal.OutOfMemory)) }
     {
         let expected = self.expected(read.site);

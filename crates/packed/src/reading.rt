@@ -5,9 +5,9 @@ ghost use Rattle.operations.specs.NameSet.{of_name};
 ghost use Rattle.operations.specs.Reading.{looks_at};
 ghost use Rattle.operations.specs.Seen.{kind_of};
 ghost use Rattle.packed.specs.Reading.{site_at, same_site, other_site_at, later_at, time_at, other_looks_at};
-ghost use Rattle.packed.specs.Reading.{typed_at, near_at, root_from, name_from, far_at, step_from, place_at};
+ghost use Rattle.packed.specs.Reading.{typed_looks_at, near_at, root_from, name_from, far_at, step_from, place_at};
 ghost use Rattle.packed.specs.Reading.{long_at, code_at, bytes_at, one_from, insert_from, here_at, placed_at};
-ghost use Rattle.packed.specs.Reading.{is_of, named, delete_at, restore_at, change_at, edit_at};
+ghost use Rattle.packed.specs.Reading.{is_of, named, packed_delete_at, packed_restore_at, packed_change_at, edit_at};
 ghost use Rattle.packed.specs.Seen.{view_edit};
 
 use crate::codes::{
@@ -187,7 +187,7 @@ fn other_looks_at<'a>(typed: &Looks, bytes: &'a [u8]) -> Option<(Looks, &'a [u8]
 // An Insert's looks, where the site types in these.
 #[tactic(auto, unfolding(crate::specs::Reading::typed_at))]
 fn typed_at<'a>(typed: &Looks, bytes: &'a [u8]) -> Option<(Looks, &'a [u8])>
-    ensures { Finds (λ x. (x.0, x.1.now)) result (typed_at typed.now bytes.now) }
+    ensures { Finds (λ x. (x.0, x.1.now)) result (typed_looks_at typed.now bytes.now) }
 {
     let (first, rest) = u8_at(bytes)?;
     if first == OTHER_LOOKS {
@@ -398,7 +398,7 @@ fn placed_at<'a>(
 // A Delete of another set than one character.
 #[tactic(auto, unfolding(crate::specs::Reading::delete_at))]
 fn delete_at(bytes: &[u8]) -> Option<(Edit<'_>, &[u8])>
-    ensures { Finds (λ x. (view_edit x.0, x.1.now)) result (delete_at bytes.now) }
+    ensures { Finds (λ x. (view_edit x.0, x.1.now)) result (packed_delete_at bytes.now) }
 {
     let (names, rest) = set_at(bytes)?;
     if names.is_one() {
@@ -409,7 +409,7 @@ fn delete_at(bytes: &[u8]) -> Option<(Edit<'_>, &[u8])>
 
 #[tactic(auto, unfolding(crate::specs::Reading::restore_at))]
 fn restore_at(bytes: &[u8]) -> Option<(Edit<'_>, &[u8])>
-    ensures { Finds (λ x. (view_edit x.0, x.1.now)) result (restore_at bytes.now) }
+    ensures { Finds (λ x. (view_edit x.0, x.1.now)) result (packed_restore_at bytes.now) }
 {
     let (names, rest) = set_at(bytes)?;
     Some((Edit::Restore { names }, rest))
@@ -417,7 +417,7 @@ fn restore_at(bytes: &[u8]) -> Option<(Edit<'_>, &[u8])>
 
 #[tactic(auto, unfolding(crate::specs::Reading::change_at))]
 fn change_at(bytes: &[u8]) -> Option<(Edit<'_>, &[u8])>
-    ensures { Finds (λ x. (view_edit x.0, x.1.now)) result (change_at bytes.now) }
+    ensures { Finds (λ x. (view_edit x.0, x.1.now)) result (packed_change_at bytes.now) }
 {
     let Some((sel, rest)) = sel_at(bytes) else {
         return None;

@@ -3,8 +3,8 @@ ghost use Rattle.looks.specs.Refusal.{RefusedForMemoryAlone};
 ghost use Rattle.char_files.specs.declared.TheConstants.{MAX_FILE};
 ghost use Rattle.byte_fields.specs.Fields.{Appends, Finds};
 ghost use Rattle.operations.specs.NameSet.{IsRange, IsSet, IsNamed};
-ghost use Rattle.packed.specs.Sets.{is_one, Follows, gap_before, range_after, ranges_after, packed_set};
-ghost use Rattle.packed.specs.Sets.{range_of, range_after_at, ranges_after_at, packed_set_at};
+ghost use Rattle.packed.specs.Sets.{is_one, FollowsApart, gap_before, range_after, ranges_after, packed_set};
+ghost use Rattle.packed.specs.Sets.{range_in_file, range_after_at, ranges_after_at, packed_set_at};
 
 use crate::numbers::{number_at, put_number};
 use char_files::{MAX_FILE, SiteNo};
@@ -15,7 +15,7 @@ use std::marker::Model;
 
 // How many names are between one of this site that ends there and the range; before it where its site is another.
 fn gap_before(site: u16, end: u32, range: NameRange) -> u32
-    requires { Follows site end range }
+    requires { FollowsApart site end range }
     ensures { result ≡ gap_before site end range }
 {
     if range.site().get() == site {
@@ -28,7 +28,7 @@ fn gap_before(site: u16, end: u32, range: NameRange) -> u32
 // What the range has after one of this site that ends there.
 #[tactic(auto, unfolding(crate::specs::Sets::range_after))]
 fn put_range(out: &mut Vec<u8>, site: u16, end: u32, range: NameRange) -> Result<(), AllocError>
-    requires { Follows site end range }
+    requires { FollowsApart site end range }
     ensures { Appends result out.old.items out.new.items (range_after site end range) }
 {
     put_number(out, u64::from(range.site().get() - site))?;
@@ -72,14 +72,14 @@ pub(crate) struct PackedSet<'a> {
 impl<'a> Model for PackedSet<'a> {
     ghost use Rattle.std.specs.Prelude.{List, IsSome};
     ghost use Rattle.operations.specs.NameSet.{Range, IsNamed};
-    ghost use Rattle.packed.specs.Sets.{ranges_after_at, ranges_in};
+    ghost use Rattle.packed.specs.Sets.{packed_ranges_in, ranges_after_at};
 
     ghost Value = { List Range };
 
-    ghost view = { λ r. ranges_in r.count r.raw.now };
+    ghost view = { λ r. packed_ranges_in r.count r.raw.now };
 
     ghost invariant = { λ r. IsSome (ranges_after_at r.count 0 0 r.raw.now)
-        × IsNamed (ranges_in r.count r.raw.now) };
+        × IsNamed (packed_ranges_in r.count r.raw.now) };
 }
 
 impl<'a> PackedSet<'a> {
@@ -119,7 +119,7 @@ impl<'a> PackedSet<'a> {
 fn range_of(site: u64, at: u64, len: u64) -> Option<NameRange>
     requires some { 0 < len }
     requires few { at + len < 2 ^ 60 }
-    ensures { Finds (λ r. r) result (range_of site at len) }
+    ensures { Finds (λ r. r) result (range_in_file site at len) }
 {
     let site = u16::try_from(site).ok()?;
     let site = SiteNo::new(site)?;

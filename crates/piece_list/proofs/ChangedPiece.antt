@@ -18,10 +18,10 @@ use Rattle.piece_list.specs.declared.setting.Setting.{Setting}
 use Rattle.piece_list.specs.declared.setting.Setting.TheVariants.{Switch, Relook}
 use Rattle.piece_list.specs.Piece.{Piece, PieceRegister}
 use Rattle.piece_list.specs.declared.spot.Spot.{Spot}
-use Rattle.piece_list.specs.Changing.{IsEdge, changed_piece, changed_char, key_of}
+use Rattle.piece_list.specs.Changing.{IsEdge, changed_piece, changed_char, setting_key}
 use Rattle.piece_list.specs.Held.{AreEntered, IsSpotOf}
 use Rattle.piece_list.specs.Laws.{Avoid, ChangesEach, IsPieceBelow}
-use Rattle.piece_list.specs.Pieces.{range_of, char_of, key_in, offered_to, offered_to_if, register_of, set_under, IsPiece}
+use Rattle.piece_list.specs.Pieces.{range_of, char_of, key_of_name, offered_to, offered_to_if, register_of, set_under, IsPiece}
 use Rattle.piece_list.specs.Spelled.{spelled, HasName}
 use Rattle.piece_list.specs.Tables.{Tables, tag_at}
 use Rattle.piece_list.proofs.Changes.{of_its_names}
@@ -59,16 +59,16 @@ module _ {V : Type 0} (own key : Key) (value : V) (below : is_below own key ≡ 
   offer_if false r = refl
 
 -- a change of a piece is one of its characters
-pub changes_each : (setting : Setting) → ChangesEach (key_of setting) (changed_piece setting) (changed_char setting)
+pub changes_each : (setting : Setting) → ChangesEach (setting_key setting) (changed_piece setting) (changed_char setting)
 changes_each (Switch hidden key) p = (
   refl,
   λ c below. ap (λ (h : Register Bool). record (char_of p c) { hidden = h })
-      (offer (key_in p c) key hidden below p.hidden.by p.hidden.value),
+      (offer (key_of_name p c) key hidden below p.hidden.by p.hidden.value),
 )
 changes_each (Relook sel looks key) p = (
   refl,
   λ c below.
-      let own : Key = key_in p c in
+      let own : Key = key_of_name p c in
       let k : Atom = char_of p c in
       let made : Register (List ℕ) → Register ℕ → Register ℤ → Atom =
       λ font colour offset. record k { font = font; colour = colour; offset = offset } in
@@ -207,7 +207,7 @@ module _ (setting : Setting) (old : Items) (tables : Tables) (tag : ℕ) (p w : 
               spot_has_name new spot c (spot_stays spot c is);
         }
 
-    pub changed_there : IsPieceBelow (key_of setting) p
+    pub changed_there : IsPieceBelow (setting_key setting) p
         → spelled new ≡ map (if_named (range_of p ∷ []) (changed_char setting)) (spelled old)
     changed_there below =
         let (xs, ys, is) = member in
@@ -219,7 +219,7 @@ module _ (setting : Setting) (old : Items) (tables : Tables) (tag : ℕ) (p w : 
         let own : Entered tables (tag, p) = All-head (Entered tables) (tag, p) ys after in
         ap spelled (parts xs ys is)
         ∙ ap (λ (q : Piece). spelled (xs ++ (tag, q) ∷ ys)) is_w
-        ∙ of_its_names (key_of setting) (changed_piece setting) (changed_char setting) xs ys tag p (changes_each setting) below
+        ∙ of_its_names (setting_key setting) (changed_piece setting) (changed_char setting) xs ys tag p (changes_each setting) below
         (avoids tables tag p xs own (all_left (Entered tables) xs ((tag, p) ∷ ys) all)
         (before_others xs ys tag p here))
         (avoids tables tag p ys own (All-tail (Entered tables) (tag, p) ys after)

@@ -10,7 +10,7 @@ use Rattle.piece_list.specs.Piece.{Piece}
 use Rattle.piece_list.specs.declared.spot.Spot.{Spot}
 use Rattle.piece_list.specs.Changing.{AreSplitOnce, IsEdge}
 use Rattle.piece_list.specs.Held.{AreEntered, IsSplit}
-use Rattle.piece_list.specs.Pieces.{range_of, front_of, rest_of}
+use Rattle.piece_list.specs.Pieces.{range_of, piece_front, rest_of}
 use Rattle.piece_list.specs.Spelled.{spelled, HasName}
 use Rattle.piece_list.specs.Tables.{Tables, tag_at}
 use Rattle.piece_list.proofs.Splitting.{before_others, after_others}
@@ -140,7 +140,7 @@ edges_after_split old new tag n u split site off edge =
     let E : ℕ × Piece → Type 0 =
     λ (m : ℕ × Piece). m.1.site ≡ site → m.1.off < off → m.1.off + m.1.len ≤ off in
     let p : Piece = split.piece in
-    let front : ℕ × Piece = (tag, front_of n p) in
+    let front : ℕ × Piece = (tag, piece_front n p) in
     let rest : ℕ × Piece = (u, rest_of n p) in
     let within : n < p.len = split.within in
     let whole : All E (split.before ++ (tag, p) ∷ split.after) = subst (All E) split.whole edge in
@@ -161,7 +161,7 @@ edge_after_split old new tables tags are tag u p name site off is_name is held s
     let E : ℕ × Piece → Type 0 =
     λ (m : ℕ × Piece). m.1.site ≡ site → m.1.off < off → m.1.off + m.1.len ≤ off in
     let q : Piece = split.piece in
-    let front : ℕ × Piece = (tag, front_of (off - p.off) q) in
+    let front : ℕ × Piece = (tag, piece_front (off - p.off) q) in
     let rest : ℕ × Piece = (u, rest_of (off - p.off) q) in
     let one : q ≡ p = one_value old tags tag q p (split.before, split.after, split.whole) is in
     let first : q.off ≡ p.off = ap (λ (r : Piece). r.off) one in

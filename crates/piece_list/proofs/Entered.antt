@@ -11,7 +11,7 @@ use Rattle.std.specs.List.{AllByRecursion}
 use Rattle.piece_raw.specs.Ring.{AreTags, HasTag, tags}
 use Rattle.tree_order.specs.Registers.{Atom}
 use Rattle.piece_list.specs.Piece.{Piece}
-use Rattle.piece_list.specs.Pieces.{range_of, front_of, rest_of, risen, IsPiece}
+use Rattle.piece_list.specs.Pieces.{range_of, piece_front, rest_of, risen, IsPiece}
 use Rattle.piece_list.specs.Held.{AreEntered}
 use Rattle.piece_list.specs.Spelled.{spelled, HasName}
 use Rattle.piece_list.specs.Tables.{Tables, tag_in, table_of, tag_at}
@@ -119,7 +119,7 @@ module _ (xs ys : Items) (tag u n : ℕ) (p : Piece) (old new : Tables)
     all_stay : (zs : Items) → All (λ m. m.0 ≢ tag) zs → All (Entered old) zs → All (Entered new) zs
     all_stay zs others entered = λ i d lt. other_stays (get_or zs i d) (others i d lt) (entered i d lt)
 
-    front_entered : Entered new (tag, front_of n p)
+    front_entered : Entered new (tag, piece_front n p)
     front_entered c (site, from, to) =
         outside c (λ (s, f, t). omega arith) ∙ All-head (Entered old) (tag, p) ys own c
         (site, omega arith, omega arith)
@@ -128,28 +128,28 @@ module _ (xs ys : Items) (tag u n : ℕ) (p : Piece) (old new : Tables)
     rest_entered = inside
 
     held_after : (c : CharName) (s : ℕ) → tag_at new c ≡ Some s
-        → HasTag (xs ++ (tag, front_of n p) ∷ (u, rest_of n p) ∷ ys) s
+        → HasTag (xs ++ (tag, piece_front n p) ∷ (u, rest_of n p) ∷ ys) s
     held_after c s e = go (range_contains (range_of (rest_of n p)) c) refl
       where
         go : (b : Bool) → range_contains (range_of (rest_of n p)) c ≡ b
-            → HasTag (xs ++ (tag, front_of n p) ∷ (u, rest_of n p) ∷ ys) s
+            → HasTag (xs ++ (tag, piece_front n p) ∷ (u, rest_of n p) ∷ ys) s
         go true is =
             let at : tag_at new c ≡ Some u = inside c (is_contained (range_of (rest_of n p)) c is) in
             let same : u ≡ s = cc in
-            subst (HasTag (xs ++ (tag, front_of n p) ∷ (u, rest_of n p) ∷ ys)) same
-            (has_tag (xs ++ (tag, front_of n p) ∷ (u, rest_of n p) ∷ ys) u
-            (new_held xs ys tag u (front_of n p) (rest_of n p)))
+            subst (HasTag (xs ++ (tag, piece_front n p) ∷ (u, rest_of n p) ∷ ys)) same
+            (has_tag (xs ++ (tag, piece_front n p) ∷ (u, rest_of n p) ∷ ys) u
+            (new_held xs ys tag u (piece_front n p) (rest_of n p)))
         go false out =
             let at : tag_at new c ≡ tag_at old c = outside c (λ held.
             let yes : range_contains (range_of (rest_of n p)) c ≡ true =
             contained (range_of (rest_of n p)) c held in
             absurd cc) in
             let was : HasTag (xs ++ (tag, p) ∷ ys) s = are.held c s (sym at ∙ e) in
-            has_tag (xs ++ (tag, front_of n p) ∷ (u, rest_of n p) ∷ ys) s
-            (still_held xs ys tag u s p (front_of n p) (rest_of n p) (held (xs ++ (tag, p) ∷ ys) s was))
+            has_tag (xs ++ (tag, piece_front n p) ∷ (u, rest_of n p) ∷ ys) s
+            (still_held xs ys tag u s p (piece_front n p) (rest_of n p) (held (xs ++ (tag, p) ∷ ys) s was))
 
     spelled_after : (c : CharName) (s : ℕ) → tag_at new c ≡ Some s
-        → HasName (spelled (xs ++ (tag, front_of n p) ∷ (u, rest_of n p) ∷ ys)) c
+        → HasName (spelled (xs ++ (tag, piece_front n p) ∷ (u, rest_of n p) ∷ ys)) c
     spelled_after c s e = subst (λ (l : List Atom). HasName l c)
         (sym (split_spells_the_same xs ys tag u n p (omega (arith, within))))
         (go (range_contains (range_of (rest_of n p)) c) refl)
@@ -167,16 +167,16 @@ module _ (xs ys : Items) (tag u n : ℕ) (p : Piece) (old new : Tables)
             absurd cc) in
             are.known c s (sym at ∙ e)
 
-    pub entered_after : AreEntered (xs ++ (tag, front_of n p) ∷ (u, rest_of n p) ∷ ys) new
+    pub entered_after : AreEntered (xs ++ (tag, piece_front n p) ∷ (u, rest_of n p) ∷ ys) new
     entered_after =
         let Is : ℕ × Piece → Type 0 = λ (m : ℕ × Piece). IsPiece m.1 in
         let here : All Is ((tag, p) ∷ ys) = all_right Is xs ((tag, p) ∷ ys) are.pieces in
         let whole : IsPiece p = All-head Is (tag, p) ys here in
         let after : All (Entered old) ys = All-tail (Entered old) (tag, p) ys own in
         record {
-          pieces = All-append Is xs ((tag, front_of n p) ∷ (u, rest_of n p) ∷ ys)
+          pieces = All-append Is xs ((tag, piece_front n p) ∷ (u, rest_of n p) ∷ ys)
               (all_left Is xs ((tag, p) ∷ ys) are.pieces)
-              (All-cons Is (tag, front_of n p) ((u, rest_of n p) ∷ ys)
+              (All-cons Is (tag, piece_front n p) ((u, rest_of n p) ∷ ys)
               (some, omega (arith, whole.1), omega (arith, whole.2), whole.3, λ rises. omega (arith, whole.4 rises))
               (All-cons Is (u, rest_of n p) ys (
                 omega arith,
@@ -186,10 +186,10 @@ module _ (xs ys : Items) (tag u n : ℕ) (p : Piece) (old new : Tables)
                 λ rises. omega (arith, whole.4 rises, stamp_risen p.rising n p.key rises),
               )
               (All-tail Is (tag, p) ys here)));
-          entered = All-append (Entered new) xs ((tag, front_of n p) ∷ (u, rest_of n p) ∷ ys)
+          entered = All-append (Entered new) xs ((tag, piece_front n p) ∷ (u, rest_of n p) ∷ ys)
               (all_stay xs (before_others xs ys tag p tags) (all_left (Entered old) xs
               ((tag, p) ∷ ys) are.entered))
-              (All-cons (Entered new) (tag, front_of n p) ((u, rest_of n p) ∷ ys) front_entered
+              (All-cons (Entered new) (tag, piece_front n p) ((u, rest_of n p) ∷ ys) front_entered
               (All-cons (Entered new) (u, rest_of n p) ys rest_entered
               (all_stay ys (after_others xs ys tag p tags) after)));
           held = held_after;

@@ -22,10 +22,10 @@ use Rattle.piece_list.specs.declared.run.Run.{Run}
 use Rattle.piece_list.specs.Piece.{Piece}
 use Rattle.piece_list.specs.Changing.{changed_piece}
 use Rattle.piece_list.specs.Held.{weighed}
-use Rattle.piece_list.specs.Noted.{appearances, names_shown, SameName, Notes, IsOf, IsNoted, kind_of}
+use Rattle.piece_list.specs.Noted.{appearances, names_of_shown, SameName, Notes, IsOf, IsNoted, setting_kind}
 use Rattle.piece_list.specs.Noted.{ShowsOther, ShowsTheSame, name_count}
 use Rattle.piece_list.specs.Pieces.{range_of, chars_of}
-use Rattle.piece_list.specs.Shown.{Appearance, appearance_of, appearance_in, appearances_in, run_of, looks_of}
+use Rattle.piece_list.specs.Shown.{Appearance, appearance_of, appearance_in, appearances_in, piece_run, looks_of}
 use Rattle.piece_list.specs.Spelled.{spelled, shown_chars}
 use Rattle.piece_list.proofs.ChangedPiece.{changes_each}
 use Rattle.piece_list.proofs.ChangedNames.{only_range}
@@ -43,7 +43,7 @@ told_by p = map appearance_of (shown_by p)
 hidden_tells : (p : Piece) → p.hidden.value ≡ true → told_by p ≡ []
 hidden_tells p hidden = ap (λ (b : Bool). map appearance_of (cond b [] (chars_of p))) hidden
 
-shown_tells : (p : Piece) → p.hidden.value ≡ false → told_by p ≡ appearances_in (run_of p)
+shown_tells : (p : Piece) → p.hidden.value ≡ false → told_by p ≡ appearances_in (piece_run p)
 shown_tells p shown =
     ap (λ (b : Bool). map appearance_of (cond b [] (chars_of p))) shown ∙ sym (told p (names_of (range_of p)))
 
@@ -58,7 +58,7 @@ alike_in : (r q : Run) (cs : List CharName)
 alike_in r q [] = tt
 alike_in r q (c ∷ cs) = (refl, alike_in r q cs)
 
-names_in : (r : Run) (cs : List CharName) → names_shown (map (appearance_in r) cs) ≡ cs
+names_in : (r : Run) (cs : List CharName) → names_of_shown (map (appearance_in r) cs) ≡ cs
 names_in r [] = refl
 names_in r (c ∷ cs) = ap (λ (l : List CharName). c ∷ l) (names_in r cs)
 
@@ -84,7 +84,7 @@ stretch xs ys zs beg len at is =
 
 -- what goes for what comes, where a piece shows something else
 trades : (setting : Setting) (beg : ℕ) (p w : Piece) → range_of w ≡ range_of p → ShowsOther setting p w
-    → Trades SameName (kind_of setting) beg (beg + w.len) (told_by p) (told_by w)
+    → Trades SameName (setting_kind setting) beg (beg + w.len) (told_by p) (told_by w)
 trades (Switch true key) beg p w same (was, is) =
     let len : w.len ≡ p.len = ap (λ (r : Range). r.len) same in
     (hidden_tells w is, omega (arith, count_tells p was, len))
@@ -92,18 +92,18 @@ trades (Switch false key) beg p w same (was, is) =
     (hidden_tells p was, omega (arith, count_tells w is))
 trades (Relook sel looks key) beg p w same (shown, is) =
     let len : w.len ≡ p.len = ap (λ (r : Range). r.len) same in
-    let come : told_by w ≡ map (appearance_in (run_of w)) (names_of (range_of p)) =
-    shown_tells w is ∙ ap (λ (r : Range). map (appearance_in (run_of w)) (names_of r)) same in (
+    let come : told_by w ≡ map (appearance_in (piece_run w)) (names_of (range_of p)) =
+    shown_tells w is ∙ ap (λ (r : Range). map (appearance_in (piece_run w)) (names_of r)) same in (
       subst (λ (l : List Appearance). AreAlike SameName l (told_by w)) (sym (shown_tells p shown))
-          (subst (AreAlike SameName (appearances_in (run_of p))) (sym come)
-          (alike_in (run_of p) (run_of w) (names_of (range_of p)))),
+          (subst (AreAlike SameName (appearances_in (piece_run p))) (sym come)
+          (alike_in (piece_run p) (piece_run w) (names_of (range_of p)))),
       omega (arith, count_tells p shown, len),
     )
 
 -- of a piece that is set, where it stands
 module _ (setting : Setting) (xs ys : Items) (tag : ℕ) (p w : Piece) (same : range_of w ≡ range_of p) where
   abbrev entry : ℕ → Change
-  entry beg = record { kind = kind_of setting; beg = beg; end = beg + w.len }
+  entry beg = record { kind = setting_kind setting; beg = beg; end = beg + w.len }
 
   abbrev pieces_were : Items
   pieces_were = xs ++ (tag, p) ∷ ys
@@ -129,24 +129,24 @@ module _ (setting : Setting) (xs ys : Items) (tag : ℕ) (p w : Piece) (same : r
 
   -- the names of the stretch are the piece's
   named : (beg : ℕ) → beg ≡ shown_in xs → p.hidden.value ≡ false
-      → All (IsAmong (range_of p ∷ [])) (drop beg (take (beg + w.len) (names_shown (appearances pieces_were))))
+      → All (IsAmong (range_of p ∷ [])) (drop beg (take (beg + w.len) (names_of_shown (appearances pieces_were))))
   named beg at shown =
       let name : Appearance → CharName = λ (s : Appearance). s.name in
-      let own : names_shown (told_by p) ≡ names_of (range_of p) =
-      ap names_shown (shown_tells p shown) ∙ names_in (run_of p) (names_of (range_of p)) in
-      let all : names_shown (appearances pieces_were)
-      ≡ names_shown (appearances xs) ++ (names_shown (told_by p) ++ names_shown (appearances ys)) =
-      ap names_shown (parts xs ys tag p) ∙ map-append name (appearances xs) (told_by p ++ appearances ys)
-      ∙ ap (λ (l : List CharName). names_shown (appearances xs) ++ l)
+      let own : names_of_shown (told_by p) ≡ names_of (range_of p) =
+      ap names_of_shown (shown_tells p shown) ∙ names_in (piece_run p) (names_of (range_of p)) in
+      let all : names_of_shown (appearances pieces_were)
+      ≡ names_of_shown (appearances xs) ++ (names_of_shown (told_by p) ++ names_of_shown (appearances ys)) =
+      ap names_of_shown (parts xs ys tag p) ∙ map-append name (appearances xs) (told_by p ++ appearances ys)
+      ∙ ap (λ (l : List CharName). names_of_shown (appearances xs) ++ l)
       (map-append name (told_by p) (appearances ys)) in
       let len : w.len ≡ p.len = ap (λ (r : Range). r.len) same in
-      let front : length (names_shown (appearances xs)) ≡ beg =
+      let front : length (names_of_shown (appearances xs)) ≡ beg =
       length-map (appearances xs) name ∙ begins beg at in
-      let counted : length (names_shown (told_by p)) ≡ w.len =
+      let counted : length (names_of_shown (told_by p)) ≡ w.len =
       length-map (told_by p) name ∙ count_tells p shown ∙ sym len in
-      let is : drop beg (take (beg + w.len) (names_shown (appearances pieces_were))) ≡ names_of (range_of p) =
+      let is : drop beg (take (beg + w.len) (names_of_shown (appearances pieces_were))) ≡ names_of (range_of p) =
       ap (λ (l : List CharName). drop beg (take (beg + w.len) l)) all
-      ∙ stretch (names_shown (appearances xs)) (names_shown (told_by p)) (names_shown (appearances ys)) beg
+      ∙ stretch (names_of_shown (appearances xs)) (names_of_shown (told_by p)) (names_of_shown (appearances ys)) beg
       w.len front counted ∙ own in
       subst (All (IsAmong (range_of p ∷ []))) (sym is)
       (λ i d lt. (0, range_of p, omega arith, refl, in_range p i d lt))
@@ -155,7 +155,7 @@ module _ (setting : Setting) (xs ys : Items) (tag : ℕ) (p w : Piece) (same : r
 of_sort : (setting : Setting) (xs ys : Items) (tag beg : ℕ) (p w : Piece) → range_of w ≡ range_of p → 0 < w.len
     → beg ≡ shown_in xs → ShowsOther setting p w
     → IsOf setting (range_of p ∷ []) (appearances (xs ++ (tag, p) ∷ ys))
-    (record { kind = kind_of setting; beg = beg; end = beg + w.len })
+    (record { kind = setting_kind setting; beg = beg; end = beg + w.len })
 of_sort (Switch hidden key) xs ys tag beg p w same some at other = (refl, omega (arith, some))
 of_sort (Relook sel looks key) xs ys tag beg p w same some at (shown, is) =
     ((refl, omega (arith, some)), named (Relook sel looks key) xs ys tag p w same beg at shown)
@@ -163,11 +163,11 @@ of_sort (Relook sel looks key) xs ys tag beg p w same some at (shown, is) =
 -- one entry more tells of the piece
 pub noted_one : (setting : Setting) (xs ys : Items) (tag beg : ℕ) (p w : Piece) (old new : List Change)
     → range_of w ≡ range_of p → 0 < w.len → beg ≡ shown_in xs → ShowsOther setting p w
-    → new ≡ old ++ record { kind = kind_of setting; beg = beg; end = beg + w.len } ∷ []
+    → new ≡ old ++ record { kind = setting_kind setting; beg = beg; end = beg + w.len } ∷ []
     → IsNoted setting (range_of p ∷ []) old new (xs ++ (tag, p) ∷ ys) (xs ++ (tag, w) ∷ ys)
 noted_one setting xs ys tag beg p w old new same some at other insert =
     let was : List Appearance = appearances (xs ++ (tag, p) ∷ ys) in
-    let entry : Change = record { kind = kind_of setting; beg = beg; end = beg + w.len } in
+    let entry : Change = record { kind = setting_kind setting; beg = beg; end = beg + w.len } in
     let Is : Change → Type 0 = λ (change : Change). IsOf setting (range_of p ∷ []) was change in
     record {
       gained = entry ∷ [];
@@ -206,7 +206,7 @@ same_told p w same (key, rising) (hidden, looks) = go p.hidden.value refl
           rising = b;
           looks = l;
         } in
-        let runs : run_of w ≡ run_of p =
+        let runs : piece_run w ≡ piece_run p =
         ap (λ (r : Range). run r w.key w.rising (looks_of w)) same
         ∙ ap (λ (k : Key). run (range_of p) k w.rising (looks_of w)) key
         ∙ ap (λ (b : Bool). run (range_of p) p.key b (looks_of w)) rising
@@ -235,7 +235,7 @@ module _ (setting : Setting) (items : Items) (tag : ℕ) (p w : Piece) (are : Ar
 
   pub noted_turn : (index : Weights) (beg : ℕ) (old new : List Change) → index ≡ weighed items
       → IsMember items tag p → 0 < p.len → ShowsOther setting p w → IsRank index tag beg
-      → new ≡ old ++ record { kind = kind_of setting; beg = beg; end = beg + w.len } ∷ []
+      → new ≡ old ++ record { kind = setting_kind setting; beg = beg; end = beg + w.len } ∷ []
       → IsNoted setting (range_of p ∷ []) old new items (with_value tag w items)
   noted_turn index beg old new same member some other rank insert =
       let (weight, found) = ranked_piece items index tag beg same rank in
@@ -282,7 +282,7 @@ sort_from : (setting : Setting) (names : List Range) (was mid : List Appearance)
 sort_from (Switch hidden key) names was mid first then one leads all = all
 sort_from (Relook sel looks key) names was mid first then one leads all =
     let name : Appearance → CharName = λ (s : Appearance). s.name in
-    let stays : names_shown mid ≡ names_shown was =
+    let stays : names_of_shown mid ≡ names_of_shown was =
     replaces-keep SameName name (λ x y same. sym same) first was mid (λ i d lt. (one i d lt).0.0) leads in
     subst (λ (l : List CharName). All (λ (change : Change). IsOfKind Replace change
     × All (IsAmong names) (drop change.beg (take change.end l))) then) stays all

@@ -16,12 +16,12 @@ use Rattle.tree_order.specs.Registers.{Atom}
 use Rattle.piece_raw.specs.Ring.{AreTags, HasTag, IsMember, IsPushed, last_tag}
 use Rattle.piece_list.specs.Piece.{Piece}
 use Rattle.piece_list.specs.declared.spot.Spot.{Spot}
-use Rattle.piece_list.specs.Pieces.{range_of, chars_of, front_of, rest_of, IsPiece}
+use Rattle.piece_list.specs.Pieces.{range_of, chars_of, piece_front, rest_of, IsPiece}
 use Rattle.piece_list.specs.Held.{AreEntered, IsSpotOf, IsSplit}
 use Rattle.piece_list.specs.Laws.{Avoid, BeginNotAbove}
 use Rattle.piece_list.specs.Placed.{IsPlaced}
 use Rattle.piece_list.specs.Placing.{compared, IsAnchorSpot, IsParted, HasPart, IsPartedAt, IsSplitAt, IsSplitThere}
-use Rattle.piece_list.specs.Placing.{AreOrAreJoined, IsCounted, IsCountedBetween, IsNext, IsSkip, IsInsertedInGap, last_look}
+use Rattle.piece_list.specs.Placing.{AreOrAreJoined, IsCounted, IsCountedBetween, IsNextPiece, IsSkip, IsInsertedInGap, last_look}
 use Rattle.piece_list.specs.Spelled.{spelled, names_of_atoms, HasName, ArePieces}
 use Rattle.piece_list.specs.Tables.{Tables, table_of, tag_at}
 use Rattle.tree_order.proofs.RunNames.{names_have}
@@ -84,7 +84,7 @@ walk_part items key first last from steps (before, after, parted) walked =
     (before ++ w.skipped, w.rest, w.part items parted.0)
 
 pub walk_goes_on : (items : Items) (key : Key) (first last : Option ℕ) (next from steps more : ℕ)
-    → Walked items key first last from steps → IsNext items key last next
+    → Walked items key first last from steps → IsNextPiece items key last next
     → ((before after : Items) → IsParted items last before after → IsCounted steps (last_look after) more)
     → Walked items key first (Some next) from more
 walk_goes_on items key first last next from steps more walked is_next looks before after parted =
@@ -159,14 +159,14 @@ pass_shrinks items key next last are p =
     )
 
 -- the next piece is one of the list
-pub next_has_tag : (items : Items) (key : Key) (last : Option ℕ) (next : ℕ) → HasPart items last → IsNext items key last next
+pub next_has_tag : (items : Items) (key : Key) (last : Option ℕ) (next : ℕ) → HasPart items last → IsNextPiece items key last next
     → HasTag items next
 next_has_tag items key last next (before, after, parted) is_next =
     let (p, rest, is, above) = is_next before after parted in
     (p, (before, rest, parted.0 ∙ ap (λ (l : Items). before ++ l) is))
 
 pub walk_shrinks : (items : Items) (key : Key) (last : Option ℕ) (next : ℕ) → AreTags items
-    → HasPart items last → IsNext items key last next → count_after (Some next) items < count_after last items
+    → HasPart items last → IsNextPiece items key last next → count_after (Some next) items < count_after last items
 walk_shrinks items key last next are (before, after, parted) is_next =
     let (p, rest, is, above) = is_next before after parted in
     let m : ℕ × Piece = (next, p) in
@@ -244,7 +244,7 @@ parted_split old new are spot u split (At c) (at, same, (q, member, within, site
     let site' : c.site ≡ p.site = site ∙ ap (λ (r : Piece). r.site) value in
     let first : q.off ≡ p.off = ap (λ (r : Piece). r.off) value in
     let last : c.off + 1 ≡ p.off + n = omega (arith, off, first, index) in
-    let there : IsSplitAt old (split.before ++ (spot.piece, front_of n p) ∷ []) ((u, rest_of n p) ∷ split.after) =
+    let there : IsSplitAt old (split.before ++ (spot.piece, piece_front n p) ∷ []) ((u, rest_of n p) ∷ split.after) =
     record {
       front = split.before;
       rest = split.after;
@@ -258,7 +258,7 @@ parted_split old new are spot u split (At c) (at, same, (q, member, within, site
       begins = refl;
     } in
     subst (λ (l : Items). IsPartedAt old l (Some spot.piece) (At c)) (sym split.parts)
-    (parted_at old split.before ((u, rest_of n p) ∷ split.after) spot.piece (front_of n p) c site' last
+    (parted_at old split.before ((u, rest_of n p) ∷ split.after) spot.piece (piece_front n p) c site' last
     (inr there))
 
 split_there_spells : (old before after : Items) → IsSplitThere old before after
@@ -266,7 +266,7 @@ split_there_spells : (old before after : Items) → IsSplitThere old before afte
 split_there_spells old before after (inl same) = ap spelled (sym same)
 split_there_spells old before after (inr split) =
     let p : Piece = split.piece in
-    let front : Items = (split.tag, front_of split.n p) ∷ [] in
+    let front : Items = (split.tag, piece_front split.n p) ∷ [] in
     let rest : Items = (split.other, rest_of split.n p) ∷ split.rest in
     let le : split.n ≤ p.len = omega (arith, split.within) in
     ap (λ (l : Items). spelled (l ++ after)) split.ends
@@ -314,8 +314,8 @@ split_others old new tag n u are split other c (p, (xs, ys, is), within, site, o
     let moved : t ≢ tag → IsSpotOf new other c = λ (differs : t ≢ tag). (
       p,
       subst (λ (l : Items). IsMember l t p) (sym split.parts)
-          (member (split.before ++ (tag, front_of n v) ∷ (u, rest_of n v) ∷ split.after) t p
-          (among_stays split.before split.after tag u t v (front_of n v) (rest_of n v) p differs there)),
+          (member (split.before ++ (tag, piece_front n v) ∷ (u, rest_of n v) ∷ split.after) t p
+          (among_stays split.before split.after tag u t v (piece_front n v) (rest_of n v) p differs there)),
       within,
       site,
       off,
@@ -329,11 +329,11 @@ split_others old new tag n u are split other c (p, (xs, ys, is), within, site, o
             (split.before, split.after, split.whole ∙ ap (λ (k : ℕ). split.before ++ (k, v) ∷ split.after) (sym same)) in
             let site' : c.site ≡ v.site = site ∙ ap (λ (r : Piece). r.site) value in
             let first : p.off ≡ v.off = ap (λ (r : Piece). r.off) value in (
-              front_of n v,
+              piece_front n v,
               (
                 split.before,
                 (u, rest_of n v) ∷ split.after,
-                split.parts ∙ ap (λ (k : ℕ). split.before ++ (k, front_of n v) ∷ (u, rest_of n v) ∷ split.after) (sym same),
+                split.parts ∙ ap (λ (k : ℕ). split.before ++ (k, piece_front n v) ∷ (u, rest_of n v) ∷ split.after) (sym same),
               ),
               lt,
               site',

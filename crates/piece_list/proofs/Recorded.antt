@@ -17,8 +17,8 @@ use Rattle.piece_raw.specs.Ring.{Ring, ring, IsAtCursor, IsMember, HasTag, IsPus
 use Rattle.piece_list.proofs.Gap.{all_left, all_right}
 use Rattle.piece_list.specs.declared.record.PieceRecord.{PieceRecord}
 use Rattle.piece_list.specs.Piece.{Piece, PieceRegister}
-use Rattle.piece_list.specs.Values.{Values, FollowsIn, Grows, IsWithin, font_of, colour_of, offset_of, register_by, inserted_with}
-use Rattle.piece_list.specs.Values.{key_of, looks_by, no_entry, piece_in, pieces_in, record_of, rest_in, set_by}
+use Rattle.piece_list.specs.Values.{Values, FollowsIn, ValuesGrow, IsWithin, font_of, colour_of, offset_of, register_by, inserted_with}
+use Rattle.piece_list.specs.Values.{no_entry, piece_in, pieces_in, record_key, record_looks_by, record_of, rest_in, set_by}
 use Rattle.piece_list.specs.Pieces.{gives_way, inserted, longer, offered_to_if, piece_of, relooked_piece, rest_of, risen}
 use Rattle.piece_list.specs.declared.run.Run.{Run}
 use Rattle.piece_list.proofs.Found.{some_is}
@@ -109,14 +109,14 @@ register_stays entries more zero value le = refl
 register_stays {V} entries more (suc n) value le =
     ap (λ (r : Register V). set_by r) (get_or_append_left entries more (no_entry value) n (omega (arith, le)))
 
-module _ (v w : Values) (grows : Grows v w) (r : PieceRecord) (within : IsWithin v r) where
+module _ (v w : Values) (grows : ValuesGrow v w) (r : PieceRecord) (within : IsWithin v r) where
   inserted_stays : inserted_with w r ≡ inserted_with v r
   inserted_stays =
       let (more, is) = grows.looks in
       ap (λ (ls : List Looks). slice_index_or ls r.looks plain_looks) is
       ∙ get_or_append_left v.looks more plain_looks r.looks within.looks
 
-  looks_stay : (by : ℕ) → by ≤ length v.relooks → looks_by w r by ≡ looks_by v r by
+  looks_stay : (by : ℕ) → by ≤ length v.relooks → record_looks_by w r by ≡ record_looks_by v r by
   looks_stay by le =
       let (more, is) = grows.relooks in
       ap (λ (looks : Looks). register_by w.relooks by looks) inserted_stays
@@ -136,10 +136,10 @@ module _ (v w : Values) (grows : Grows v w) (r : PieceRecord) (within : IsWithin
       let offset = looks_stay r.offset_by within.offset in
       let hidden = hidden_stays in
       ap (λ (l : PieceRegister Looks). record (piece_in w r) { font = font_of l }) font
-      ∙ ap (λ (l : PieceRegister Looks). record (piece_in w r) { font = font_of (looks_by v r r.font_by); colour = colour_of l }) colour
+      ∙ ap (λ (l : PieceRegister Looks). record (piece_in w r) { font = font_of (record_looks_by v r r.font_by); colour = colour_of l }) colour
       ∙ ap (λ (l : PieceRegister Looks). record (piece_in w r) {
-        font = font_of (looks_by v r r.font_by);
-        colour = colour_of (looks_by v r r.colour_by);
+        font = font_of (record_looks_by v r r.font_by);
+        colour = colour_of (record_looks_by v r r.colour_by);
         offset = offset_of l;
       }) offset
       ∙ ap (λ (h : PieceRegister Bool). record (piece_in v r) { hidden = h }) hidden
@@ -169,7 +169,7 @@ Records = List (ℕ × PieceRecord)
 abbrev pub AreWithin : Values → Records → Type 0
 AreWithin v records = All (λ m. IsWithin v m.1) records
 
-pub pieces_stay : (v w : Values) → Grows v w → (records : Records) → AreWithin v records
+pub pieces_stay : (v w : Values) → ValuesGrow v w → (records : Records) → AreWithin v records
     → pieces_in w records ≡ pieces_in v records
 pieces_stay v w grows [] within = refl
 pieces_stay v w grows (m ∷ records) within =
@@ -178,7 +178,7 @@ pieces_stay v w grows (m ∷ records) within =
     ∙ ap (λ (ps : List (ℕ × Piece)). (m.0, piece_in v m.1) ∷ ps)
     (pieces_stay v w grows records (All-tail Is m records within))
 
-pub all_within_stay : (v w : Values) → Grows v w → (records : Records) → AreWithin v records → AreWithin w records
+pub all_within_stay : (v w : Values) → ValuesGrow v w → (records : Records) → AreWithin v records → AreWithin w records
 all_within_stay v w grows records within = λ k d lt. within_stays v w grows _ (within k d lt)
 
 -- a member is within
@@ -272,7 +272,7 @@ module _ (v : Values) (r w : PieceRecord) (sel : Selection) (key : Key) (looks :
   -- the entry that sets a register after new looks are offered
   abbrev pub IsLater : Bool → (was by : ℕ) → Type 0
   IsLater selected was by =
-      looks_by v r by ≡ offered_to_if selected (looks_by v r was) key looks
+      record_looks_by v r by ≡ offered_to_if selected (record_looks_by v r was) key looks
 
   pub relooked_in : w ≡ record r { font_by = w.font_by; colour_by = w.colour_by; offset_by = w.offset_by }
       → IsLater sel.font r.font_by w.font_by → IsLater sel.colour r.colour_by w.colour_by
@@ -282,24 +282,24 @@ module _ (v : Values) (r w : PieceRecord) (sel : Selection) (key : Key) (looks :
       ap (piece_in v) is
       ∙ ap (λ (l : PieceRegister Looks). record p {
         font = font_of l;
-        colour = colour_of (looks_by v r w.colour_by);
-        offset = offset_of (looks_by v r w.offset_by);
+        colour = colour_of (record_looks_by v r w.colour_by);
+        offset = offset_of (record_looks_by v r w.offset_by);
       }) font
       ∙ ap (λ (f : PieceRegister (List ℕ)). record p {
         font = f;
-        colour = colour_of (looks_by v r w.colour_by);
-        offset = offset_of (looks_by v r w.offset_by);
-      }) (offered_part (λ l. l.font) sel.font (looks_by v r r.font_by) key looks)
+        colour = colour_of (record_looks_by v r w.colour_by);
+        offset = offset_of (record_looks_by v r w.offset_by);
+      }) (offered_part (λ l. l.font) sel.font (record_looks_by v r r.font_by) key looks)
       ∙ ap (λ (l : PieceRegister Looks). record p {
         font = offered_to_if sel.font p.font key looks.font;
         colour = colour_of l;
-        offset = offset_of (looks_by v r w.offset_by);
+        offset = offset_of (record_looks_by v r w.offset_by);
       }) colour
       ∙ ap (λ (c : PieceRegister ℕ). record p {
         font = offered_to_if sel.font p.font key looks.font;
         colour = c;
-        offset = offset_of (looks_by v r w.offset_by);
-      }) (offered_part (λ l. l.colour) sel.colour (looks_by v r r.colour_by) key looks)
+        offset = offset_of (record_looks_by v r w.offset_by);
+      }) (offered_part (λ l. l.colour) sel.colour (record_looks_by v r r.colour_by) key looks)
       ∙ ap (λ (l : PieceRegister Looks). record p {
         font = offered_to_if sel.font p.font key looks.font;
         colour = offered_to_if sel.colour p.colour key looks.colour;
@@ -309,7 +309,7 @@ module _ (v : Values) (r w : PieceRecord) (sel : Selection) (key : Key) (looks :
         font = offered_to_if sel.font p.font key looks.font;
         colour = offered_to_if sel.colour p.colour key looks.colour;
         offset = o;
-      }) (offered_part (λ l. l.offset) sel.offset (looks_by v r r.offset_by) key looks)
+      }) (offered_part (λ l. l.offset) sel.offset (record_looks_by v r r.offset_by) key looks)
 
 -- where a ring's cursor stands
 module _ {T : Type 0} where
@@ -397,7 +397,7 @@ stamp_on false n key = refl
 
 pub rest_stands : (v : Values) (r : PieceRecord) (n : ℕ) → piece_in v (rest_in n r) ≡ rest_of n (piece_in v r)
 rest_stands v r n =
-    ap (λ (key : Key). record (rest_of n (piece_in v r)) { key = key }) (stamp_on r.rising n (key_of r))
+    ap (λ (key : Key). record (rest_of n (piece_in v r)) { key = key }) (stamp_on r.rising n (record_key r))
 
 -- a run that follows a record in the same looks goes on where its piece ends
 pub follows_there : (v : Values) (r : PieceRecord) (run : Run) → FollowsIn r run → inserted_with v r ≡ run.looks
@@ -412,19 +412,19 @@ follows_there v r run f same =
       rising = rising;
       looks = looks;
     }) in
-    let key : (b : Bool) → b ≡ true → run.key ≡ risen b r.len (key_of r) = λ b rises.
+    let key : (b : Bool) → b ≡ true → run.key ≡ risen b r.len (record_key r) = λ b rises.
     let of : ℕ → ℕ → Key = λ (stamp site : ℕ). record { stamp = stamp; site = site } in
     ap (λ (stamp : ℕ). of stamp run.key.site) f.stamp ∙ ap (of (r.stamp + r.len)) (sym f.key_site)
-    ∙ ap (λ (b : Bool). risen b r.len (key_of r)) (sym rises) in
+    ∙ ap (λ (b : Bool). risen b r.len (record_key r)) (sym rises) in
     let len : run.len ≡ r.len + run.len - r.len = omega arith in
-    let font : piece_in v r ≡ made r.site r.off r.len (key_of r) r.rising (inserted_with v r) = untouched in
+    let font : piece_in v r ≡ made r.site r.off r.len (record_key r) r.rising (inserted_with v r) = untouched in
     ap (λ (site : ℕ). made site run.off run.len run.key run.rising run.looks) (sym f.site)
     ∙ ap (λ (off : ℕ). made r.site off run.len run.key run.rising run.looks) f.off
     ∙ ap (λ (n : ℕ). made r.site (r.off + r.len) n run.key run.rising run.looks) len
     ∙ ap (λ (k : Key). made r.site (r.off + r.len) (r.len + run.len - r.len) k run.rising run.looks) (key r.rising f.rises)
-    ∙ ap (λ (b : Bool). made r.site (r.off + r.len) (r.len + run.len - r.len) (risen r.rising r.len (key_of r)) b run.looks)
+    ∙ ap (λ (b : Bool). made r.site (r.off + r.len) (r.len + run.len - r.len) (risen r.rising r.len (record_key r)) b run.looks)
     (f.rising ∙ sym f.rises)
-    ∙ ap (made r.site (r.off + r.len) (r.len + run.len - r.len) (risen r.rising r.len (key_of r)) r.rising) (sym same)
+    ∙ ap (made r.site (r.off + r.len) (r.len + run.len - r.len) (risen r.rising r.len (record_key r)) r.rising) (sym same)
     ∙ ap (λ (q : Piece). rest_of r.len (longer run.len q)) (sym font)
   where
     -- the piece of a record whose registers are as they were inserted
@@ -432,7 +432,7 @@ follows_there v r run f same =
       site = r.site;
       off = r.off;
       len = r.len;
-      key = key_of r;
+      key = record_key r;
       rising = r.rising;
       looks = inserted_with v r;
     })
@@ -465,14 +465,14 @@ follows_back v r run rising on =
     let colour : r.colour_by ≡ 0 = none_set v.relooks r.colour_by (inserted_with v r) (ap (λ (p : Piece). p.colour.by) on) in
     let offset : r.offset_by ≡ 0 = none_set v.relooks r.offset_by (inserted_with v r) (ap (λ (p : Piece). p.offset.by) on) in
     let hidden : r.hidden_by ≡ 0 = none_set v.switches r.hidden_by false (ap (λ (p : Piece). p.hidden.by) on) in
-    let key : run.key ≡ risen true r.len (key_of r) =
-    ap (λ (p : Piece). p.key) on ∙ ap (λ (b : Bool). risen b r.len (key_of r)) rises in
+    let key : run.key ≡ risen true r.len (record_key r) =
+    ap (λ (p : Piece). p.key) on ∙ ap (λ (b : Bool). risen b r.len (record_key r)) rises in
     let own_font : run.looks.font ≡ (inserted_with v r).font =
-    ap (λ (p : Piece). p.font.value) on ∙ ap (λ (n : ℕ). (looks_by v r n).value.font) font in
+    ap (λ (p : Piece). p.font.value) on ∙ ap (λ (n : ℕ). (record_looks_by v r n).value.font) font in
     let own_colour : run.looks.colour ≡ (inserted_with v r).colour =
-    ap (λ (p : Piece). p.colour.value) on ∙ ap (λ (n : ℕ). (looks_by v r n).value.colour) colour in
+    ap (λ (p : Piece). p.colour.value) on ∙ ap (λ (n : ℕ). (record_looks_by v r n).value.colour) colour in
     let own_offset : run.looks.offset ≡ (inserted_with v r).offset =
-    ap (λ (p : Piece). p.offset.value) on ∙ ap (λ (n : ℕ). (looks_by v r n).value.offset) offset in
+    ap (λ (p : Piece). p.offset.value) on ∙ ap (λ (n : ℕ). (record_looks_by v r n).value.offset) offset in
     let made : List ℕ → ℕ → ℤ → Looks = λ f c o. record { font = f; colour = c; offset = o } in (
       record {
         rises = rises;

@@ -17,7 +17,7 @@ use Rattle.piece_list.specs.declared.spot.Spot.{Spot}
 use Rattle.piece_list.specs.declared.run.Run.{Run}
 use Rattle.piece_list.specs.Held.{IsSpotOf}
 use Rattle.piece_list.specs.Pieces.{range_of, char_of, chars_of, IsPiece}
-use Rattle.piece_list.specs.Shown.{Appearance, appearance_of, appearance_in, appearances_in, run_of}
+use Rattle.piece_list.specs.Shown.{Appearance, appearance_of, appearance_in, appearances_in, piece_run}
 use Rattle.piece_list.specs.Shown.{shown_runs}
 use Rattle.piece_list.specs.Spelled.{spelled, shown_chars, ArePieces}
 
@@ -164,19 +164,19 @@ spot_at items xs ys tag p pos i is at shown lt =
 
 -- the runs of a list tell of the characters that it shows
 pub told : (p : Piece) (cs : List CharName)
-    → map (appearance_in (run_of p)) cs ≡ map appearance_of (map (char_of p) cs)
+    → map (appearance_in (piece_run p)) cs ≡ map appearance_of (map (char_of p) cs)
 told p [] = refl
 told p (c ∷ cs) = ap (λ (l : List Appearance). appearance_of (char_of p c) ∷ l) (told p cs)
 
 runs_with : (m : ℕ × Piece) (items : Items) (hidden : Bool)
     → flat_map appearances_in (shown_runs items) ≡ map appearance_of (shown_chars (spelled items))
-    → flat_map appearances_in (map (λ (n : ℕ × Piece). run_of n.1)
+    → flat_map appearances_in (map (λ (n : ℕ × Piece). piece_run n.1)
     (cond (not hidden) (m ∷ filter (λ (n : ℕ × Piece). not n.1.hidden.value) items)
     (filter (λ (n : ℕ × Piece). not n.1.hidden.value) items)))
     ≡ map appearance_of (cond hidden [] (chars m) ++ shown_chars (spelled items))
 runs_with m items true rest = rest
 runs_with m items false rest =
-    ap (λ (l : List Appearance). appearances_in (run_of m.1) ++ l) rest
+    ap (λ (l : List Appearance). appearances_in (piece_run m.1) ++ l) rest
     ∙ ap (λ (l : List Appearance). l ++ map appearance_of (shown_chars (spelled items)))
     (told m.1 (names_of (range_of m.1)))
     ∙ sym (map-append appearance_of (chars m) (shown_chars (spelled items)))
@@ -189,7 +189,7 @@ runs_tell (m ∷ items) =
     ∙ sym (ap (map appearance_of) (shown_cons m items))
 
 -- what holds of each piece as a run holds of each of them
-pub runs_are : (P : Run → Type 0) → ((p : Piece) → IsPiece p → P (run_of p)) → (items : Items)
+pub runs_are : (P : Run → Type 0) → ((p : Piece) → IsPiece p → P (piece_run p)) → (items : Items)
     → ArePieces items → All P (shown_runs items)
 runs_are P holds [] pieces = All-nil P
 runs_are P holds (m ∷ items) pieces =
@@ -197,9 +197,9 @@ runs_are P holds (m ∷ items) pieces =
     go m.1.hidden.value (holds m.1 (All-head Is m items pieces))
     (runs_are P holds items (All-tail Is m items pieces))
   where
-    go : (hidden : Bool) → P (run_of m.1) → All P (shown_runs items)
-        → All P (map (λ (n : ℕ × Piece). run_of n.1)
+    go : (hidden : Bool) → P (piece_run m.1) → All P (shown_runs items)
+        → All P (map (λ (n : ℕ × Piece). piece_run n.1)
         (cond (not hidden) (m ∷ filter (λ (n : ℕ × Piece). not n.1.hidden.value) items)
         (filter (λ (n : ℕ × Piece). not n.1.hidden.value) items)))
     go true here rest = rest
-    go false here rest = All-cons P (run_of m.1) (shown_runs items) here rest
+    go false here rest = All-cons P (piece_run m.1) (shown_runs items) here rest

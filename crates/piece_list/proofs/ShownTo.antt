@@ -11,7 +11,7 @@ use Rattle.char_files.specs.CharName.{CharName}
 use Rattle.operations.specs.NameSet.{names_of}
 use Rattle.tree_order.specs.Registers.{Atom}
 use Rattle.piece_list.specs.Piece.{Piece}
-use Rattle.piece_list.specs.Pieces.{range_of, chars_of, front_of, rest_of}
+use Rattle.piece_list.specs.Pieces.{range_of, chars_of, piece_front, rest_of}
 use Rattle.piece_list.specs.Shown.{AreShownTo}
 use Rattle.piece_list.specs.Spelled.{spelled, names_of_atoms, shown_chars}
 use Rattle.piece_list.proofs.Split.{split_spells_the_same}
@@ -57,10 +57,10 @@ one_index names once c i j li lj at_i at_j =
 -- the characters up to it
 pub up_to : (xs ys : Items) (tag : ℕ) (p : Piece) (i : ℕ) → i < p.len
     → take (length (spelled xs) + i + 1) (spelled (xs ++ (tag, p) ∷ ys))
-    ≡ spelled (xs ++ (tag, front_of (i + 1) p) ∷ [])
+    ≡ spelled (xs ++ (tag, piece_front (i + 1) p) ∷ [])
 up_to xs ys tag p i lt =
     let le : i + 1 ≤ p.len = omega arith in
-    let front : ℕ × Piece = (tag, front_of (i + 1) p) in
+    let front : ℕ × Piece = (tag, piece_front (i + 1) p) in
     let rest : ℕ × Piece = (tag, rest_of (i + 1) p) in
     let before : Items = xs ++ front ∷ [] in
     let after : Items = rest ∷ ys in
@@ -70,8 +70,8 @@ up_to xs ys tag p i lt =
     ∙ flat_map-append chars before after in
     let none : length (spelled []) ≡ 0 = refl in
     let own : length (spelled (front ∷ [])) ≡ i + 1 =
-    length-append (chars_of (front_of (i + 1) p)) (spelled [])
-    ∙ omega (arith, count_chars (front_of (i + 1) p)) in
+    length-append (chars_of (piece_front (i + 1) p)) (spelled [])
+    ∙ omega (arith, count_chars (piece_front (i + 1) p)) in
     let len : length (spelled xs) + i + 1 ≡ length (spelled before) =
     omega (
       arith,
@@ -108,8 +108,8 @@ shown_up_to items xs ys tag p c i n is once lt site off count = λ k found.
     one_index names once c k (length (spelled xs) + i) (slice_get_within names k c found) within
     (get_or_from_slice_get names k c c found) at in
     let front : shown_chars (take (k + 1) (spelled items))
-    ≡ shown_chars (spelled (xs ++ (tag, front_of (i + 1) p) ∷ [])) =
+    ≡ shown_chars (spelled (xs ++ (tag, piece_front (i + 1) p) ∷ [])) =
     ap (λ (j : ℕ). shown_chars (take (j + 1) (spelled items))) same
     ∙ ap (λ (l : Items). shown_chars (take (length (spelled xs) + i + 1) (spelled l))) is
     ∙ ap shown_chars (up_to xs ys tag p i lt) in
-    count ∙ sym (ap length front ∙ count_more xs (tag, front_of (i + 1) p))
+    count ∙ sym (ap length front ∙ count_more xs (tag, piece_front (i + 1) p))

@@ -13,7 +13,7 @@ use Rattle.piece_list.specs.Changing.{changed_piece, differs, unlike}
 use Rattle.piece_list.specs.Held.{IsSplit}
 use Rattle.piece_list.specs.Noted.{IsSpent, ShowsOther}
 use Rattle.piece_list.specs.Piece.{Piece, PieceRegister}
-use Rattle.piece_list.specs.Pieces.{front_of, gives_way, rest_of}
+use Rattle.piece_list.specs.Pieces.{gives_way, piece_front, rest_of}
 use Rattle.piece_list.proofs.Splitting.{written}
 
 abbrev Items : Type 0
@@ -61,7 +61,7 @@ unlike_after_split old new tag n u split hidden =
       arith,
       at_most_one hidden p.hidden.value,
       ap (unlike hidden) split.whole ∙ parts hidden split.before split.after tag p,
-      ap (unlike hidden) split.parts ∙ parts hidden split.before ((u, rest_of n p) ∷ split.after) tag (front_of n p),
+      ap (unlike hidden) split.parts ∙ parts hidden split.before ((u, rest_of n p) ∷ split.after) tag (piece_front n p),
       sum_by-cons (each hidden) (u, rest_of n p) split.after,
     )
 

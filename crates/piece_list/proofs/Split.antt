@@ -8,7 +8,7 @@ use Rattle.looks.specs.declared.key.Key.{Key}
 use Rattle.char_files.specs.CharName.{CharName}
 use Rattle.tree_order.specs.Registers.{Atom}
 use Rattle.piece_list.specs.Piece.{Piece}
-use Rattle.piece_list.specs.Pieces.{char_of, chars_of, front_of, key_from, register_of, rest_of, risen}
+use Rattle.piece_list.specs.Pieces.{char_of, chars_of, key_from, piece_front, register_of, rest_of, risen}
 use Rattle.piece_list.specs.Spelled.{spelled}
 use Rattle.piece_list.specs.Laws.{SplitSpellsTheSame}
 
@@ -53,7 +53,7 @@ chars_on p n (c ∷ cs) =
 
 -- a piece's characters are those of its front and those of the rest
 pub chars_of-split : (p : Piece) (n : ℕ) → n ≤ p.len
-    → chars_of p ≡ chars_of (front_of n p) ++ chars_of (rest_of n p)
+    → chars_of p ≡ chars_of (piece_front n p) ++ chars_of (rest_of n p)
 chars_of-split p n le =
     let name : ℕ → CharName = λ (off : ℕ). record { site = p.site; off = off } in
     let front : List ℕ = range_with_len p.off n in
@@ -63,14 +63,14 @@ chars_of-split p n le =
     ∙ ap (λ (ks : List ℕ). map (char_of p) (map name ks)) (range_with_len-append p.off n (p.len - n))
     ∙ ap (map (char_of p)) (map-append name front rest)
     ∙ map-append (char_of p) (map name front) (map name rest)
-    ∙ ap (λ (ks : List Atom). chars_of (front_of n p) ++ ks) (sym (chars_on p n (map name rest)))
+    ∙ ap (λ (ks : List Atom). chars_of (piece_front n p) ++ ks) (sym (chars_on p n (map name rest)))
 
 pub split_spells_the_same : SplitSpellsTheSame
 split_spells_the_same before after tag rest n p le =
     let chars : ℕ × Piece → List Atom = λ (m : ℕ × Piece). chars_of m.1 in
-    let front : List Atom = chars_of (front_of n p) in
+    let front : List Atom = chars_of (piece_front n p) in
     let others : List Atom = chars_of (rest_of n p) in
-    flat_map-append chars before ((tag, front_of n p) ∷ (rest, rest_of n p) ∷ after)
+    flat_map-append chars before ((tag, piece_front n p) ∷ (rest, rest_of n p) ∷ after)
     ∙ ap (λ (ks : List Atom). spelled before ++ ks) (sym (append_assoc front others (spelled after))
     ∙ ap (λ (ks : List Atom). ks ++ spelled after) (sym (chars_of-split p n le)))
     ∙ sym (flat_map-append chars before ((tag, p) ∷ after))

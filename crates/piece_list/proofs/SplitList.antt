@@ -9,7 +9,7 @@ use Rattle.operations.specs.NameSet.{IsIn}
 use Rattle.piece_raw.specs.Ring.{AreTags, IsMember, IsPushed, with_value}
 use Rattle.piece_list.specs.Piece.{Piece}
 use Rattle.piece_list.specs.declared.spot.Spot.{Spot}
-use Rattle.piece_list.specs.Pieces.{range_of, front_of, rest_of, IsPiece}
+use Rattle.piece_list.specs.Pieces.{range_of, piece_front, rest_of, IsPiece}
 use Rattle.piece_list.specs.Held.{AreEntered, HasSpot, IsSpotOf, IsSplit}
 use Rattle.piece_list.specs.Placing.{AreOrAreJoined}
 use Rattle.piece_list.specs.Spelled.{spelled, ArePieces}
@@ -60,17 +60,17 @@ same_tags xs ys tag p w are =
 
 -- the piece is split
 split_parts : (xs ys old new : Items) (tag n u : ℕ) (v : Piece) → AreTags old → old ≡ xs ++ (tag, v) ∷ ys
-    → IsPushed (with_value tag (front_of n v) old) (Some tag) u (rest_of n v) new
-    → new ≡ xs ++ (tag, front_of n v) ∷ (u, rest_of n v) ∷ ys
+    → IsPushed (with_value tag (piece_front n v) old) (Some tag) u (rest_of n v) new
+    → new ≡ xs ++ (tag, piece_front n v) ∷ (u, rest_of n v) ∷ ys
 split_parts xs ys old new tag n u v are is insert =
     let here : AreTags (xs ++ (tag, v) ∷ ys) = subst AreTags is are in
-    let w : with_value tag (front_of n v) old ≡ xs ++ (tag, front_of n v) ∷ ys =
-    ap (with_value tag (front_of n v)) is ∙ written xs ys tag v (front_of n v) here in
-    pushed xs ys tag u (front_of n v) (rest_of n v) new (same_tags xs ys tag v (front_of n v) here)
+    let w : with_value tag (piece_front n v) old ≡ xs ++ (tag, piece_front n v) ∷ ys =
+    ap (with_value tag (piece_front n v)) is ∙ written xs ys tag v (piece_front n v) here in
+    pushed xs ys tag u (piece_front n v) (rest_of n v) new (same_tags xs ys tag v (piece_front n v) here)
     (subst (λ (l : Items). IsPushed l (Some tag) u (rest_of n v) new) w insert)
 
 pub split_made : (old new : Items) (tag n u : ℕ) (v : Piece) → AreTags old → IsMember old tag v → n < v.len
-    → IsPushed (with_value tag (front_of n v) old) (Some tag) u (rest_of n v) new → IsSplit tag n u old new
+    → IsPushed (with_value tag (piece_front n v) old) (Some tag) u (rest_of n v) new → IsSplit tag n u old new
 split_made old new tag n u v are (xs, ys, is) within insert = record {
   before = xs;
   after = ys;
@@ -83,7 +83,7 @@ split_made old new tag n u v are (xs, ys, is) within insert = record {
 -- and the tables are right, once the rest is entered
 pub split_entered : (old new : Items) (tag n u : ℕ) (v rest : Piece) (before after : Tables) → AreTags old
     → AreEntered old before → 0 < n → n < v.len → IsMember old tag v
-    → IsPushed (with_value tag (front_of n v) old) (Some tag) u (rest_of n v) new → rest ≡ rest_of n v
+    → IsPushed (with_value tag (piece_front n v) old) (Some tag) u (rest_of n v) new → rest ≡ rest_of n v
     → ((c : CharName) → IsIn (range_of rest) c → tag_at after c ≡ Some u)
     → ((c : CharName) → (IsIn (range_of rest) c → ⊥) → tag_at after c ≡ tag_at before c)
     → AreEntered new after
@@ -121,8 +121,8 @@ split_counts old new tag n u split =
     let p : Piece = split.piece in
     let whole : length old ≡ length split.before + length ((tag, p) ∷ split.after) =
     ap length split.whole ∙ length-append split.before ((tag, p) ∷ split.after) in
-    let parts : length new ≡ length split.before + length ((tag, front_of n p) ∷ (u, rest_of n p) ∷ split.after) =
-    ap length split.parts ∙ length-append split.before ((tag, front_of n p) ∷ (u, rest_of n p) ∷ split.after) in
+    let parts : length new ≡ length split.before + length ((tag, piece_front n p) ∷ (u, rest_of n p) ∷ split.after) =
+    ap length split.parts ∙ length-append split.before ((tag, piece_front n p) ∷ (u, rest_of n p) ∷ split.after) in
     omega arith
 
 -- and the spot moves to the rest
@@ -134,7 +134,7 @@ split_spot old new tag n u are split c (q, held, within, site, off) =
     let e : q ≡ p = one_value old are tag q p held (split.before, split.after, split.whole) in
     let site' : c.site ≡ p.site = site ∙ ap (λ (r : Piece). r.site) e in
     let off' : q.off ≡ p.off = ap (λ (r : Piece). r.off) e in
-    let front : ℕ × Piece = (tag, front_of n p) in
+    let front : ℕ × Piece = (tag, piece_front n p) in
     let rest : ℕ × Piece = (u, rest_of n p) in
     let joined : new ≡ split.before ++ front ∷ [] ++ rest ∷ split.after =
     split.parts ∙ sym (append_assoc split.before (front ∷ []) (rest ∷ split.after)) in

@@ -7,7 +7,7 @@ use Rattle.tree_order.specs.Registers.{if_named}
 use Rattle.char_files.specs.CharName.{CharName}
 use Rattle.piece_list.specs.declared.setting.Setting.{Setting}
 use Rattle.piece_list.specs.Piece.{Piece}
-use Rattle.piece_list.specs.Changing.{AreTheSame, IsEdge, IsNextEdge, changed_char, changed_piece, key_of}
+use Rattle.piece_list.specs.Changing.{AreTheSame, IsEdge, IsNextEdge, changed_char, changed_piece, setting_key}
 use Rattle.piece_list.specs.Laws.{IsPieceBelow}
 use Rattle.piece_list.specs.Held.{AreHeld}
 use Rattle.piece_list.specs.Spelled.{spelled}
@@ -37,7 +37,7 @@ pub record IsTurned (setting : Setting) (items : Items) (tables : Tables) (weigh
 
 module _ (setting : Setting) (items : Items) (tables : Tables) (weights : Weights) (keys : List ℕ) (tag : ℕ) (p w : Piece)
     (name : CharName) (held : AreHeld items tables weights keys) (t : IsTurn items tag p w name)
-    (is_w : w ≡ changed_piece setting p) (below : IsPieceBelow (key_of setting) p)
+    (is_w : w ≡ changed_piece setting p) (below : IsPieceBelow (setting_key setting) p)
   where
     abbrev new : Items
     new = with_value tag w items

@@ -24,7 +24,7 @@ use Rattle.piece_list.specs.Pieces.{char_of, chars_of, piece_of, risen}
 use Rattle.piece_list.specs.Placed.{IsPlaced}
 use Rattle.piece_list.specs.Shown.{AreShownTo, appearance_of}
 use Rattle.piece_list.specs.Spelled.{names_of_atoms, shown_chars}
-use Rattle.piece_list.specs.Typed.{AreTypedIn, after_letter, first_letter, insertions, told_of}
+use Rattle.piece_list.specs.Typed.{AreTypedIn, first_letter, insertions, run_after_letter, told_of}
 use Rattle.piece_list.specs.declared.run.Run.{Run}
 use Rattle.piece_list.proofs.Split.{chars_of-split}
 
@@ -61,13 +61,13 @@ first r = char_of (piece_of (first_letter r)) (name r)
 abbrev letters : ℕ → Run → List Atom
 letters n r = chars_of (piece_of (record r { len = n }))
 
-letters_more : (n : ℕ) (r : Run) → r.rising ≡ true → letters (suc n) r ≡ first r ∷ letters n (after_letter r)
+letters_more : (n : ℕ) (r : Run) → r.rising ≡ true → letters (suc n) r ≡ first r ∷ letters n (run_after_letter r)
 letters_more n r rises =
     let one : suc n - 1 ≡ n = omega arith in
     chars_of-split (piece_of (record r { len = suc n })) 1 (omega arith)
     ∙ ap (λ (key : Key). first r ∷ chars_of (piece_of (record r { off = r.off + 1; len = suc n - 1; key = key })))
     (ap (λ rising. risen rising 1 r.key) rises)
-    ∙ ap (λ (m : ℕ). first r ∷ letters m (after_letter r)) one
+    ∙ ap (λ (m : ℕ). first r ∷ letters m (run_after_letter r)) one
 
 -- a greater key is no further below
 not_below_rising : (key k : Key) → is_below key k ≡ false → is_below (record { stamp = key.stamp + 1; site = key.site }) k ≡ false
@@ -155,7 +155,7 @@ module _ (r : Run) (front back : List Atom) where
       there = slice_get-get_or (names_of_atoms (longer ++ back)) (length front) (name r) within ∙ ap (λ (c : CharName). Some c) at
 
   next_longest : (b m : ℕ) → length front ≡ b + m → IsLongest r.key (front ++ back) b m
-      → IsLongest (after_letter r).key (longer ++ back) (length longer) 0
+      → IsLongest (run_after_letter r).key (longer ++ back) (length longer) 0
   next_longest b m at longest = record {
     within = omega (arith, length-append longer back);
     greater = λ k d low high. absurd (omega (arith, low, high));
@@ -163,7 +163,7 @@ module _ (r : Run) (front back : List Atom) where
         let some : b + m < length (front ++ back) = omega (arith, lt, at, length-append longer back, length-append front back) in
         let old : get_or (longer ++ back) (length longer + 0) d ≡ get_or (front ++ back) (b + m) d =
         get_or-append-add longer back 0 d ∙ sym (ap (λ (n : ℕ). get_or (front ++ back) n d) (here) ∙ get_or-append-add front back 0 d) in
-        ap (λ (k : Atom). is_below (after_letter r).key k.key) old
+        ap (λ (k : Atom). is_below (run_after_letter r).key k.key) old
         ∙ not_below_rising r.key (get_or (front ++ back) (b + m) d).key (longest.stops some d);
   }
     where
@@ -179,26 +179,26 @@ shown_longer r front back beg shown =
 typed_on : (n : ℕ) (r : Run) → r.rising ≡ true → (cause : Anchor) (note : List Change) (front back : List Atom) (b m beg : ℕ)
     → length front ≡ b + m → beg ≡ length (shown_chars front) → IsJustAfter (names_of_atoms (front ++ back)) cause b
     → IsLongest r.key (front ++ back) b m
-    → AreTypedIn n (after_letter r) (At (name r)) (note ++ entry beg ∷ []) (note ++ entry beg ∷ [] ++ insertions (beg + 1) n)
-    (with_letter r front back) (longer r front back ++ letters n (after_letter r) ++ back)
+    → AreTypedIn n (run_after_letter r) (At (name r)) (note ++ entry beg ∷ []) (note ++ entry beg ∷ [] ++ insertions (beg + 1) n)
+    (with_letter r front back) (longer r front back ++ letters n (run_after_letter r) ++ back)
     → AreTypedIn (suc n) r cause note (note ++ insertions beg (suc n)) (front ++ back) (front ++ letters (suc n) r ++ back)
 typed_on n r rises cause note front back b m beg at shown after longest rest = (
   with_letter r front back,
   note ++ entry beg ∷ [],
   first_is_placed r front back cause b m at after longest,
   first_is_noted r front back note beg shown,
-  subst (λ (l : List Change). AreTypedIn n (after_letter r) (At (name r)) (note ++ entry beg ∷ []) l (with_letter r front back)
+  subst (λ (l : List Change). AreTypedIn n (run_after_letter r) (At (name r)) (note ++ entry beg ∷ []) l (with_letter r front back)
       (front ++ letters (suc n) r ++ back)) entries
-      (subst (λ (l : List Atom). AreTypedIn n (after_letter r) (At (name r)) (note ++ entry beg ∷ [])
+      (subst (λ (l : List Atom). AreTypedIn n (run_after_letter r) (At (name r)) (note ++ entry beg ∷ [])
       (note ++ entry beg ∷ [] ++ insertions (beg + 1) n) (with_letter r front back) l) all rest),
 )
   where
     entries : note ++ entry beg ∷ [] ++ insertions (beg + 1) n ≡ note ++ insertions beg (suc n)
     entries = append_assoc note (entry beg ∷ []) (insertions (beg + 1) n)
 
-    all : longer r front back ++ letters n (after_letter r) ++ back ≡ front ++ letters (suc n) r ++ back
+    all : longer r front back ++ letters n (run_after_letter r) ++ back ≡ front ++ letters (suc n) r ++ back
     all =
-        ap (λ (l : List Atom). l ++ back) (append_assoc front (first r ∷ []) (letters n (after_letter r))
+        ap (λ (l : List Atom). l ++ back) (append_assoc front (first r ∷ []) (letters n (run_after_letter r))
         ∙ ap (λ (l : List Atom). front ++ l) (sym (letters_more n r rises)))
 
 -- so each goes in after the one before
@@ -212,7 +212,7 @@ typed_from zero r rises cause note front back b m beg at shown after longest = (
 )
 typed_from (suc n) r rises cause note front back b m beg at shown after longest =
     typed_on n r rises cause note front back b m beg at shown after longest
-    (typed_from n (after_letter r) rises (At (name r)) (note ++ entry beg ∷ []) (longer r front back) back (length (longer r front back)) 0
+    (typed_from n (run_after_letter r) rises (At (name r)) (note ++ entry beg ∷ []) (longer r front back) back (length (longer r front back)) 0
     (beg + 1) (omega arith) (shown_longer r front back beg shown) (next_after r front back) (next_longest r front back b m at longest))
 
 -- so many are shown before the place
@@ -248,9 +248,9 @@ typed_in r cause note old new n rises some placed count =
     at = length-take-le (placed.before + placed.skipped) old placed.longest.within
 
     others : List Atom
-    others = letters (r.len - 1) (after_letter r) ++ back
+    others = letters (r.len - 1) (run_after_letter r) ++ back
 
-    own : letters r.len r ≡ first r ∷ letters (r.len - 1) (after_letter r)
+    own : letters r.len r ≡ first r ∷ letters (r.len - 1) (run_after_letter r)
     own =
         let more : r.len ≡ suc (r.len - 1) = omega (arith, some) in
         ap (λ (m : ℕ). letters m r) more ∙ letters_more (r.len - 1) r rises
@@ -259,7 +259,7 @@ typed_in r cause note old new n rises some placed count =
     parted =
         placed.placed
         ∙ ap (λ (l : List Atom). front ++ l ++ back) own
-        ∙ append_assoc front (first r ∷ letters (r.len - 1) (after_letter r)) back
+        ∙ append_assoc front (first r ∷ letters (r.len - 1) (run_after_letter r)) back
         ∙ sym (append_assoc front (first r ∷ []) others)
 
     shown : n - 1 ≡ length (shown_chars front)
@@ -275,7 +275,7 @@ all_noted zero r cause note note' was now (same, stays) = record {
   leads = ap told_of stays;
 }
 all_noted (suc n) r cause note note' was now (mid, between, placed, one, more) =
-    let rest = all_noted n (after_letter r) (At (name r)) between note' mid now more in
+    let rest = all_noted n (run_after_letter r) (At (name r)) between note' mid now more in
     record {
       gained = one.gained ++ rest.gained;
       kept =

@@ -9,7 +9,7 @@ use Rattle.piece_list.specs.Piece.{Piece}
 use Rattle.piece_list.specs.declared.run.Run.{Run}
 use Rattle.piece_list.specs.Pieces.{IsPiece}
 use Rattle.piece_list.specs.RunSplits.{AreWithin, HasFront, HaveStamps}
-use Rattle.piece_list.specs.Shown.{Appearance, appearance_of, run_of, shown_runs}
+use Rattle.piece_list.specs.Shown.{Appearance, appearance_of, piece_run, shown_runs}
 use Rattle.piece_list.specs.Spelled.{spelled, shown_chars, ArePieces}
 use Rattle.piece_list.proofs.Gap.{all_right}
 use Rattle.piece_list.proofs.Positions.{Items, shown_in, own, is_visible}
@@ -45,8 +45,8 @@ module _ (items xs ys : Items) (tag : ℕ) (p : Piece) (is : items ≡ xs ++ (ta
   front_from within lt =
       let (visible, small) = is_visible p within lt in
       let others : Items = filter (λ (m : ℕ × Piece). not m.1.hidden.value) ys in
-      let first : left ≡ run_of p ∷ shown_runs ys =
-      ap (λ b. map (λ (m : ℕ × Piece). run_of m.1) (cond (not b) ((tag, p) ∷ others) others)) visible in
+      let first : left ≡ piece_run p ∷ shown_runs ys =
+      ap (λ b. map (λ (m : ℕ × Piece). piece_run m.1) (cond (not b) ((tag, p) ∷ others) others)) visible in
       subst (HasFront within) (sym first) small
 
   pub within_from : ArePieces items → AreWithin left

@@ -8,7 +8,7 @@ use Rattle.piece_raw.specs.Ring.{AreTags, IsMember, HasTag, IsPushed, last_tag, 
 use Rattle.rank_index.specs.Ranked.{weight_of, IsRank, IsFound}
 use Rattle.piece_list.specs.Piece.{Piece}
 use Rattle.piece_list.specs.Held.{AreEntered, shown_weight, weighed}
-use Rattle.piece_list.specs.Pieces.{front_of, rest_of}
+use Rattle.piece_list.specs.Pieces.{piece_front, rest_of}
 use Rattle.piece_list.specs.Placing.{HasPart}
 use Rattle.piece_list.specs.Tables.{Tables}
 use Rattle.piece_list.proofs.SplitList.{is_piece}
@@ -192,11 +192,11 @@ module _ (items : Items) (index : Weights) (tag weight : ℕ) (p w : Piece) (sam
 -- of a piece that is split: its front keeps its number, and the rest is inserted after it
 module _ (items : Items) (tables : Tables) (index : Weights) (tag n before later : ℕ) (v front rest : Piece)
     (are : AreTags items) (entered : AreEntered items tables) (same : index ≡ weighed items)
-    (member : IsMember items tag v) (lt : n < v.len) (is_front : front ≡ front_of n v)
+    (member : IsMember items tag v) (lt : n < v.len) (is_front : front ≡ piece_front n v)
     (is_rest : rest ≡ rest_of n v) (by : before ≡ own front n) (rest_by : later ≡ own rest rest.len)
   where
     abbrev w : Piece
-    w = front_of n v
+    w = piece_front n v
 
     weight_is : before ≡ own w w.len
     weight_is = by ∙ ap (λ (p : Piece). own p n) is_front

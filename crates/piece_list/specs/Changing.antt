@@ -28,9 +28,9 @@ changed_char (Switch hidden key) k = switched hidden key k
 changed_char (Relook sel looks key) k = relooked sel looks key k
 
 -- the key under which a setting is made
-abbrev pub key_of : Setting → Key
-key_of (Switch hidden key) = key
-key_of (Relook sel looks key) = key
+abbrev pub setting_key : Setting → Key
+setting_key (Switch hidden key) = key
+setting_key (Relook sel looks key) = key
 
 -- the characters of these names have lesser keys
 abbrev pub AreBelow : Key → List Range → List Atom → Type 0

@@ -5,7 +5,7 @@ use Rattle.operations.specs.NameSet.{IsIn}
 use Rattle.piece_raw.specs.Ring.{AreTags, IsMember, HasTag}
 use Rattle.piece_list.specs.Piece.{Piece}
 use Rattle.piece_list.specs.declared.spot.Spot.{Spot}
-use Rattle.piece_list.specs.Pieces.{range_of, front_of, rest_of}
+use Rattle.piece_list.specs.Pieces.{range_of, piece_front, rest_of}
 use Rattle.piece_list.specs.Spelled.{spelled, ArePieces, HasName}
 use Rattle.piece_list.specs.Numbers.{AreKeyed}
 use Rattle.piece_list.specs.Tables.{Tables, tag_at}
@@ -68,4 +68,4 @@ pub record IsSplit (tag n rest : ℕ) (old new : List (ℕ × Piece)) : Type 0 w
   pub piece : Piece
   pub whole : old ≡ before ++ (tag, piece) ∷ after
   pub within : n < piece.len
-  pub parts : new ≡ before ++ (tag, front_of n piece) ∷ (rest, rest_of n piece) ∷ after
+  pub parts : new ≡ before ++ (tag, piece_front n piece) ∷ (rest, rest_of n piece) ∷ after

@@ -12,7 +12,7 @@ use Rattle.tree_order.specs.AtomInsertion.{atom_run}
 use Rattle.tree_order.specs.Registers.{Atom, AreAtoms, if_named}
 use Rattle.piece_list.specs.Piece.{Piece}
 use Rattle.piece_list.specs.declared.run.Run.{Run}
-use Rattle.piece_list.specs.Pieces.{range_of, char_of, chars_of, key_in, piece_of, front_of, rest_of}
+use Rattle.piece_list.specs.Pieces.{range_of, char_of, chars_of, key_of_name, piece_of, piece_front, rest_of}
 use Rattle.piece_list.specs.Placed.{IsPlaced}
 use Rattle.piece_list.specs.Spelled.{spelled, ArePieces}
 
@@ -20,7 +20,7 @@ use Rattle.piece_list.specs.Spelled.{spelled, ArePieces}
 abbrev pub SplitSpellsTheSame : Type 0
 SplitSpellsTheSame =
     (before after : List (ℕ × Piece)) (tag rest n : ℕ) (p : Piece) → n ≤ p.len
-    → spelled (before ++ (tag, front_of n p) ∷ (rest, rest_of n p) ∷ after) ≡ spelled (before ++
+    → spelled (before ++ (tag, piece_front n p) ∷ (rest, rest_of n p) ∷ after) ≡ spelled (before ++
     (tag, p) ∷ after)
 
 -- the pieces end with the cause; there are none before the root
@@ -71,11 +71,11 @@ Avoid r items = All (λ m. (c : CharName) → IsIn (range_of m.1) c → IsIn r c
 -- a change under a key is this one, character by character, where the characters have lesser keys
 abbrev pub ChangesEach : Key → (Piece → Piece) → (Atom → Atom) → Type 0
 ChangesEach key change each = (p : Piece) → (range_of (change p) ≡ range_of p)
-    × ((c : CharName) → is_below (key_in p c) key ≡ true → char_of (change p) c ≡ each (char_of p c))
+    × ((c : CharName) → is_below (key_of_name p c) key ≡ true → char_of (change p) c ≡ each (char_of p c))
 
 -- all of a piece's characters have lesser keys
 abbrev pub IsPieceBelow : Key → Piece → Type 0
-IsPieceBelow key p = (c : CharName) → IsIn (range_of p) c → is_below (key_in p c) key ≡ true
+IsPieceBelow key p = (c : CharName) → IsIn (range_of p) c → is_below (key_of_name p c) key ≡ true
 
 -- a piece that is changed changes the characters of its names, and no others
 abbrev pub ChangeIsOfItsNames : Type 0

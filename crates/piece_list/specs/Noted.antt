@@ -21,8 +21,8 @@ abbrev pub appearances : List (ℕ × Piece) → List Appearance
 appearances items = map appearance_of (shown_chars (spelled items))
 
 -- the names of what is shown
-abbrev pub names_shown : List Appearance → List CharName
-names_shown shown = map (λ s. s.name) shown
+abbrev pub names_of_shown : List Appearance → List CharName
+names_of_shown shown = map (λ s. s.name) shown
 
 -- the same character, whatever it looks like
 abbrev pub SameName : Appearance → Appearance → Type 0
@@ -38,7 +38,7 @@ pub record Notes (Is : Change → Type 0) (old new : List Change) (was now : Lis
 -- other looks for a stretch of what is shown, each character of which has one of these names
 abbrev pub IsReplaceOf : List Range → List Appearance → Change → Type 0
 IsReplaceOf names shown change =
-    IsOfKind Replace change × All (IsAmong names) (drop change.beg (take change.end (names_shown shown)))
+    IsOfKind Replace change × All (IsAmong names) (drop change.beg (take change.end (names_of_shown shown)))
 
 -- what hides characters deletes them from what is shown, and what shows them again inserts them
 abbrev pub switch_kind : Bool → ChangeKind
@@ -46,9 +46,9 @@ switch_kind true = Delete
 switch_kind false = Insert
 
 -- what a setting does to what is shown
-abbrev pub kind_of : Setting → ChangeKind
-kind_of (Switch hidden key) = switch_kind hidden
-kind_of (Relook sel looks key) = Replace
+abbrev pub setting_kind : Setting → ChangeKind
+setting_kind (Switch hidden key) = switch_kind hidden
+setting_kind (Relook sel looks key) = Replace
 
 -- a change of this setting's kind, and a replace of these names alone
 abbrev pub IsOf : Setting → List Range → List Appearance → Change → Type 0

@@ -4,9 +4,9 @@ use Rattle.looks.specs.declared.key.Key.{Key}
 use Rattle.piece_list.specs.Piece.{Piece}
 
 -- the stamp and then the site, as far as a u64 reaches: a lesser key's number is never greater
-abbrev pub number_of : Key → ℕ
-number_of key = min (key.stamp * 2 ^ 16 + min key.site (2 ^ 16 - 1)) (2 ^ 64 - 1)
+abbrev pub key_number : Key → ℕ
+key_number key = min (key.stamp * 2 ^ 16 + min key.site (2 ^ 16 - 1)) (2 ^ 64 - 1)
 
 -- the number of each piece's key stands under the piece's number
 abbrev pub AreKeyed : List (ℕ × Piece) → List ℕ → Type 0
-AreKeyed items keys = All (λ m. slice_get keys m.0 ≡ Some (number_of m.1.key)) items
+AreKeyed items keys = All (λ m. slice_get keys m.0 ≡ Some (key_number m.1.key)) items

@@ -23,8 +23,8 @@ key_from false key off c = key
 key_from true key off c = record { stamp = key.stamp + c.off - off; site = key.site }
 
 -- the key of its character of this name
-abbrev pub key_in : Piece → CharName → Key
-key_in p c = key_from p.rising p.key p.off c
+abbrev pub key_of_name : Piece → CharName → Key
+key_of_name p c = key_from p.rising p.key p.off c
 
 -- the key under which a register was set: the character's own where it is as it was inserted
 abbrev pub set_under : Option Key → (own : Key) → Key
@@ -39,11 +39,11 @@ register_of r own = record { key = set_under r.by own; value = r.value }
 abbrev pub char_of : Piece → CharName → Atom
 char_of p c = record {
   name = c;
-  key = key_in p c;
-  font = register_of p.font (key_in p c);
-  colour = register_of p.colour (key_in p c);
-  offset = register_of p.offset (key_in p c);
-  hidden = register_of p.hidden (key_in p c);
+  key = key_of_name p c;
+  font = register_of p.font (key_of_name p c);
+  colour = register_of p.colour (key_of_name p c);
+  offset = register_of p.offset (key_of_name p c);
+  hidden = register_of p.hidden (key_of_name p c);
 }
 
 -- its characters
@@ -57,8 +57,8 @@ IsPiece p = (0 < p.len) × (p.len ≤ MAX_PIECE) × (p.off + p.len ≤ MAX_FILE)
     × (p.rising ≡ true → p.key.stamp + p.len ≤ 2 ^ 64)
 
 -- the first n of its characters
-abbrev pub front_of : ℕ → Piece → Piece
-front_of n p = record p { len = n }
+abbrev pub piece_front : ℕ → Piece → Piece
+piece_front n p = record p { len = n }
 
 -- the key so many characters on
 abbrev pub risen : (rising : Bool) → ℕ → Key → Key

@@ -10,7 +10,7 @@ use Rattle.tree_order.specs.Registers.{Atom}
 use Rattle.piece_list.specs.Piece.{Piece}
 use Rattle.piece_list.specs.declared.spot.Spot.{Spot}
 use Rattle.piece_list.specs.Held.{IsSpotOf, IsSplit}
-use Rattle.piece_list.specs.Pieces.{front_of, rest_of}
+use Rattle.piece_list.specs.Pieces.{piece_front, rest_of}
 use Rattle.piece_list.specs.Laws.{EndAt, BeginNotAbove, IsPieceGap}
 use Rattle.piece_list.specs.Spelled.{spelled, HasName}
 
@@ -48,7 +48,7 @@ pub record IsSplitAt (old before after : List (ℕ × Piece)) : Type 0 where
   pub piece : Piece
   pub within : n < piece.len
   pub whole : old ≡ front ++ (tag, piece) ∷ rest
-  pub ends : before ≡ front ++ (tag, front_of n piece) ∷ []
+  pub ends : before ≡ front ++ (tag, piece_front n piece) ∷ []
   pub begins : after ≡ (other, rest_of n piece) ∷ rest
 
 -- old's pieces are those before and those after, or are once one piece is split there
@@ -62,8 +62,8 @@ IsPartedAt old items last cause = (before : List (ℕ × Piece)) × (after : Lis
     × IsParted items last before after × EndAt before cause × IsSplitThere old before after
 
 -- the piece of this number follows directly, and its key is greater
-abbrev pub IsNext : List (ℕ × Piece) → Key → Option ℕ → ℕ → Type 0
-IsNext items key last next = (before after : List (ℕ × Piece)) → IsParted items last before after
+abbrev pub IsNextPiece : List (ℕ × Piece) → Key → Option ℕ → ℕ → Type 0
+IsNextPiece items key last next = (before after : List (ℕ × Piece)) → IsParted items last before after
     → (p : Piece) × (rest : List (ℕ × Piece)) × (after ≡ (next, p) ∷ rest) × (is_below key p.key ≡ true)
 
 -- a count went on by n from one number to another, as far as a u64 reaches

@@ -9,9 +9,9 @@ abbrev pub after_first : ℕ → Run → Run
 after_first n r = record r { off = r.off + n; len = r.len - n; key = risen r.rising n r.key }
 
 -- the runs with this one before them, if there is one
-abbrev pub with_first : Option Run → List Run → List Run
-with_first None runs = runs
-with_first (Some r) runs = r ∷ runs
+abbrev pub with_first_run : Option Run → List Run → List Run
+with_first_run None runs = runs
+with_first_run (Some r) runs = r ∷ runs
 
 -- the first n characters of runs
 abbrev pub first_chars : ℕ → List Run → List Run

@@ -34,8 +34,8 @@ abbrev pub looks_of : Piece → Looks
 looks_of p = record { font = p.font.value; colour = p.colour.value; offset = p.offset.value }
 
 -- a piece as a run
-abbrev pub run_of : Piece → Run
-run_of p = record {
+abbrev pub piece_run : Piece → Run
+piece_run p = record {
   site = p.site;
   off = p.off;
   len = p.len;
@@ -46,7 +46,7 @@ run_of p = record {
 
 -- the pieces that aren't hidden, as runs
 abbrev pub shown_runs : List (ℕ × Piece) → List Run
-shown_runs items = map (λ m. run_of m.1) (filter (λ m. not m.1.hidden.value) items)
+shown_runs items = map (λ m. piece_run m.1) (filter (λ m. not m.1.hidden.value) items)
 
 -- so many of the characters up to the one of this name are shown, itself among them
 abbrev pub AreShownTo : List Atom → CharName → ℕ → Type 0

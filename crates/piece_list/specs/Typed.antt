@@ -18,8 +18,8 @@ abbrev pub first_letter : Run → Run
 first_letter r = record r { len = 1 }
 
 -- where it goes on after that: the key has risen
-abbrev pub after_letter : Run → Run
-after_letter r = record r { off = r.off + 1; key = record { stamp = r.key.stamp + 1; site = r.key.site } }
+abbrev pub run_after_letter : Run → Run
+run_after_letter r = record r { off = r.off + 1; key = record { stamp = r.key.stamp + 1; site = r.key.site } }
 
 -- what atoms show, character by character
 abbrev pub told_of : List Atom → List Appearance
@@ -32,7 +32,7 @@ AreTypedIn zero r cause note note' was now = (note' ≡ note) × (now ≡ was)
 AreTypedIn (suc n) r cause note note' was now =
     (mid : List Atom) × (between : List Change) × IsPlaced r.key cause (chars_of (piece_of (first_letter r))) was mid
     × Notes (IsOfKind Insert) note between (told_of was) (told_of mid)
-    × AreTypedIn n (after_letter r) (At (record { site = r.site; off = r.off })) between note' mid now
+    × AreTypedIn n (run_after_letter r) (At (record { site = r.site; off = r.off })) between note' mid now
 
 -- an insertion of one character at each of so many places, one after the other
 abbrev pub insertions : (beg n : ℕ) → List Change

@@ -63,20 +63,20 @@ record_of run looks = record {
 }
 
 -- the key of the first character's Insert
-abbrev pub key_of : PieceRecord → Key
-key_of r = record { stamp = r.stamp; site = r.key_site }
+abbrev pub record_key : PieceRecord → Key
+record_key r = record { stamp = r.stamp; site = r.key_site }
 
 -- the looks that they were inserted with
 abbrev pub inserted_with : Values → PieceRecord → Looks
 inserted_with v r = slice_index_or v.looks r.looks plain_looks
 
 -- the looks that the entry of this number gave them
-abbrev pub looks_by : Values → PieceRecord → ℕ → PieceRegister Looks
-looks_by v r by = register_by v.relooks by (inserted_with v r)
+abbrev pub record_looks_by : Values → PieceRecord → ℕ → PieceRegister Looks
+record_looks_by v r by = register_by v.relooks by (inserted_with v r)
 
 -- the record of all after its first n characters
 abbrev pub rest_in : ℕ → PieceRecord → PieceRecord
-rest_in n r = record r { stamp = (risen r.rising n (key_of r)).stamp; off = r.off + n; len = r.len - n }
+rest_in n r = record r { stamp = (risen r.rising n (record_key r)).stamp; off = r.off + n; len = r.len - n }
 
 -- no register was set since the Inserts
 pub record IsAsInserted (r : PieceRecord) : Type 0 where
@@ -101,11 +101,11 @@ piece_in v r = record {
   site = r.site;
   off = r.off;
   len = r.len;
-  key = key_of r;
+  key = record_key r;
   rising = r.rising;
-  font = font_of (looks_by v r r.font_by);
-  colour = colour_of (looks_by v r r.colour_by);
-  offset = offset_of (looks_by v r r.offset_by);
+  font = font_of (record_looks_by v r r.font_by);
+  colour = colour_of (record_looks_by v r r.colour_by);
+  offset = offset_of (record_looks_by v r r.offset_by);
   hidden = register_by v.switches r.hidden_by false;
 }
 
@@ -122,7 +122,7 @@ pub record IsWithin (v : Values) (r : PieceRecord) : Type 0 where
   pub hidden : r.hidden_by ≤ length v.switches
 
 -- entries were added, and none was changed
-pub record Grows (old new : Values) : Type 0 where
+pub record ValuesGrow (old new : Values) : Type 0 where
   pub looks : (more : List Looks) × (new.looks ≡ old.looks ++ more)
   pub relooks : (more : List (Register Looks)) × (new.relooks ≡ old.relooks ++ more)
   pub switches : (more : List (Register Bool)) × (new.switches ≡ old.switches ++ more)

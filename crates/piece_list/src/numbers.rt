@@ -1,7 +1,7 @@
 //! Keys as numbers, which the index keeps.
 
 ghost use Rattle.std.specs.Prelude.{◌≡◌};
-ghost use Rattle.piece_list.specs.Numbers.{number_of as Number};
+ghost use Rattle.piece_list.specs.Numbers.{key_number as Number};
 
 use looks::Key;
 

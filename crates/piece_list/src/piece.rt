@@ -1,7 +1,7 @@
 ghost use Rattle.std.specs.Prelude.{◌≡◌, ◌+◌, ◌<◌, ◌≤◌, ◌^◌, true, All, IsTrue, if◌then◌else◌};
 ghost use Rattle.std.specs.Iterator.{YieldsFirst, item_count};
 ghost use Rattle.piece_list.specs.Pieces.{GoesOn, piece_of, risen};
-ghost use Rattle.piece_list.specs.Shown.{looks_of, run_of};
+ghost use Rattle.piece_list.specs.Shown.{looks_of, piece_run};
 ghost use Rattle.piece_list.specs.Values.{IsWithin, piece_in, pieces_in};
 
 use crate::record::PieceRecord;
@@ -101,7 +101,7 @@ impl<'a> PieceRef<'a> {
 
     // The run of all its characters.
     pub(crate) fn run(&self) -> Run
-        ensures { result ≡ run_of self.now }
+        ensures { result ≡ piece_run self.now }
     {
         Run {
             site: self.site(),

@@ -1,5 +1,5 @@
 ghost use Rattle.std.specs.Prelude.{◌≡◌, ◌+◌, ◌-◌, ◌<◌, ◌≤◌, ◌^◌, ◌↔◌, IsTrue, true};
-ghost use Rattle.piece_list.specs.Values.{FollowsIn, IsAsInserted, key_of, record_of, rest_in};
+ghost use Rattle.piece_list.specs.Values.{FollowsIn, IsAsInserted, record_key, record_of, rest_in};
 
 use crate::run::Run;
 use char_files::SiteNo;
@@ -55,7 +55,7 @@ impl PieceRecord {
 
     // The key of the first character's Insert.
     pub(crate) fn key(&self) -> Key
-        ensures { result ≡ key_of self.now }
+        ensures { result ≡ record_key self.now }
     {
         Key {
             stamp: self.stamp,

@@ -8,7 +8,7 @@ ghost use Rattle.piece_list.specs.declared.ring.TheConstants.{MAX_PIECES};
 ghost use Rattle.piece_list.specs.Changing.{changed_piece};
 ghost use Rattle.piece_list.specs.Noted.{ShowsOther, ShowsTheSame};
 ghost use Rattle.piece_list.specs.Piece.{Piece};
-ghost use Rattle.piece_list.specs.Pieces.{IsPiece, front_of, longer, rest_of, piece_of};
+ghost use Rattle.piece_list.specs.Pieces.{IsPiece, piece_front, longer, rest_of, piece_of};
 ghost use Rattle.piece_list.specs.Values.{IsEntered, IsWithin, piece_in};
 
 use crate::piece::{PieceRef, PieceRefs};
@@ -166,7 +166,7 @@ impl PieceRing {
         requires room { 0 < self.old.room }
         ensures number { (result ≡ length self.old.items) × (result < MAX_PIECES) }
         ensures split { (p : Piece) × IsMember self.old.items number p
-            × IsPushed (with_value number (front_of n p) self.old.items) (Just number) result (rest_of n p) self.new.items }
+            × IsPushed (with_value number (piece_front n p) self.old.items) (Just number) result (rest_of n p) self.new.items }
         ensures values { self.new.values ≡ self.old.values }
         ensures room { self.old.room ≤ self.new.room + 1 }
     {

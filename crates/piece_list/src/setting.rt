@@ -1,5 +1,5 @@
 ghost use Rattle.std.specs.Prelude.{◌≡◌};
-ghost use Rattle.piece_list.specs.Noted.{kind_of};
+ghost use Rattle.piece_list.specs.Noted.{setting_kind};
 
 use list_changes::ChangeKind;
 use looks::{Key, Looks, Sel};
@@ -16,7 +16,7 @@ pub(crate) enum Setting {
 impl Setting {
     // What it does to a list of what is shown, where it does something.
     pub(crate) fn kind(&self) -> ChangeKind
-        ensures { result ≡ kind_of self.now }
+        ensures { result ≡ setting_kind self.now }
     {
         match self {
             Setting::Switch { hidden: true, .. } => ChangeKind::Delete,

@@ -6,7 +6,7 @@ ghost use Rattle.looks.specs.declared.register.Register.{Register};
 ghost use Rattle.piece_list.specs.Changing.{changed_piece};
 ghost use Rattle.piece_list.specs.Pieces.{gives_way, offered_to_if};
 ghost use Rattle.piece_list.specs.Shown.{looks_of};
-ghost use Rattle.piece_list.specs.Values.{Grows, IsEntered, IsWithin, inserted_with, looks_by, piece_in, register_by};
+ghost use Rattle.piece_list.specs.Values.{IsEntered, IsWithin, ValuesGrow, inserted_with, piece_in, record_looks_by, register_by};
 
 use crate::record::PieceRecord;
 use crate::setting::Setting;
@@ -95,7 +95,7 @@ impl ValueTables {
     // The number of these looks, for which there is room.
     pub(crate) fn number_of(&mut self, looks: &Looks) -> u32
         requires { 0 < self.old.room }
-        ensures grows { Grows self.old.values self.new.values }
+        ensures grows { ValuesGrow self.old.values self.new.values }
         ensures there { slice_get self.new.values.looks result ≡ Just looks.now }
         ensures room { self.old.room ≤ self.new.room + 1 }
     {
@@ -111,7 +111,7 @@ impl ValueTables {
     pub(crate) fn enter(&mut self, setting: &Setting) -> Result<(), Refusal>
         ensures ok { OnOk result (IsEntered self.new.values setting.now) }
         ensures errors { RefusedForMemoryAlone result }
-        ensures grows { Grows self.old.values self.new.values }
+        ensures grows { ValuesGrow self.old.values self.new.values }
         ensures room { self.new.room ≡ self.old.room }
     {
         match setting {
@@ -158,7 +158,7 @@ impl ValueTables {
     fn looks_by(&self, record: &PieceRecord, by: u32) -> &Looks
         requires within { IsWithin self.now.values record.now }
         requires entry { by ≤ length self.now.values.relooks }
-        ensures { result.now ≡ (looks_by self.now.values record.now by).value }
+        ensures { result.now ≡ (record_looks_by self.now.values record.now by).value }
     {
         if by == 0 {
             return self.inserted_with(record);

@@ -6,7 +6,7 @@ use denote.RawPtr.{Ptr}
 use Rattle.piece_raw.specs.declared.nodes.Member.{Member}
 use Rattle.piece_raw.specs.Linked.{same_ptr, places, IsApart}
 use Rattle.piece_raw.specs.Ring.{first_tag, last_tag}
-use Rattle.piece_raw.specs.Tied.{members, nodes_from, stop_of, IsHeld}
+use Rattle.piece_raw.specs.Tied.{members, nodes_from, stop_of, HoldsMember}
 use Rattle.piece_raw.proofs.Splits.{cons_head, cons_tail, split_last, all_left, all_right, distinct_differs}
 use Rattle.piece_raw.proofs.Apart.{same_ptr_refl, same_ptr_symm, apart_places, same_node}
 use Rattle.piece_raw.proofs.Matching.{N, members-cons, stop-some, found, step_after, split_after, split_members}
@@ -48,7 +48,7 @@ module _ {T : Type 0} where
     from_next xs x [] c = from_trailer
     from_next xs x (y ∷ ys) c = let on = split_after t ns xs x (y ∷ ys) c in from_node on.0 y ys on.1
 
-    module _ (ps : List Ptr) (held : AllByRecursion (IsHeld ps) ns) (none : t.value ≡ None) where
+    module _ (ps : List Ptr) (held : AllByRecursion (HoldsMember ps) ns) (none : t.value ≡ None) where
       -- a member's node stands before what is left after it
       pub left_steps : (xs : List (N T)) (x : N T) (ys : List (N T)) (c : t ∷ ns ≡ xs ++ x ∷ ys) (m : Member T)
           → x.value ≡ Some m → members (nodes_from x.at ns)
@@ -65,7 +65,7 @@ module _ {T : Type 0} where
       left_ends [] x ys c s =
           ap (λ (n : N T). members (nodes_from n.at ns)) (sym (cons_head t x ns ys c)) ∙ ap members from_trailer
       left_ends (z ∷ xs) x ys c s =
-          let here = (all_right (IsHeld ps) xs (x ∷ ys) (subst (AllByRecursion (IsHeld ps))
+          let here = (all_right (HoldsMember ps) xs (x ∷ ys) (subst (AllByRecursion (HoldsMember ps))
           (cons_tail t z ns (xs ++ x ∷ ys) c) held)).0 in
           let both : Some here.0.tag ≡ None = sym (stop-some x here.0 here.1) ∙ s in cc
 
@@ -93,7 +93,7 @@ module _ {T : Type 0} where
           → members (nodes_from (step_after t ns xs x ys c).0.at ns) ≡ vs
       left_after [] vs e [] x ys c s = ap members (from_next [] x ys c) ∙ ap members (sym (cons_tail t x ns ys c)) ∙ e
       left_after [] vs e (z ∷ xs) x ys c s =
-          let here = (all_right (IsHeld ps) xs (x ∷ ys) (subst (AllByRecursion (IsHeld ps))
+          let here = (all_right (HoldsMember ps) xs (x ∷ ys) (subst (AllByRecursion (HoldsMember ps))
           (cons_tail t z ns (xs ++ x ∷ ys) c) held)).0 in
           let both : Some here.0.tag ≡ None = sym (stop-some x here.0 here.1) ∙ s in cc
       left_after (u ∷ us) vs e xs x ys c s =

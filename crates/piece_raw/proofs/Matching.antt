@@ -10,7 +10,7 @@ use Rattle.piece_raw.specs.declared.block.Block.{Block}
 use Rattle.piece_raw.specs.declared.nodes.Member.{Member}
 use Rattle.piece_raw.specs.Linked.{Linked, same_ptr, last_from, places, round, IsApart, HasNext, HasPrev}
 use Rattle.piece_raw.specs.Ring.{tags, stops, Follows, last_tag}
-use Rattle.piece_raw.specs.Tied.{Held, item_of, members, stop_of, IsAmong, IsStop, IsHeld, Matches, spots}
+use Rattle.piece_raw.specs.Tied.{Held, item_of, members, stop_of, IsNodeAmong, IsStop, HoldsMember, Matches, spots}
 use Rattle.piece_raw.proofs.Splits.{cons_head, cons_tail, nil_ne_split, last_from-push, split_last, all_left}
 use Rattle.piece_raw.proofs.Splits.{all_right, all_both, distinct_differs}
 use Rattle.piece_raw.proofs.Apart.{same_ptr_refl, same_ptr_symm, same_node}
@@ -46,7 +46,7 @@ N T = Linked (Held T)
 
 module _ {T : Type 0} where
   abbrev AllHeld : List Ptr → List (N T) → Type 0
-  AllHeld ps = AllByRecursion (IsHeld ps)
+  AllHeld ps = AllByRecursion (HoldsMember ps)
 
   pub members-append : (xs ys : List (N T)) → members (xs ++ ys) ≡ members xs ++ members ys
   members-append [] ys = refl
@@ -64,8 +64,8 @@ module _ {T : Type 0} where
   stop-none t e = ap (option_map (λ (n : Member T). n.tag)) e
 
   held_at : (ps : List Ptr) (ns xs : List (N T)) (x : N T) (ys : List (N T)) → AllHeld ps ns →
-      ns ≡ xs ++ x ∷ ys → IsHeld ps x
-  held_at ps ns xs x ys h c = (all_right (IsHeld ps) xs (x ∷ ys) (subst (AllHeld ps) c h)).0
+      ns ≡ xs ++ x ∷ ys → HoldsMember ps x
+  held_at ps ns xs x ys h c = (all_right (HoldsMember ps) xs (x ∷ ys) (subst (AllHeld ps) c h)).0
 
   module _ (ps : List Ptr) where
     stops-members : (ns : List (N T)) → AllHeld ps ns → map Some (tags (members ns)) ≡ map stop_of ns
@@ -125,7 +125,7 @@ module _ {T : Type 0} where
 
   -- the node after x, around the ring
   unfoldable pub step_after : (t : N T) (ns xs : List (N T)) (x : N T) (ys : List (N T)) → t ∷ ns ≡ xs ++ x ∷ ys →
-      (y : N T) × (zs : List (N T)) × (t ∷ (ns ++ t ∷ []) ≡ xs ++ x ∷ y ∷ zs) × IsAmong (t ∷ ns) y
+      (y : N T) × (zs : List (N T)) × (t ∷ (ns ++ t ∷ []) ≡ xs ++ x ∷ y ∷ zs) × IsNodeAmong (t ∷ ns) y
   step_after t ns xs x [] c = (
     t,
     [],
@@ -144,7 +144,7 @@ module _ {T : Type 0} where
   -- the node before x
   step_before : (t : N T) (ns xs : List (N T)) (x : N T) (ys : List (N T)) → t ∷ ns ≡ xs ++ x ∷ ys →
       (y : N T) × (us : List (N T)) × (vs : List (N T)) × (t ∷ (ns ++ t ∷ []) ≡ us ++ y ∷ x ∷ vs)
-      × IsAmong (t ∷ ns) y
+      × IsNodeAmong (t ∷ ns) y
   step_before t ns [] x ys c =
       let last = split_last t ns in let y = last_from t ns in (
         y,
@@ -185,7 +185,7 @@ module _ {T : Type 0} where
 
   -- the node after that of a stop, of which it is the next one
   pub next_stop : (t : N T) (ns : List (N T)) (stop : Option ℕ) (s : IsStop (t ∷ ns) stop) (p : Ptr) → p ≡ s.0.at →
-      (y : N T) × HasNext (round t ns) p y.at × IsAmong (t ∷ ns) y
+      (y : N T) × HasNext (round t ns) p y.at × IsNodeAmong (t ∷ ns) y
       × ((ps : List Ptr) → t.value ≡ None → AllHeld ps ns → Follows (members ns) stop (stop_of y))
   next_stop t ns stop (x, among, is) p at =
       let step = step_after t ns among.0 x among.1 among.2 in (
@@ -198,7 +198,7 @@ module _ {T : Type 0} where
 
   -- the node before that of a stop, of which it is the one before
   pub prev_stop : (t : N T) (ns : List (N T)) (stop : Option ℕ) (s : IsStop (t ∷ ns) stop) (p : Ptr) → p ≡ s.0.at →
-      (y : N T) × HasPrev (round t ns) p y.at × IsAmong (t ∷ ns) y
+      (y : N T) × HasPrev (round t ns) p y.at × IsNodeAmong (t ∷ ns) y
       × ((ps : List Ptr) → t.value ≡ None → AllHeld ps ns → Follows (members ns) (stop_of y) stop)
   prev_stop t ns stop (x, among, is) p at =
       let step = step_before t ns among.0 x among.1 among.2 in (
@@ -271,7 +271,7 @@ module _ {T : Type 0} where
       )
 
   pub among-with : (xs : List (N T)) (n : N T) (ys us : List (N T)) (x : N T) (vs : List (N T)) →
-      xs ++ ys ≡ us ++ x ∷ vs → IsAmong (xs ++ n ∷ ys) x
+      xs ++ ys ≡ us ++ x ∷ vs → IsNodeAmong (xs ++ n ∷ ys) x
   among-with [] n ys us x vs e = (n ∷ us, vs, ap (λ l. n ∷ l) e)
   among-with (z ∷ xs) n ys [] x vs e = (
     [],
@@ -283,7 +283,7 @@ module _ {T : Type 0} where
       (us ++ x ∷ vs) e) in (z ∷ on.0, on.1, ap (λ l. z ∷ l) on.2)
 
   pub among-without : (xs : List (N T)) (n : N T) (ys us : List (N T)) (x : N T) (vs : List (N T)) →
-      xs ++ n ∷ ys ≡ us ++ x ∷ vs → (n ≡ x) ⊎ IsAmong (xs ++ ys) x
+      xs ++ n ∷ ys ≡ us ++ x ∷ vs → (n ≡ x) ⊎ IsNodeAmong (xs ++ ys) x
   among-without [] n ys [] x vs e = inl (cons_head n x ys vs e)
   among-without [] n ys (u ∷ us) x vs e = inr (us, vs, cons_tail n u ys (us ++ x ∷ vs) e)
   among-without (z ∷ xs) n ys [] x vs e = inr (
@@ -313,7 +313,7 @@ module _ {T : Type 0} where
   pub Matches-pushed : (ps : List Ptr) (ns xs ys : List (N T)) (n : N T) (m : Member T) → Matches ps ns →
       ns ≡ xs ++ ys → n.value ≡ Some m → m.tag ≡ length ps → Matches (ps ++ n.at ∷ []) (xs ++ n ∷ ys)
   Matches-pushed ps ns xs ys n m old c is at =
-      let P = IsHeld (ps ++ n.at ∷ []) in
+      let P = HoldsMember (ps ++ n.at ∷ []) in
       let more : AllByRecursion P (xs ++ ys) = subst (AllByRecursion P) c (held-more ps n.at ns old.held) in
       let here : P n = (m, is, ap (slice_get (ps ++ n.at ∷ [])) at ∙ slice_get-cut ps n.at []) in
       let count = old.counted in
@@ -358,7 +358,7 @@ module _ {T : Type 0} where
       IsApart (places ns) → Matches (ps ++ p ∷ []) ns → ns ≡ xs ++ x ∷ ys → x.at ≡ p →
       stop_of x ≡ Some (length ps) → Matches ps (xs ++ ys)
   Matches-popped ps p ns xs x ys d old c at s =
-      let P = IsHeld (ps ++ p ∷ []) in
+      let P = HoldsMember (ps ++ p ∷ []) in
       let all = subst (AllByRecursion P) c old.held in
       let others : AllByRecursion (λ (z : N T). same_ptr p z.at ≡ false) (xs ++ ys) =
       subst (λ q. AllByRecursion (λ (z : N T). same_ptr q z.at ≡ false) (xs ++ ys))

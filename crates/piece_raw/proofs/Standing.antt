@@ -5,7 +5,7 @@ use Rattle.std.specs.List.{AllByRecursion}
 use Rattle.piece_raw.specs.declared.nodes.Member.{Member}
 use Rattle.piece_raw.specs.declared.nodes.Nodes.{Nodes}
 use Rattle.piece_raw.specs.Ring.{IsMember, HasTag}
-use Rattle.piece_raw.specs.Tied.{members, spots, stop_of, IsAmong, IsStop, IsHeld, IsTied, all_nodes}
+use Rattle.piece_raw.specs.Tied.{members, spots, stop_of, IsNodeAmong, IsStop, HoldsMember, IsTied, all_nodes}
 use Rattle.piece_raw.proofs.Splits.{cons_head, cons_tail, all_right}
 use Rattle.piece_raw.proofs.Matching.{N, members-append, members-cons, stop-some, split_members}
 
@@ -21,7 +21,7 @@ module _ {T : Type 0} (n : Nodes T) (tag : ℕ) where
     pub tagged : member.tag ≡ tag
 
   module _ (on : Standing) where
-    pub among : IsAmong (all_nodes n) on.node
+    pub among : IsNodeAmong (all_nodes n) on.node
     among = (n.links.trailer ∷ on.before, on.after, ap (λ ns. n.links.trailer ∷ ns) on.cut)
 
     pub stops : stop_of on.node ≡ Some tag
@@ -57,8 +57,8 @@ module _ {T : Type 0} (n : Nodes T) (tied : IsTied n) where
       let at = sym (ap (option_map (λ (m : Member T). m.tag)) tied.trailer_empty) ∙ ap stop_of same ∙ s in cc
   stands tag (z ∷ xs) x ys c s =
       let ps = spots n.table.items in let rest = cons_tail n.links.trailer z n.links.nodes (xs ++ x ∷ ys) c in
-      let here = (all_right (IsHeld ps) xs (x ∷ ys)
-      (subst (AllByRecursion (IsHeld ps)) rest tied.matches.held)).0 in
+      let here = (all_right (HoldsMember ps) xs (x ∷ ys)
+      (subst (AllByRecursion (HoldsMember ps)) rest tied.matches.held)).0 in
       let both : Some here.0.tag ≡ Some tag = sym (stop-some x here.0 here.1) ∙ s in
       let same : here.0.tag ≡ tag = cc in
       record { before = xs; node = x; after = ys; member = here.0; cut = rest; held = here.1; tagged = same }

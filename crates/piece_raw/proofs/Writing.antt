@@ -10,7 +10,7 @@ use denote.RawPtr.{Ptr}
 use Rattle.piece_raw.specs.declared.nodes.Member.{Member}
 use Rattle.piece_raw.specs.Linked.{linked, same_ptr, places, IsApart, set_value}
 use Rattle.piece_raw.specs.Ring.{tags, AreTags, with_value}
-use Rattle.piece_raw.specs.Tied.{Held, members, stop_of, IsAmong, IsStop, IsHeld, Matches}
+use Rattle.piece_raw.specs.Tied.{Held, members, stop_of, IsNodeAmong, IsStop, HoldsMember, Matches}
 use Rattle.piece_raw.proofs.Splits.{all_left, all_right, all_both, distinct_differs}
 use Rattle.piece_raw.proofs.Apart.{same_ptr_refl, set_value-cut}
 use Rattle.piece_raw.proofs.Matching.{N, members-append, members-cons, among-with, among-without, stop-some}
@@ -27,7 +27,7 @@ true_self a = elim (a == a) as (λ y. (a == a) ≡ y → (a == a) ≡ true)
 
 module _ {T : Type 0} where
   tags-differ : (ps : List Ptr) (x : N T) (m : Member T) → slice_get ps m.tag ≡ Some x.at →
-      (ns : List (N T)) → AllByRecursion (IsHeld ps) ns →
+      (ns : List (N T)) → AllByRecursion (HoldsMember ps) ns →
       AllByRecursion (λ q. same_ptr x.at q ≡ false) (places ns)
       → AllByRecursion (λ k. (m.tag == k) ≡ false) (tags (members ns))
   tags-differ ps x m at [] h d = tt
@@ -43,7 +43,7 @@ module _ {T : Type 0} where
       subst (λ (l : List (ℕ × T)). AllByRecursion (λ k. (m.tag == k) ≡ false) (tags l))
       (sym (members-cons y n ns h.0.1)) (here, tags-differ ps x m at ns h.1 d.1)
 
-  tags-distinct : (ps : List Ptr) (ns : List (N T)) → AllByRecursion (IsHeld ps) ns → IsApart (places ns) →
+  tags-distinct : (ps : List Ptr) (ns : List (N T)) → AllByRecursion (HoldsMember ps) ns → IsApart (places ns) →
       IsDistinct ◌==◌ (tags (members ns))
   unfolding IsDistinct
   tags-distinct ps [] h d = tt
@@ -52,13 +52,13 @@ module _ {T : Type 0} where
       subst (λ (l : List (ℕ × T)). IsDistinct ◌==◌ (tags l)) (sym (members-cons x m ns h.0.1))
       (tags-differ ps x m h.0.2 ns h.1 d.0, tags-distinct ps ns h.1 d.1)
 
-  length-members : (ps : List Ptr) (ns : List (N T)) → AllByRecursion (IsHeld ps) ns →
+  length-members : (ps : List Ptr) (ns : List (N T)) → AllByRecursion (HoldsMember ps) ns →
       length (members ns) ≡ length ns
   length-members ps [] h = refl
   length-members ps (x ∷ ns) h = let more = length-members ps ns h.1 in
       omega (arith, ap length (members-cons x h.0.0 ns h.0.1))
 
-  tags-below : (ps : List Ptr) (ns : List (N T)) → AllByRecursion (IsHeld ps) ns → (n : ℕ) → length ps ≡ n →
+  tags-below : (ps : List Ptr) (ns : List (N T)) → AllByRecursion (HoldsMember ps) ns → (n : ℕ) → length ps ≡ n →
       AllByRecursion (λ tag. tag < n) (tags (members ns))
   tags-below ps [] h n e = tt
   tags-below ps (x ∷ ns) h n e =
@@ -120,7 +120,7 @@ module _ {T : Type 0} where
             | inl e ↦ (new, (t ∷ xs, ys, ap (λ l. t ∷ l) now-cut), sym (stop-some x m is) ∙ ap stop_of e ∙ s.2)
             | inr on ↦ (
               s.0,
-              subst (λ l. IsAmong (t ∷ l) s.0) (sym now-cut) (among-with (t ∷ xs)
+              subst (λ l. IsNodeAmong (t ∷ l) s.0) (sym now-cut) (among-with (t ∷ xs)
                   new ys on.0 s.0 on.1 on.2),
               s.2,
             )
@@ -132,7 +132,7 @@ module _ {T : Type 0} where
             | inl e ↦ (new, (xs, ys, now-cut), sym (stop-some x m is) ∙ ap stop_of e ∙ s.2)
             | inr on ↦ (
               s.0,
-              subst (λ l. IsAmong l s.0) (sym now-cut)
+              subst (λ l. IsNodeAmong l s.0) (sym now-cut)
                   (among-with xs new ys on.0 s.0 on.1 on.2),
               s.2,
             )
@@ -140,7 +140,7 @@ module _ {T : Type 0} where
 
       pub Matches-kept : Matches ps now
       Matches-kept =
-          let P = IsHeld ps in let all = subst (AllByRecursion P) cut h.held in
+          let P = HoldsMember ps in let all = subst (AllByRecursion P) cut h.held in
           let here = all_right P xs (x ∷ ys) all in
           let both : Some here.0.0 ≡ Some m = sym here.0.1 ∙ is in let same : here.0.0 ≡ m = cc in
           let put : P new = (

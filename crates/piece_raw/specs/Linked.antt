@@ -57,12 +57,12 @@ module _ {V : Type 0} where
       n.at ≡ p → P xs n ys
 
   -- the nodes are xs, of which the last (the trailer, where there is none) lies at p, and then ys
-  abbrev pub IsSplit : Linked V → List (Linked V) → Ptr → List (Linked V) → List (Linked V) → Type 0
-  IsSplit t ns p xs ys = (ns ≡ xs ++ ys) × (last_from t.at (places xs) ≡ p)
+  abbrev pub IsSplitAfter : Linked V → List (Linked V) → Ptr → List (Linked V) → List (Linked V) → Type 0
+  IsSplitAfter t ns p xs ys = (ns ≡ xs ++ ys) × (last_from t.at (places xs) ≡ p)
 
   -- the trailer or a node lies at p
   abbrev pub IsOn : Linked V → List (Linked V) → Ptr → Type 0
-  IsOn t ns p = (xs : List (Linked V)) × (ys : List (Linked V)) × IsSplit t ns p xs ys
+  IsOn t ns p = (xs : List (Linked V)) × (ys : List (Linked V)) × IsSplitAfter t ns p xs ys
 
   -- the nodes, with w as the value of the one at p
   unfoldable pub set_value : Ptr → V → List (Linked V) → List (Linked V)

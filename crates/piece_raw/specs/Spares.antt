@@ -14,5 +14,5 @@ module _ {T : Type 0} where
   IsSpare s = (s.block.node.ptr ≡ s.room.ptr) × IsBlock s.block
 
   -- how many pushes take no memory: there is a node for each, a place in the table, and a tag
-  abbrev pub room_of : Vec (Block (Option (Member T)) Global) Global → Vec (Spare T) Global → ℕ
-  room_of table spare = min (min (vec_capacity table) MAX_TAGS - vec_len table) (vec_len spare)
+  abbrev pub ring_room : Vec (Block (Option (Member T)) Global) Global → Vec (Spare T) Global → ℕ
+  ring_room table spare = min (min (vec_capacity table) MAX_TAGS - vec_len table) (vec_len spare)

@@ -33,20 +33,20 @@ module _ {T : Type 0} where
   stop_of n = option_map (λ m. m.tag) n.value
 
   -- x is one of ns
-  abbrev pub IsAmong : List (Linked (Held T)) → Linked (Held T) → Type 0
-  IsAmong ns x = (xs : List (Linked (Held T))) × (ys : List (Linked (Held T))) × (ns ≡ xs ++ x ∷ ys)
+  abbrev pub IsNodeAmong : List (Linked (Held T)) → Linked (Held T) → Type 0
+  IsNodeAmong ns x = (xs : List (Linked (Held T))) × (ys : List (Linked (Held T))) × (ns ≡ xs ++ x ∷ ys)
 
   -- a cursor can stand there
   abbrev pub IsStop : List (Linked (Held T)) → Option ℕ → Type 0
-  IsStop ns stop = (x : Linked (Held T)) × IsAmong ns x × (stop_of x ≡ stop)
+  IsStop ns stop = (x : Linked (Held T)) × IsNodeAmong ns x × (stop_of x ≡ stop)
 
   -- where the nodes of a table lie
   abbrev pub spots : {A : Type 0} → List (Block (Held T) A) → List Ptr
   spots = map (λ b. b.node.ptr)
 
   -- the node has a member, whose tag is its place in the table
-  abbrev pub IsHeld : List Ptr → Linked (Held T) → Type 0
-  IsHeld ps n = (m : Member T) × (n.value ≡ Some m) × (slice_get ps m.tag ≡ Some n.at)
+  abbrev pub HoldsMember : List Ptr → Linked (Held T) → Type 0
+  HoldsMember ps n = (m : Member T) × (n.value ≡ Some m) × (slice_get ps m.tag ≡ Some n.at)
 
   -- the block is of the node that it names
   abbrev pub IsBlock : {A : Type 0} → Block (Held T) A → Type 0
@@ -54,7 +54,7 @@ module _ {T : Type 0} where
 
   -- each node has its place in the table, and each place its node
   pub record Matches (ps : List Ptr) (ns : List (Linked (Held T))) : Type 0 where
-    pub held : AllByRecursion (IsHeld ps) ns
+    pub held : AllByRecursion (HoldsMember ps) ns
     pub full : (k : ℕ) → k < length ps → IsStop ns (Some k)
     pub counted : length ns ≡ length ps
 

@@ -5,7 +5,7 @@ ghost use Rattle.std.specs.Borrow.{sem};
 ghost use Rattle.std.specs.Coded.{prop_coded};
 ghost use denote.RawPtr.{Ptr};
 ghost use Rattle.piece_raw.specs.Linked.{Linked, linked, places, round, IsApart, IsApart-prop};
-ghost use Rattle.piece_raw.specs.Linked.{IsAt, AtNode, IsSplit, IsOn, HasNext, HasPrev};
+ghost use Rattle.piece_raw.specs.Linked.{IsAt, AtNode, IsSplitAfter, IsOn, HasNext, HasPrev};
 ghost use Rattle.piece_raw.specs.Ownership.{links_own, links_lent};
 
 use crate::block::{Detached, Node, NodePtr};
@@ -54,7 +54,7 @@ impl<V> Links<V> {
         requires { IsOn self.old.trailer self.old.nodes at.ptr }
         ensures trailer { self.new.trailer ≡ self.old.trailer }
         ensures nodes { (xs : Seq (Linked V)) × (ys : Seq (Linked V))
-            × IsSplit self.old.trailer self.old.nodes at.ptr xs ys
+            × IsSplitAfter self.old.trailer self.old.nodes at.ptr xs ys
             × (self.new.nodes ≡ xs ++ linked node.ptr node.value ∷ ys) }
     {
         let at = at.ptr;

@@ -19,14 +19,14 @@ pub struct Members<'a, T> {
 impl<'a, T> Model for Members<'a, T> {
     ghost use Rattle.std.specs.Prelude.{◌≡◌, ℕ, List};
     ghost use Rattle.piece_raw.specs.Linked.{Linked};
-    ghost use Rattle.piece_raw.specs.Tied.{Held, members, nodes_from, IsTied, IsAmong, all_nodes};
+    ghost use Rattle.piece_raw.specs.Tied.{Held, members, nodes_from, IsTied, IsNodeAmong, all_nodes};
 
     ghost Value = { List (ℕ × T) };
 
     ghost view = { λ m. members (nodes_from m.at.ptr m.nodes.now.links.nodes) };
 
     ghost invariant = { λ m. IsTied m.nodes.now
-        × ((x : Linked (Held T)) × IsAmong (all_nodes m.nodes.now) x × (x.at ≡ m.at.ptr)) };
+        × ((x : Linked (Held T)) × IsNodeAmong (all_nodes m.nodes.now) x × (x.at ≡ m.at.ptr)) };
 }
 
 impl<'a, T> Iterator for Members<'a, T> {

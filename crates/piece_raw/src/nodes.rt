@@ -3,7 +3,7 @@
 ghost use Rattle.std.specs.Prelude.{◌≡◌, ◌+◌, ◌<◌, [], ◌∷◌, Some as Just, IfOk, vec_len, vec_capacity};
 ghost use Rattle.piece_raw.specs.Linked.{Linked};
 ghost use Rattle.piece_raw.specs.Ring.{Follows, IsMember, HasTag, IsPushed};
-ghost use Rattle.piece_raw.specs.Tied.{Held, members, stop_of, IsAmong, IsStop, IsBlock, IsTied, all_nodes};
+ghost use Rattle.piece_raw.specs.Tied.{Held, members, stop_of, IsNodeAmong, IsStop, IsBlock, IsTied, all_nodes};
 
 use crate::block::{Block, NodePtr, Room, allocate, deallocate};
 use crate::links::Links;
@@ -39,7 +39,7 @@ impl<T> Nodes<T> {
     // Where the trailer, or the member of a tag, lies.
     pub(crate) fn find(&self, stop: Option<u64>) -> NodePtr<Option<Member<T>>>
         requires { IsTied self.now × IsStop (all_nodes self.now) stop }
-        ensures { (x : Linked (Held T)) → IsAmong (all_nodes self.now) x → stop_of x ≡ stop
+        ensures { (x : Linked (Held T)) → IsNodeAmong (all_nodes self.now) x → stop_of x ≡ stop
             → result.ptr ≡ x.at }
     {
         match stop {
@@ -50,8 +50,8 @@ impl<T> Nodes<T> {
 
     // The tag of the node's member; `None` for the trailer.
     fn stop_at(&self, node: NodePtr<Option<Member<T>>>) -> Option<u64>
-        requires { (x : Linked (Held T)) × IsAmong (all_nodes self.now) x × (x.at ≡ node.ptr) }
-        ensures { (x : Linked (Held T)) → IsAmong (all_nodes self.now) x → x.at ≡ node.ptr
+        requires { (x : Linked (Held T)) × IsNodeAmong (all_nodes self.now) x × (x.at ≡ node.ptr) }
+        ensures { (x : Linked (Held T)) → IsNodeAmong (all_nodes self.now) x → x.at ≡ node.ptr
             → result ≡ stop_of x }
     {
         match self.links.value(node) {

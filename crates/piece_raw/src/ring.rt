@@ -33,9 +33,9 @@ impl<T> Model for Ring<T> {
     ghost coded = { ring_code T.code };
 
     ghost use Rattle.piece_raw.specs.Tied.{members, IsTied, IsStop, all_nodes};
-    ghost use Rattle.piece_raw.specs.Spares.{IsSpare, room_of};
+    ghost use Rattle.piece_raw.specs.Spares.{IsSpare, ring_room};
 
-    ghost view = { λ r. ring (members r.nodes.links.nodes) r.cursor (room_of r.nodes.table r.spare) };
+    ghost view = { λ r. ring (members r.nodes.links.nodes) r.cursor (ring_room r.nodes.table r.spare) };
 
     ghost invariant = { λ r. IsTied r.nodes × IsStop (all_nodes r.nodes) r.cursor
         × AllByRecursion IsSpare r.spare.items };

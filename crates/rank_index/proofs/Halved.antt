@@ -6,8 +6,8 @@ use Rattle.std.proofs.lemmas.List.Elements.{All-cons, All-nil, All-head, All-tai
 use Rattle.std.proofs.lemmas.Option.{same_Some, slice_get_within}
 use Rattle.piece_raw.specs.Ring.{HasTag, AreTags}
 use Rattle.rank_index.specs.declared.chunk.TheConstants.{MOST, HALF}
-use Rattle.rank_index.specs.Chunks.{ChunkSeen, members_of, AreEntered, AreHomes, AreHalfFull, AreTied, IsHalved}
-use Rattle.rank_index.specs.Chunks.{IsSlotOf, HasRoom}
+use Rattle.rank_index.specs.Chunks.{ChunkSeen, members_of, AreEnteredUnder, AreHomes, AreHalfFull, AreTied, IsHalved}
+use Rattle.rank_index.specs.Chunks.{IsSlotOf, HasRoomInChunk}
 use Rattle.rank_index.proofs.Homes.{homes_kept}
 use Rattle.std.specs.List.{insert}
 use Rattle.std.proofs.Math.ListN.{set}
@@ -79,12 +79,12 @@ module _ (earlier : List ChunkSeen) (whole front rest : ChunkSeen) (later : List
         ∙ sym (members_of-seam earlier whole later)
 
     homes_halved : (before after : List ℕ) → AreApart (members_of old) → AreHomes before old
-        → front.home ≡ whole.home → AreEntered after rest.home rest.members
+        → front.home ≡ whole.home → AreEnteredUnder after rest.home rest.members
         → ((tag : ℕ) → (HasTag rest.members tag → ⊥) → slice_get after tag ≡ slice_get before tag)
         → AreHomes after new
     homes_halved before after apart are same entered others =
-        let P : ChunkSeen → Type 0 = λ (c : ChunkSeen). AreEntered before c.home c.members in
-        let Q : ChunkSeen → Type 0 = λ (c : ChunkSeen). AreEntered after c.home c.members in
+        let P : ChunkSeen → Type 0 = λ (c : ChunkSeen). AreEnteredUnder before c.home c.members in
+        let Q : ChunkSeen → Type 0 = λ (c : ChunkSeen). AreEnteredUnder after c.home c.members in
         let in_whole : (tag : ℕ) → HasTag rest.members tag → HasTag whole.members tag =
         λ (tag : ℕ) (h : HasTag rest.members tag).
         subst (λ (l : Members). HasTag l tag) (sym parts) (HasTag-right front.members rest.members tag h) in
@@ -119,7 +119,7 @@ module _ (earlier : List ChunkSeen) (whole front rest : ChunkSeen) (later : List
 
     tied_halved : (before after : List ℕ) → AreTied before old → length after ≡ length before
         → front.home ≡ whole.home → (length front.members ≡ HALF) × (length rest.members ≡ HALF)
-        → AreEntered after rest.home rest.members
+        → AreEnteredUnder after rest.home rest.members
         → ((tag : ℕ) → (HasTag rest.members tag → ⊥) → slice_get after tag ≡ slice_get before tag)
         → AreTied after new
     tied_halved before after tied same_length same halves entered others = record {
@@ -160,10 +160,10 @@ module _ (at : ℕ) (was now : List ChunkSeen) (halved : IsHalved at was now) wh
       subst (λ (l : List ChunkSeen). slice_get l (at + 1) ≡ Some halved.rest) (sym is)
       (ap (slice_get (longer ++ halved.rest ∷ halved.after)) next ∙ get-seam longer halved.rest halved.after)
 
-  pub room_at_front : HasRoom now at
+  pub room_at_front : HasRoomInChunk now at
   room_at_front = (halved.front, at_front, omega (arith, halved.halves.0))
 
-  pub room_at_rest : HasRoom now (at + 1)
+  pub room_at_rest : HasRoomInChunk now (at + 1)
   room_at_rest = (halved.rest, at_rest, omega (arith, halved.halves.1))
 
   in_a_half : (tag : ℕ) → IsSlotOf was at tag → HasTag halved.front.members tag ⊎ HasTag halved.rest.members tag
@@ -224,7 +224,7 @@ module _ (chunks : List ChunkSeen) (at : ℕ) (whole front rest : ChunkSeen) (lt
         }
 
     pub tied_here : (before after : List ℕ) → AreTied before chunks → length after ≡ length before
-        → front.home ≡ whole.home → AreEntered after rest.home rest.members
+        → front.home ≡ whole.home → AreEnteredUnder after rest.home rest.members
         → ((tag : ℕ) → (HasTag rest.members tag → ⊥) → slice_get after tag ≡ slice_get before tag)
         → AreTied after made
     tied_here before after tied same_length same entered others =

@@ -7,7 +7,7 @@ use Rattle.std.proofs.lemmas.List.{take_more}
 use Rattle.std.proofs.lemmas.List.Elements.{All-weaker, All-cons, All-nil, All-head, All-tail}
 use Rattle.std.proofs.lemmas.Option.{slice_get_within, slice_get-get_or, get_or_from_slice_get}
 use Rattle.piece_raw.specs.Ring.{HasTag, IsPushed}
-use Rattle.rank_index.specs.Chunks.{ChunkSeen, members_of, AreEntered, AreHomes}
+use Rattle.rank_index.specs.Chunks.{ChunkSeen, members_of, AreEnteredUnder, AreHomes}
 use Rattle.rank_index.proofs.Pieces.{all_parts, all_whole, all_at, get-left, get-seam, cut_read}
 use Rattle.rank_index.proofs.Stretches.{chunk_with}
 use Rattle.rank_index.proofs.Tagged.{Members, HasTag-append, HasTag-cons, HasTag-left, HasTag-right, HasTag-nil}
@@ -29,7 +29,7 @@ module _ {X : Type 0} where
 pub home_at : (homes : List ℕ) (chunks : List ChunkSeen) (slot : ℕ) (c : ChunkSeen) (tag : ℕ) → AreHomes homes chunks
     → slice_get chunks slot ≡ Some c → HasTag c.members tag → slice_get homes tag ≡ Some c.home
 home_at homes chunks slot c tag are at has =
-    all_at (λ (d : ChunkSeen). AreEntered homes d.home d.members) chunks slot c are at tag has
+    all_at (λ (d : ChunkSeen). AreEnteredUnder homes d.home d.members) chunks slot c are at tag has
 
 pub tag_within : (homes : List ℕ) (chunks : List ChunkSeen) (tag : ℕ) → AreHomes homes chunks
     → HasTag (members_of chunks) tag → tag < length homes
@@ -44,8 +44,8 @@ module _ (homes : List ℕ) (home : ℕ) (members : Members) (k : ℕ) (m : ℕ 
     more : take (k + 1) members ≡ take k members ++ m ∷ []
     more = take_more members k m lt ∙ ap (λ (n : ℕ × ℕ). take k members ++ n ∷ []) (sym is)
 
-    pub entered_more : m.0 < length homes → AreEntered homes home (take k members)
-        → AreEntered (set homes m.0 home) home (take (k + 1) members)
+    pub entered_more : m.0 < length homes → AreEnteredUnder homes home (take k members)
+        → AreEnteredUnder (set homes m.0 home) home (take (k + 1) members)
     entered_more within before tag has =
         let cases : HasTag (take k members) tag ⊎ HasTag (m ∷ []) tag =
         HasTag-append (take k members) (m ∷ []) tag (subst (λ (l : Members). HasTag l tag) more has) in
@@ -91,8 +91,8 @@ pub homes_pushed : (homes : List ℕ) (earlier : List ChunkSeen) (c d : ChunkSee
     (after : Option ℕ) (tag w : ℕ) → AreHomes homes (earlier ++ c ∷ later) → d.home ≡ c.home → tag ≡ length homes
     → IsPushed c.members after tag w d.members → AreHomes (homes ++ d.home ∷ []) (earlier ++ d ∷ later)
 homes_pushed homes earlier c d later after tag w are same next (xs, ys, was, last, is) =
-    let P : ChunkSeen → Type 0 = λ (e : ChunkSeen). AreEntered homes e.home e.members in
-    let Q : ChunkSeen → Type 0 = λ (e : ChunkSeen). AreEntered (homes ++ d.home ∷ []) e.home e.members in
+    let P : ChunkSeen → Type 0 = λ (e : ChunkSeen). AreEnteredUnder homes e.home e.members in
+    let Q : ChunkSeen → Type 0 = λ (e : ChunkSeen). AreEnteredUnder (homes ++ d.home ∷ []) e.home e.members in
     let (left, here, right) = all_parts P earlier c later are in
     let kept : (e : ChunkSeen) → P e → Q e =
     λ (e : ChunkSeen) (p : P e) (t : ℕ) (has : HasTag e.members t).
@@ -119,10 +119,10 @@ pub homes_kept : (old new : List ℕ) (others : Members)
     → ((tag : ℕ) → (HasTag others tag → ⊥) → slice_get new tag ≡ slice_get old tag)
     → (chunks : List ChunkSeen) → ((tag : ℕ) → HasTag others tag → HasTag (members_of chunks) tag → ⊥)
     → AreHomes old chunks → AreHomes new chunks
-homes_kept old new others same [] apart are = All-nil (λ (e : ChunkSeen). AreEntered new e.home e.members)
+homes_kept old new others same [] apart are = All-nil (λ (e : ChunkSeen). AreEnteredUnder new e.home e.members)
 homes_kept old new others same (c ∷ chunks) apart are =
-    let P : ChunkSeen → Type 0 = λ (e : ChunkSeen). AreEntered old e.home e.members in
-    let Q : ChunkSeen → Type 0 = λ (e : ChunkSeen). AreEntered new e.home e.members in
+    let P : ChunkSeen → Type 0 = λ (e : ChunkSeen). AreEnteredUnder old e.home e.members in
+    let Q : ChunkSeen → Type 0 = λ (e : ChunkSeen). AreEnteredUnder new e.home e.members in
     let here : Q c = λ (tag : ℕ) (has : HasTag c.members tag).
     same tag (λ (h : HasTag others tag). apart tag h (HasTag-left c.members (members_of chunks) tag has))
     ∙ All-head P c chunks are tag has in

@@ -7,7 +7,7 @@ use Rattle.std.proofs.Math.ListN.{set}
 use Rattle.std.proofs.lemmas.List.Elements.{All-cons, All-nil}
 use Rattle.piece_raw.specs.Ring.{HasTag, AreTags, IsPushed, last_tag}
 use Rattle.rank_index.specs.declared.chunk.TheConstants.{HALF}
-use Rattle.rank_index.specs.Chunks.{ChunkSeen, members_of, AreEntered, AreHalfFull, AreTied}
+use Rattle.rank_index.specs.Chunks.{ChunkSeen, members_of, AreEnteredUnder, AreHalfFull, AreTied}
 use Rattle.rank_index.specs.Chunks.{IsSlotAfter}
 use Rattle.rank_index.specs.Ranked.{weight_of}
 use Rattle.rank_index.proofs.ChunkRank.{weight_of-append, weight_of-cut}
@@ -21,7 +21,7 @@ pub tied_empty : (c : ChunkSeen) → c.members ≡ [] → AreTied [] (c ∷ [])
 unfolding IsDistinct
 tied_empty c e =
     let none : members_of (c ∷ []) ≡ [] = ap (λ (l : Members). l ++ []) e in
-    let P : ChunkSeen → Type 0 = λ (d : ChunkSeen). AreEntered [] d.home d.members in
+    let P : ChunkSeen → Type 0 = λ (d : ChunkSeen). AreEnteredUnder [] d.home d.members in
     let no_tags : AreTags {T = ℕ} [] = (tt, tt) in
     record {
       tags = subst AreTags (sym none) no_tags;

@@ -7,8 +7,8 @@ use Rattle.std.proofs.lemmas.List.{take-append-drop, drop_at, drop_more, take_mo
 use Rattle.std.proofs.lemmas.List.Elements.{All-append, All-cons, All-head, All-nil, All-tail}
 use Rattle.std.proofs.lemmas.Option.{slice_get_within, get_or_from_slice_get}
 use Rattle.piece_raw.specs.Ring.{HasTag, IsPushed, with_value}
-use Rattle.rank_index.specs.Chunks.{ChunkSeen, members_of, AreEntered, AreHomes}
-use Rattle.rank_index.specs.Keyed.{key_in, least_of, AreLeast, AreAbove, BeginAtMost, last_from, IsPassed, IsPassedIn}
+use Rattle.rank_index.specs.Chunks.{ChunkSeen, members_of, AreEnteredUnder, AreHomes}
+use Rattle.rank_index.specs.Keyed.{key_in, least_of, AreLeast, AreAbove, BeginAtMost, last_tag_from, IsPassed, IsPassedIn}
 use Rattle.rank_index.proofs.Pieces.{all_parts, all_whole, cut_read, get-seam, insert-after, seam_at}
 use Rattle.rank_index.proofs.Tagged.{Members, HasTag-first, HasTag-right}
 use Rattle.rank_index.proofs.Weights.{placed}
@@ -63,7 +63,7 @@ least_kept keys key (m ∷ xs) below =
     (λ i. min (here i) (rest i))
 
 module _ (homes keys : List ℕ) (key : ℕ) (same : length keys ≡ length homes) where
-  chunk_kept : (c : ChunkSeen) → AreEntered homes c.home c.members
+  chunk_kept : (c : ChunkSeen) → AreEnteredUnder homes c.home c.members
       → least_of (keys ++ key ∷ []) c.members ≡ least_of keys c.members
   chunk_kept c entered =
       least_kept keys key c.members (λ (tag : ℕ) (h : HasTag c.members tag).
@@ -73,7 +73,7 @@ module _ (homes keys : List ℕ) (key : ℕ) (same : length keys ≡ length home
       → AreLeast (keys ++ key ∷ []) chunks
   least_all_kept [] entered least = All-nil (λ (c : ChunkSeen). c.least ≡ least_of (keys ++ key ∷ []) c.members)
   least_all_kept (c ∷ chunks) entered least =
-      let E : ChunkSeen → Type 0 = λ (d : ChunkSeen). AreEntered homes d.home d.members in
+      let E : ChunkSeen → Type 0 = λ (d : ChunkSeen). AreEnteredUnder homes d.home d.members in
       let L : ChunkSeen → Type 0 = λ (d : ChunkSeen). d.least ≡ least_of keys d.members in
       All-cons (λ (d : ChunkSeen). d.least ≡ least_of (keys ++ key ∷ []) d.members) c chunks
       (All-head L c chunks least ∙ sym (chunk_kept c (All-head E c chunks entered)))
@@ -131,15 +131,15 @@ least_alone c e =
 
 -- what is passed
 
-pub last_both : (tag : ℕ) (xs ys : Members) → last_from tag (xs ++ ys) ≡ last_from (last_from tag xs) ys
+pub last_both : (tag : ℕ) (xs ys : Members) → last_tag_from tag (xs ++ ys) ≡ last_tag_from (last_tag_from tag xs) ys
 last_both tag [] ys = refl
 last_both tag (m ∷ xs) ys = last_both m.0 xs ys
 
 -- the last of the first members
 pub last_at : (tag : ℕ) (xs : Members) (i : ℕ) (d : ℕ × ℕ) → i < length xs
-    → (get_or xs i d).0 ≡ last_from tag (take (i + 1) xs)
+    → (get_or xs i d).0 ≡ last_tag_from tag (take (i + 1) xs)
 last_at tag xs i d lt =
-    sym (ap (last_from tag) (take_more xs i d lt) ∙ last_both tag (take i xs) (get_or xs i d ∷ []))
+    sym (ap (last_tag_from tag) (take_more xs i d lt) ∙ last_both tag (take i xs) (get_or xs i d ∷ []))
 
 begin_more : (keys : List ℕ) (key : ℕ) (xs more : Members) → 0 < length xs → BeginAtMost keys key xs
     → BeginAtMost keys key (xs ++ more)
@@ -169,7 +169,7 @@ passed_none keys key tag = record {
 
 -- up to one of these
 pub passed_here : (keys : List ℕ) (key : ℕ) (xs more : Members) (n tag last : ℕ) → n < length xs
-    → AreAbove keys key (take n xs) → BeginAtMost keys key (drop n xs) → last ≡ last_from tag (take n xs)
+    → AreAbove keys key (take n xs) → BeginAtMost keys key (drop n xs) → last ≡ last_tag_from tag (take n xs)
     → IsPassed keys key (xs ++ more) tag last
 passed_here keys key xs more n tag last lt above stops is = record {
   passed = take n xs;
@@ -182,14 +182,14 @@ passed_here keys key xs more n tag last lt above stops is = record {
 
 -- all of these, and on
 pub passed_on : (keys : List ℕ) (key : ℕ) (xs ys : Members) (tag mid last : ℕ) → AreAbove keys key xs
-    → mid ≡ last_from tag xs → IsPassed keys key ys mid last → IsPassed keys key (xs ++ ys) tag last
+    → mid ≡ last_tag_from tag xs → IsPassed keys key ys mid last → IsPassed keys key (xs ++ ys) tag last
 passed_on keys key xs ys tag mid last above is p = record {
   passed = xs ++ p.passed;
   rest = p.rest;
   whole = ap (λ (l : Members). xs ++ l) p.whole ∙ sym (append_assoc xs p.passed p.rest);
   above = All-append (λ (m : ℕ × ℕ). key < key_in keys m.0) xs p.passed above p.above;
   stops = p.stops;
-  last_is = p.last_is ∙ ap (λ (t : ℕ). last_from t p.passed) is ∙ sym (last_both tag xs p.passed);
+  last_is = p.last_is ∙ ap (λ (t : ℕ). last_tag_from t p.passed) is ∙ sym (last_both tag xs p.passed);
 }
 
 -- those after a slot
@@ -209,7 +209,7 @@ module _ (keys : List ℕ) (key : ℕ) (chunks : List ChunkSeen) (slot : ℕ) (c
         ap members_of (drop_more chunks slot c lt)
         ∙ ap (λ (d : ChunkSeen). d.members ++ members_of (drop (slot + 1) chunks)) (sym is)
 
-    pub chunk_passed : (tag mid last : ℕ) → AreAbove keys key c.members → mid ≡ last_from tag c.members
+    pub chunk_passed : (tag mid last : ℕ) → AreAbove keys key c.members → mid ≡ last_tag_from tag c.members
         → IsPassed keys key (members_of (drop (slot + 1) chunks)) mid last
         → IsPassed keys key (members_of (drop slot chunks)) tag last
     chunk_passed tag mid last above at p =
@@ -241,7 +241,7 @@ module _ (keys : List ℕ) (key : ℕ) (chunks : List ChunkSeen) (slot : ℕ) (c
         p (members_of (drop (slot + 1) chunks)),
       )
 
-      pub passed_in_all : (mid last : ℕ) → AreAbove keys key follow → mid ≡ last_from tag follow
+      pub passed_in_all : (mid last : ℕ) → AreAbove keys key follow → mid ≡ last_tag_from tag follow
           → IsPassed keys key (members_of (drop (slot + 1) chunks)) mid last
           → IsPassedIn keys key (members_of chunks) tag last
       passed_in_all mid last above at p = (

@@ -10,7 +10,7 @@ use Rattle.rank_index.specs.declared.chunk.TheConstants.{HALF}
 use Rattle.rank_index.specs.declared.groups.TheConstants.{GROUP}
 use Rattle.rank_index.specs.Chunks.{ChunkSeen, members_of, AreHalfFull}
 use Rattle.rank_index.specs.Groups.{AreLows, AreLowsSoFar, least_among}
-use Rattle.rank_index.specs.Keyed.{AreAbove, AreLeast, IsPassed, key_in, last_from, least_of}
+use Rattle.rank_index.specs.Keyed.{AreAbove, AreLeast, IsPassed, key_in, last_tag_from, least_of}
 use Rattle.rank_index.proofs.Keyed.{above_least, last_both, passed_on}
 use Rattle.rank_index.proofs.Stretches.{members_of-append}
 use Rattle.rank_index.proofs.Tagged.{Members}
@@ -186,14 +186,14 @@ above_among keys key (c ∷ chunks) are lt =
     (above_least keys key c.members (omega (arith, here, lt)))
     (above_among keys key chunks (All-tail L c chunks are) (omega (arith, lt)))
 
-last_any : (a b : ℕ) (xs : Members) → 0 < length xs → last_from a xs ≡ last_from b xs
+last_any : (a b : ℕ) (xs : Members) → 0 < length xs → last_tag_from a xs ≡ last_tag_from b xs
 last_any a b [] some = absurd (omega (arith, some))
 last_any a b (m ∷ xs) some = refl
 
 pub group_passed : (keys : List ℕ) (key : ℕ) (chunks : List ChunkSeen) (at end : ℕ) (c : ChunkSeen) → 0 < at
     → at < length chunks → end ≡ at + min GROUP (length chunks - at) → key < least_among (take GROUP (drop at chunks))
     → AreLeast keys chunks → AreHalfFull chunks → c ≡ get_or chunks (end - 1) c → (tag mid last : ℕ)
-    → mid ≡ last_from tag c.members → IsPassed keys key (members_of (drop end chunks)) mid last
+    → mid ≡ last_tag_from tag c.members → IsPassed keys key (members_of (drop end chunks)) mid last
     → IsPassed keys key (members_of (drop at chunks)) tag last
 group_passed keys key chunks at end c past lt is under are half read tag mid last mid_is p =
     let H : ChunkSeen → Type 0 = λ (d : ChunkSeen). HALF ≤ length d.members in
@@ -223,11 +223,11 @@ group_passed keys key chunks at end c past lt is under are half read tag mid las
     ap (λ (m : ℕ). take m rest) (sym before) ∙ take_more rest (n - 1) c (omega (arith, count, lt))
     ∙ ap (λ (d : ChunkSeen). take (n - 1) rest ++ d ∷ [])
     (get_or-drop at chunks (n - 1) c ∙ ap (λ (m : ℕ). get_or chunks m c) place ∙ sym read) in
-    let ends : last_from tag (members_of front) ≡ last_from tag c.members =
-    ap (λ (l : List ChunkSeen). last_from tag (members_of l)) one
-    ∙ ap (last_from tag) (members_of-append (take (n - 1) rest) (c ∷ []) ∙ ap (λ (l : Members). members_of (take (n - 1) rest) ++ l) (append-nil c.members))
+    let ends : last_tag_from tag (members_of front) ≡ last_tag_from tag c.members =
+    ap (λ (l : List ChunkSeen). last_tag_from tag (members_of l)) one
+    ∙ ap (last_tag_from tag) (members_of-append (take (n - 1) rest) (c ∷ []) ∙ ap (λ (l : Members). members_of (take (n - 1) rest) ++ l) (append-nil c.members))
     ∙ last_both tag (members_of (take (n - 1) rest)) c.members
-    ∙ last_any (last_from tag (members_of (take (n - 1) rest))) tag c.members (omega (arith, some)) in
+    ∙ last_any (last_tag_from tag (members_of (take (n - 1) rest))) tag c.members (omega (arith, some)) in
     subst (λ (l : List ChunkSeen). IsPassed keys key (members_of l) tag last) (sym whole)
     (subst (λ (l : Members). IsPassed keys key l tag last) (sym (members_of-append front (drop end chunks)))
     (passed_on keys key (members_of front) (members_of (drop end chunks)) tag mid last above (mid_is ∙ sym ends) p))

@@ -5,7 +5,7 @@ use Rattle.std.specs.List.{AllByRecursion, IsDistinct}
 use Rattle.std.proofs.Math.ListN.{set, get_or}
 use Rattle.std.proofs.lemmas.List.{map-append, length-map}
 use Rattle.piece_raw.specs.Ring.{HasTag, AreTags, tags, with_value}
-use Rattle.rank_index.specs.Chunks.{ChunkSeen, members_of, AreEntered, AreTied}
+use Rattle.rank_index.specs.Chunks.{ChunkSeen, members_of, AreEnteredUnder, AreTied}
 use Rattle.rank_index.specs.Ranked.{weight_of}
 use Rattle.rank_index.proofs.Inserted.{half_full}
 use Rattle.rank_index.proofs.Pieces.{all_parts, all_whole, cut_read, seam_at}
@@ -60,7 +60,7 @@ module _ (before : List ChunkSeen) (c d : ChunkSeen) (after : List ChunkSeen) (t
     pub tied_reweighed : (homes : List ℕ) → d.home ≡ c.home → HasTag c.members tag
         → AreTied homes (before ++ c ∷ after) → AreTied homes (before ++ d ∷ after)
     tied_reweighed homes same here tied =
-        let P : ChunkSeen → Type 0 = λ (e : ChunkSeen). AreEntered homes e.home e.members in
+        let P : ChunkSeen → Type 0 = λ (e : ChunkSeen). AreEnteredUnder homes e.home e.members in
         let (left, entered, right) = all_parts P before c after tied.entered in
         let all : members_of (before ++ d ∷ after) ≡ with_value tag w (members_of (before ++ c ∷ after)) =
         reweighed_in_all tied.tags here in

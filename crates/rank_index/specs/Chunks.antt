@@ -17,12 +17,12 @@ abbrev pub members_of : List ChunkSeen → List (ℕ × ℕ)
 members_of chunks = flat_map (λ c. c.members) chunks
 
 -- each of these members is entered, by its tag, under this number
-abbrev pub AreEntered : List ℕ → ℕ → List (ℕ × ℕ) → Type 0
-AreEntered homes home members = (tag : ℕ) → HasTag members tag → slice_get homes tag ≡ Some home
+abbrev pub AreEnteredUnder : List ℕ → ℕ → List (ℕ × ℕ) → Type 0
+AreEnteredUnder homes home members = (tag : ℕ) → HasTag members tag → slice_get homes tag ≡ Some home
 
 -- each member is entered under the number of its chunk
 abbrev pub AreHomes : List ℕ → List ChunkSeen → Type 0
-AreHomes homes chunks = All (λ c. AreEntered homes c.home c.members) chunks
+AreHomes homes chunks = All (λ c. AreEnteredUnder homes c.home c.members) chunks
 
 -- the table tells the slots of the first chunks, so many of them, by their homes
 abbrev pub AreSlotsTo : List ℕ → List ChunkSeen → ℕ → Type 0
@@ -65,8 +65,8 @@ IsSlotAfter chunks slot None = slot ≡ 0
 IsSlotAfter chunks slot (Some tag) = IsSlotOf chunks slot tag
 
 -- the chunk at this slot has room for one member more
-abbrev pub HasRoom : List ChunkSeen → ℕ → Type 0
-HasRoom chunks slot = (c : ChunkSeen) × (slice_get chunks slot ≡ Some c) × (length c.members < MOST)
+abbrev pub HasRoomInChunk : List ChunkSeen → ℕ → Type 0
+HasRoomInChunk chunks slot = (c : ChunkSeen) × (slice_get chunks slot ≡ Some c) × (length c.members < MOST)
 
 -- the chunk at this slot has given its second half to a chunk that stands after it
 pub record IsHalved (at : ℕ) (old new : List ChunkSeen) : Type 0 where
@@ -82,5 +82,5 @@ pub record IsHalved (at : ℕ) (old new : List ChunkSeen) : Type 0 where
   pub halves : (length front.members ≡ HALF) × (length rest.members ≡ HALF)
 
 -- so many insertions take no memory: a chunk that is full has been filled by half a chunk at least
-abbrev pub room_of : ℕ → ℕ → ℕ → ℕ
-room_of slots chunks members = min slots (HALF * (chunks + 1) - members)
+abbrev pub index_room : ℕ → ℕ → ℕ → ℕ
+index_room slots chunks members = min slots (HALF * (chunks + 1) - members)

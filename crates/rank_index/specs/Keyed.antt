@@ -25,9 +25,9 @@ BeginAtMost keys key [] = Unit {0}
 BeginAtMost keys key (m ∷ ms) = key_in keys m.0 ≤ key
 
 -- the last of these members' tags, that one where there are none
-abbrev pub last_from : ℕ → List (ℕ × ℕ) → ℕ
-last_from tag [] = tag
-last_from tag (m ∷ ms) = last_from m.0 ms
+abbrev pub last_tag_from : ℕ → List (ℕ × ℕ) → ℕ
+last_tag_from tag [] = tag
+last_tag_from tag (m ∷ ms) = last_tag_from m.0 ms
 
 -- of the members that follow that of a tag, those up to the first whose key isn't greater are passed; the last of them has
 -- this other tag
@@ -37,7 +37,7 @@ pub record IsPassed (keys : List ℕ) (key : ℕ) (follow : List (ℕ × ℕ)) (
   pub whole : follow ≡ passed ++ rest
   pub above : AreAbove keys key passed
   pub stops : BeginAtMost keys key rest
-  pub last_is : last ≡ last_from tag passed
+  pub last_is : last ≡ last_tag_from tag passed
 
 -- the same among all members
 abbrev pub IsPassedIn : List ℕ → ℕ → List (ℕ × ℕ) → ℕ → ℕ → Type 0

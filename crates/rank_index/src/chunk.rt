@@ -6,7 +6,7 @@ ghost use Rattle.looks.specs.Refusal.{RefusedForMemoryAlone};
 ghost use Rattle.piece_raw.specs.Ring.{HasTag, IsPushed, last_tag, with_value, tags};
 ghost use Rattle.piece_raw.specs.declared.TheConstants.{MAX_TAGS};
 ghost use Rattle.std.specs.List.{IsDistinct};
-ghost use Rattle.rank_index.specs.Keyed.{least_of, AreAbove, IsPassed, last_from};
+ghost use Rattle.rank_index.specs.Keyed.{least_of, AreAbove, IsPassed, last_tag_from};
 ghost use Rattle.rank_index.specs.Slots.{IsSlot};
 ghost use Rattle.rank_index.specs.Ranked.{weight_of, IsRank, IsFound};
 
@@ -223,7 +223,7 @@ impl Chunk {
     pub(crate) fn pass_from(&self, tag: u64, keys: &[u64], key: u64) -> (u64, bool)
         requires least { self.now.least ≡ least_of keys.now self.now.members }
         ensures stops { IsTrue result.1 → (more : List (ℕ × ℕ)) → IsPassed keys.now key (self.now.members ++ more) tag result.0 }
-        ensures all { ¬ IsTrue result.1 → AreAbove keys.now key self.now.members × (result.0 ≡ last_from tag self.now.members) }
+        ensures all { ¬ IsTrue result.1 → AreAbove keys.now key self.now.members × (result.0 ≡ last_tag_from tag self.now.members) }
     {
         let members = self.members();
         if key < self.least() {
@@ -238,7 +238,7 @@ impl Chunk {
         ensures { (before : List (ℕ × ℕ)) × (weight : ℕ) × (follow : List (ℕ × ℕ))
             × (self.now.members ≡ before ++ (tag, weight) ∷ follow)
             × (IsTrue result.1 → (more : List (ℕ × ℕ)) → IsPassed keys.now key (follow ++ more) tag result.0)
-            × (¬ IsTrue result.1 → AreAbove keys.now key follow × (result.0 ≡ last_from tag follow)) }
+            × (¬ IsTrue result.1 → AreAbove keys.now key follow × (result.0 ≡ last_tag_from tag follow)) }
     {
         let members = self.members();
         match self.slot_of(tag) {
@@ -249,7 +249,7 @@ impl Chunk {
 
     // The tag of its last member, this one where it has none.
     pub(crate) fn last_tag(&self, tag: u64) -> u64
-        ensures { result ≡ last_from tag self.now.members }
+        ensures { result ≡ last_tag_from tag self.now.members }
     {
         let members = self.members();
         last_of(members, members.len(), tag)

@@ -3,8 +3,8 @@ ghost use Rattle.std.specs.Prelude.{vec_len, vec_capacity};
 ghost use Rattle.looks.specs.Refusal.{RefusedForMemoryAlone};
 ghost use Rattle.piece_raw.specs.Ring.{HasTag, IsPushed, AreTags, with_value};
 ghost use Rattle.piece_raw.specs.declared.TheConstants.{MAX_TAGS};
-ghost use Rattle.rank_index.specs.Chunks.{ChunkSeen, members_of, AreEntered, AreHomes, AreTied, AreEmpty, AreHalfFull};
-ghost use Rattle.rank_index.specs.Chunks.{AreSlotsTo, AreInSlots, HomesDiffer, IsSlotOf, IsSlotAfter, HasRoom, IsHalved};
+ghost use Rattle.rank_index.specs.Chunks.{ChunkSeen, members_of, AreEnteredUnder, AreHomes, AreTied, AreEmpty, AreHalfFull};
+ghost use Rattle.rank_index.specs.Chunks.{AreSlotsTo, AreInSlots, HomesDiffer, IsSlotOf, IsSlotAfter, HasRoomInChunk, IsHalved};
 ghost use Rattle.rank_index.specs.Groups.{AreLows};
 ghost use Rattle.rank_index.specs.Keyed.{AreLeast, IsPassed, IsPassedIn};
 ghost use Rattle.rank_index.specs.Ranked.{weight_of, IsRank, IsFound};
@@ -44,7 +44,7 @@ pub struct RankIndex {
 impl Model for RankIndex {
     ghost use Rattle.std.specs.Prelude.{◌≡◌, ◌+◌, ◌-◌, ◌<◌, ◌≤◌, ◌^◌, min, vec_len, vec_capacity};
     ghost use Rattle.piece_raw.specs.declared.TheConstants.{MAX_TAGS};
-    ghost use Rattle.rank_index.specs.Chunks.{members_of, AreInSlots, AreTied, AreEmpty, room_of};
+    ghost use Rattle.rank_index.specs.Chunks.{members_of, AreInSlots, AreTied, AreEmpty, index_room};
     ghost use Rattle.rank_index.specs.Groups.{AreGroups, AreLows};
     ghost use Rattle.rank_index.specs.Keyed.{AreLeast};
     ghost use Rattle.rank_index.specs.Ranked.{Ranked, ranked, weight_of};
@@ -52,7 +52,7 @@ impl Model for RankIndex {
     ghost Value = { Ranked };
 
     ghost view = { λ r. ranked (members_of r.chunks.items) r.keys.items
-        (room_of (min (min (vec_capacity r.homes) (vec_capacity r.keys)) MAX_TAGS - vec_len r.homes)
+        (index_room (min (min (vec_capacity r.homes) (vec_capacity r.keys)) MAX_TAGS - vec_len r.homes)
         (vec_len r.chunks + vec_len r.spare) (vec_len r.homes)) };
 
     ghost invariant = { λ r. AreTied r.homes.items r.chunks.items
@@ -128,7 +128,7 @@ fn pass_on(chunks: &[Chunk], lows: &[u64], from: usize, tag: u64, keys: &[u64], 
 // Enters the members of the chunk as being in it.
 fn enter(homes: &mut [usize], chunk: &Chunk)
     requires { (tag : ℕ) → HasTag chunk.now.members tag → tag < length homes.old }
-    ensures entered { AreEntered homes.new chunk.now.home chunk.now.members }
+    ensures entered { AreEnteredUnder homes.new chunk.now.home chunk.now.members }
     ensures others { (tag : ℕ) → (HasTag chunk.now.members tag → ⊥)
         → slice_get homes.new tag ≡ slice_get homes.old tag }
 {
@@ -212,7 +212,7 @@ fn slot_after(
     requires slots_room { vec_len chunks.old + vec_len spare.old ≤ vec_capacity slots.old }
     requires least { AreLeast keys.now chunks.old.items }
     ensures slot { IsSlotAfter chunks.new.items result after }
-    ensures room { HasRoom chunks.new.items result }
+    ensures room { HasRoomInChunk chunks.new.items result }
     ensures members { members_of chunks.new.items ≡ members_of chunks.old.items }
     ensures empty { AreEmpty spare.new.items }
     ensures tied { AreTied homes.new chunks.new.items }

@@ -1,7 +1,7 @@
 //! The members' keys, by tag.
 
 ghost use Rattle.std.specs.Prelude.{◌≡◌, ℕ, ◌≤◌, List, ◌++◌, length, take, drop, IsTrue};
-ghost use Rattle.rank_index.specs.Keyed.{key_in, least_of, AreAbove, BeginAtMost, IsPassed, last_from};
+ghost use Rattle.rank_index.specs.Keyed.{key_in, least_of, AreAbove, BeginAtMost, IsPassed, last_tag_from};
 
 // The key of the member of this tag.
 fn key_of(keys: &[u64], tag: u32) -> u64
@@ -41,7 +41,7 @@ fn count_above(keys: &[u64], members: &[(u32, u32)], key: u64) -> usize
 // The tag of the last of the first `n` of these members, this one where there are none.
 pub(crate) fn last_of(members: &[(u32, u32)], n: usize, tag: u64) -> u64
     requires { n ≤ length members.now }
-    ensures { result ≡ last_from tag (take n members.now) }
+    ensures { result ≡ last_tag_from tag (take n members.now) }
 {
     if n == 0 {
         return tag;
@@ -53,7 +53,7 @@ pub(crate) fn last_of(members: &[(u32, u32)], n: usize, tag: u64) -> u64
 // was passed, and whether there is such a first one.
 pub(crate) fn pass(keys: &[u64], members: &[(u32, u32)], key: u64, tag: u64) -> (u64, bool)
     ensures stops { IsTrue result.1 → (more : List (ℕ × ℕ)) → IsPassed keys.now key (members.now ++ more) tag result.0 }
-    ensures all { ¬ IsTrue result.1 → AreAbove keys.now key members.now × (result.0 ≡ last_from tag members.now) }
+    ensures all { ¬ IsTrue result.1 → AreAbove keys.now key members.now × (result.0 ≡ last_tag_from tag members.now) }
 {
     let n = count_above(keys, members, key);
     let last = last_of(members, n, tag);

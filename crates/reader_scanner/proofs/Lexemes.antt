@@ -11,7 +11,7 @@ use Rattle.std.proofs.lemmas.List.{take_more}
 use Rattle.std.proofs.lemmas.List.Sums.{prefix_len-le-length}
 use Rattle.reader_scanner.specs.declared.token.TokenValue.{TokenValue}
 use Rattle.reader_scanner.specs.declared.token.TokenValue.TheVariants as value
-use Rattle.reader_scanner.specs.Lexeme.{Lexeme, name_at, string_at, int_at, lexeme_at, longer}
+use Rattle.reader_scanner.specs.Lexeme.{Lexeme, name_at, string_at, int_at, lexeme_at, byte_longer}
 use Rattle.reader_scanner.specs.Tokens.{is_blank, is_name_byte, is_string_byte, is_hex_digit, StopsAt}
 use Rattle.reader_scanner.specs.Tokens.{if_short, int_token, sign, begins_other, Spells, none, name, string}
 use Rattle.reader_scanner.specs.Tokens.{open_string, hexadecimal, decimal, char}
@@ -69,12 +69,12 @@ lexeme_int (b ∷ rest) e = rw (digit_no_letter b e, digit_no_quote b e, e) refl
 
 pub lexeme_minus : (bytes : List ℕ)
     → (eqb (get_or bytes 0 0) 45 && is_ascii_digit (get_or (drop 1 bytes) 0 0)) ≡ true
-    → lexeme_at bytes ≡ longer (int_at true (drop 1 bytes))
+    → lexeme_at bytes ≡ byte_longer (int_at true (drop 1 bytes))
 unfolding lexeme_at
 lexeme_minus [] e = absurd cc
 lexeme_minus (b ∷ rest) e =
     let both = and_parts (eqb b 45) (is_ascii_digit (get_or rest 0 0)) e in
-    let P : ℕ → Type 0 = λ x. lexeme_at (x ∷ rest) ≡ longer (int_at true rest) in
+    let P : ℕ → Type 0 = λ x. lexeme_at (x ∷ rest) ≡ byte_longer (int_at true rest) in
     let at : P 45 = rw both.1 refl in
     subst P (sym (eqb-true b 45 both.0)) at
 
@@ -288,13 +288,13 @@ spelled_int bytes e =
 spelled_minus : (rest : List ℕ) → is_ascii_digit (get_or rest 0 0) ≡ true → Spelled (45 ∷ rest)
 spelled_minus rest e =
     let s = spelled_digits true rest e in
-    let minus : lexeme_at (45 ∷ rest) ≡ longer (int_at true rest) = lexeme_minus (45 ∷ rest) e in
+    let minus : lexeme_at (45 ∷ rest) ≡ byte_longer (int_at true rest) = lexeme_minus (45 ∷ rest) e in
     let one : suc s.n ≡ 1 + s.n = omega arith in
     let at_suc : Spells (take (suc s.n) (45 ∷ rest)) (drop (suc s.n) (45 ∷ rest)) s.token = s.spells in
     record {
       token = s.token;
       n = 1 + s.n;
-      is = minus ∙ ap longer s.is;
+      is = minus ∙ ap byte_longer s.is;
       fits = omega (arith, s.fits);
       spells = subst (λ (m : ℕ). Spells (take m (45 ∷ rest)) (drop m (45 ∷ rest)) s.token) one at_suc;
     }

@@ -15,7 +15,7 @@ use Rattle.std.proofs.lemmas.List.Folds.{list_all-append}
 use Rattle.std.proofs.lemmas.List.Sums.{AllPass-from_list_all}
 use Rattle.char_files.specs.Stretch.{Item}
 use Rattle.reader_scanner.specs.declared.token.TheConstants.{MAX_INT}
-use Rattle.reader_scanner.specs.ReaderState.{bytes_of, bytes_from, bytes_between}
+use Rattle.reader_scanner.specs.ReaderState.{item_bytes, bytes_from, bytes_between}
 use Rattle.reader_scanner.specs.Tokens.{is_size}
 use Rattle.reader_scanner.proofs.Bytes.{between_length, between_more}
 
@@ -29,7 +29,7 @@ pub record IsSizeSoFar (radix : ℕ) (digits : List ℕ) (size : ℕ) : Type 0 w
   pub few : size ≤ MAX_INT
 
 pub size_goes_on : (radix : ℕ) (items : List Item) (beg pos b size next : ℕ) → beg ≤ pos
-    → pos < length items → b ≡ get_or (bytes_of items) pos 0 → digit_value b < radix
+    → pos < length items → b ≡ get_or (item_bytes items) pos 0 → digit_value b < radix
     → next ≡ size * radix + digit_value b → next ≤ MAX_INT
     → IsSizeSoFar radix (bytes_between items beg pos) size
     → IsSizeSoFar radix (bytes_between items beg (pos + 1)) next
@@ -61,7 +61,7 @@ bool_cases false h = refl
 
 -- a byte that is no digit
 pub no_digit : (radix : ℕ) (items : List Item) (beg pos end b : ℕ) → beg ≤ pos → pos < end
-    → end ≤ length items → b ≡ get_or (bytes_of items) pos 0 → ¬ (digit_value b < radix)
+    → end ≤ length items → b ≡ get_or (item_bytes items) pos 0 → ¬ (digit_value b < radix)
     → is_size radix (bytes_between items beg end) ≡ false
 no_digit radix items beg pos end b le lt inside is none =
     let ds : List ℕ = bytes_between items beg end in
@@ -70,8 +70,8 @@ no_digit radix items beg pos end b le lt inside is none =
     let shorter : n < end - beg = omega arith in
     let within : n < length ds = omega (arith, between_length items beg end (omega arith) inside) in
     let here : get_or ds n 0 ≡ b =
-    get_or-take (end - beg) (bytes_from items beg) n 0 shorter ∙ get_or-drop beg (bytes_of items) n 0
-    ∙ ap (λ (k : ℕ). get_or (bytes_of items) k 0) at ∙ sym is in
+    get_or-take (end - beg) (bytes_from items beg) n 0 shorter ∙ get_or-drop beg (item_bytes items) n 0
+    ∙ ap (λ (k : ℕ). get_or (item_bytes items) k 0) at ∙ sym is in
     let fails : list_all (is_digit_in radix) ds ≡ false =
     bool_cases (list_all (is_digit_in radix) ds) (λ e.
     let passes : is_digit_in radix b ≡ true =
@@ -81,7 +81,7 @@ no_digit radix items beg pos end b le lt inside is none =
 
 -- a size past the greatest stays past it
 pub too_large : (radix : ℕ) (items : List Item) (beg pos end b size next : ℕ) → 1 ≤ radix → beg ≤ pos
-    → pos < end → end ≤ length items → b ≡ get_or (bytes_of items) pos 0
+    → pos < end → end ≤ length items → b ≡ get_or (item_bytes items) pos 0
     → next ≡ size * radix + digit_value b → MAX_INT < next
     → IsSizeSoFar radix (bytes_between items beg pos) size
     → is_size radix (bytes_between items beg end) ≡ false

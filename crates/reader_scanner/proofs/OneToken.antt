@@ -11,11 +11,11 @@ use Rattle.std.proofs.lemmas.List.Sums.{prefix_len-le-length}
 use Rattle.reader_scanner.specs.declared.token.Token.{Token}
 use Rattle.reader_scanner.specs.declared.token.TokenValue.{TokenValue}
 use Rattle.reader_scanner.specs.declared.token.TokenValue.TheVariants as value
-use Rattle.reader_scanner.specs.Lexeme.{Lexeme, int_at, lexeme_at, longer}
+use Rattle.reader_scanner.specs.Lexeme.{Lexeme, byte_longer, int_at, lexeme_at}
 use Rattle.reader_scanner.specs.Tokens.{is_blank, is_name_byte, is_string_byte, is_hex_digit, StopsAt}
 use Rattle.reader_scanner.specs.Tokens.{if_short, int_token, sign, begins_other, Spells, none, name, string}
 use Rattle.reader_scanner.specs.Tokens.{open_string, hexadecimal, decimal, char, IsTokenAt, IsNone, IsName}
-use Rattle.reader_scanner.specs.Tokens.{IsString, IsOpenString, IsHexadecimal, IsDecimal, IsChar}
+use Rattle.reader_scanner.specs.Tokens.{IsString, IsOpenString, IsHexadecimal, IsDecimal, IsOtherByte}
 use Rattle.reader_scanner.proofs.Stretches.{after, longest_len, longest_at, first_of}
 use Rattle.reader_scanner.proofs.Lexemes.{lex, lexeme_none, lexeme_name, lexeme_string, lexeme_int}
 use Rattle.reader_scanner.proofs.Lexemes.{lexeme_minus}
@@ -137,7 +137,7 @@ signed : (negative : Bool) (digits tail : List ℕ) (token : TokenValue) (n : �
 signed true digits tail token n first is =
     let digit : is_ascii_digit (get_or (digits ++ tail) 0 0) ≡ true =
     first_of is_ascii_digit digits tail refl first in
-    (lexeme_minus (45 ∷ (digits ++ tail)) digit ∙ ap longer is, λ some. refl)
+    (lexeme_minus (45 ∷ (digits ++ tail)) digit ∙ ap byte_longer is, λ some. refl)
 signed false digits tail token n first is =
     let digit : is_ascii_digit (get_or (digits ++ tail) 0 0) ≡ true =
     first_of is_ascii_digit digits tail refl first in
@@ -191,7 +191,7 @@ found_decimal text rest token h =
       stops = subst (StopsAt is_blank) (sym split) both.1;
     }
 
-found_char : (text rest : List ℕ) (token : TokenValue) → IsChar text rest token → Found text rest token
+found_char : (text rest : List ℕ) (token : TokenValue) → IsOtherByte text rest token → Found text rest token
 found_char text rest token h =
     let b : ℕ = h.byte in
     let split : text ++ rest ≡ b ∷ rest = ap (λ (t : List ℕ). t ++ rest) h.parts in

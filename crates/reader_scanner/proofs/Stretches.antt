@@ -9,8 +9,8 @@ use Rattle.std.proofs.lemmas.List.{get_or_append_left, get_or-append-add}
 use Rattle.std.proofs.lemmas.List.Sums.{prefix_len_is, prefix_len_passes, prefix_len_stops}
 use Rattle.std.proofs.lemmas.List.Sums.{prefix_len-le-length, prefix_len-drop_yes}
 use Rattle.char_files.specs.Stretch.{Item}
-use Rattle.reader_scanner.specs.ReaderState.{bytes_of, bytes_from}
-use Rattle.reader_scanner.specs.Tokens.{StopsAt, IsLongest}
+use Rattle.reader_scanner.specs.ReaderState.{item_bytes, bytes_from}
+use Rattle.reader_scanner.specs.Tokens.{StopsAt, IsLongestStretch}
 
 -- the byte after a stretch
 pub after : (text rest : List ℕ) → get_or (text ++ rest) (length text) 0 ≡ get_or rest 0 0
@@ -43,7 +43,7 @@ longest_len p text rest each stops =
     (λ lt. rw (after text rest) (stops (omega (arith, all))))
 
 pub longest_at : (p : ℕ → Bool) (bytes : List ℕ)
-    → IsLongest p (take (prefix_len p bytes) bytes) (drop (prefix_len p bytes) bytes)
+    → IsLongestStretch p (take (prefix_len p bytes) bytes) (drop (prefix_len p bytes) bytes)
 longest_at p bytes = record {
   each = λ k d lt.
       let within : k < prefix_len p bytes = omega (arith, length-take (prefix_len p bytes) bytes) in
@@ -73,13 +73,13 @@ first_of p (b ∷ text) rest zero e = e
 -- ---- the loop that looks for a stretch's end
 
 pub goes_on : (p : ℕ → Bool) (items : List Item) (from pos b : ℕ) → pos < length items
-    → b ≡ get_or (bytes_of items) pos 0 → p b ≡ true
+    → b ≡ get_or (item_bytes items) pos 0 → p b ≡ true
     → pos + prefix_len p (bytes_from items pos) ≡ from + prefix_len p (bytes_from items from)
     → (pos + 1) + prefix_len p (bytes_from items (pos + 1)) ≡ from + prefix_len p (bytes_from items from)
 goes_on p items from pos b lt is passes so_far =
-    let within : pos < length (bytes_of items) = omega (arith, length-map items (λ (i : Item). i.0)) in
-    let here : p (get_or (bytes_of items) pos 0) ≡ true = rw (← is) passes in
-    omega (arith, prefix_len-drop_yes p (bytes_of items) pos 0 within here)
+    let within : pos < length (item_bytes items) = omega (arith, length-map items (λ (i : Item). i.0)) in
+    let here : p (get_or (item_bytes items) pos 0) ≡ true = rw (← is) passes in
+    omega (arith, prefix_len-drop_yes p (item_bytes items) pos 0 within here)
 
 -- where a stretch ends, the source goes that far
 pub stretch_within : (p : ℕ → Bool) (items : List Item) (from : ℕ) → from ≤ length items
@@ -88,6 +88,6 @@ stretch_within p items from le =
     omega (
       arith,
       prefix_len-le-length p (bytes_from items from),
-      length-drop from (bytes_of items),
+      length-drop from (item_bytes items),
       length-map items (λ (i : Item). i.0),
     )

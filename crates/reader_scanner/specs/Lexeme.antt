@@ -46,8 +46,8 @@ int_at negative bytes =
     else record { token = int_token 10 negative (take n bytes); len = n }
 
 -- one byte more
-abbrev pub longer : Lexeme → Lexeme
-longer l = record l { len = 1 + l.len }
+abbrev pub byte_longer : Lexeme → Lexeme
+byte_longer l = record l { len = 1 + l.len }
 
 -- whatever stands in front of bytes that begin with no blank
 unfoldable pub lexeme_at : List ℕ → Lexeme
@@ -56,5 +56,5 @@ lexeme_at (b ∷ rest) =
     if is_ascii_alphabetic b then name_at (b ∷ rest)
     else (if b == 34 then string_at rest
     else (if is_ascii_digit b then int_at false (b ∷ rest)
-    else (if b == 45 && is_ascii_digit (slice_index rest 0) then longer (int_at true rest)
+    else (if b == 45 && is_ascii_digit (slice_index rest 0) then byte_longer (int_at true rest)
     else record { token = value.Char b; len = 1 })))

@@ -10,12 +10,12 @@ pub record ReaderState : Type 0 where
   pub pos : ℕ
 
 -- the characters' bytes
-abbrev pub bytes_of : List Item → List ℕ
-bytes_of items = map (λ item. item.0) items
+abbrev pub item_bytes : List Item → List ℕ
+item_bytes items = map (λ item. item.0) items
 
 -- the bytes from a position on
 abbrev pub bytes_from : List Item → ℕ → List ℕ
-bytes_from items pos = drop pos (bytes_of items)
+bytes_from items pos = drop pos (item_bytes items)
 
 -- the bytes from beg up to end
 abbrev pub bytes_between : List Item → (beg end : ℕ) → List ℕ

@@ -31,7 +31,7 @@ abbrev pub StopsAt : (ℕ → Bool) → List ℕ → Type 0
 StopsAt p rest = 0 < length rest → p (slice_index rest 0) ≡ false
 
 -- the longest stretch of bytes that pass: each of them does, and none follows it
-pub record IsLongest (p : ℕ → Bool) (text rest : List ℕ) : Type 0 where
+pub record IsLongestStretch (p : ℕ → Bool) (text rest : List ℕ) : Type 0 where
   pub each : AllPass p text
   pub stops : StopsAt p rest
 
@@ -66,7 +66,7 @@ pub record IsNone (text rest : List ℕ) (token : TokenValue) : Type 0 where
 -- a name: a letter, and the longest stretch of letters, digits and full stops
 pub record IsName (text rest : List ℕ) (token : TokenValue) : Type 0 where
   pub first : is_ascii_alphabetic (slice_index text 0) ≡ true
-  pub longest : IsLongest is_name_byte text rest
+  pub longest : IsLongestStretch is_name_byte text rest
   pub value_is : token ≡ if_short value.Name text
 
 -- a string: what stands between two quotes on one line
@@ -80,7 +80,7 @@ pub record IsString (text : List ℕ) (token : TokenValue) : Type 0 where
 pub record IsOpenString (text rest : List ℕ) (token : TokenValue) : Type 0 where
   pub inner : List ℕ
   pub parts : text ≡ 34 ∷ inner
-  pub longest : IsLongest is_string_byte inner rest
+  pub longest : IsLongestStretch is_string_byte inner rest
   pub unclosed : slice_index rest 0 ≢ 34
   pub value_is : token ≡ value.Inval
 
@@ -100,7 +100,7 @@ pub record IsDecimal (text rest : List ℕ) (token : TokenValue) : Type 0 where
   pub digits : List ℕ
   pub parts : text ≡ sign negative ++ digits
   pub first : is_ascii_digit (slice_index digits 0) ≡ true
-  pub longest : IsLongest is_hex_digit digits rest
+  pub longest : IsLongestStretch is_hex_digit digits rest
   pub no_h : slice_index rest 0 ≢ 72
   pub value_is : token ≡ int_token 10 negative digits
 
@@ -111,7 +111,7 @@ begins_other b rest =
     || (b == 45 && is_ascii_digit (slice_index rest 0))
 
 -- any other byte
-pub record IsChar (text rest : List ℕ) (token : TokenValue) : Type 0 where
+pub record IsOtherByte (text rest : List ℕ) (token : TokenValue) : Type 0 where
   pub byte : ℕ
   pub parts : text ≡ byte ∷ []
   pub no_other : begins_other byte rest ≡ false
@@ -125,7 +125,7 @@ pub data Spells (text rest : List ℕ) (token : TokenValue) : Type 0 where
   open_string : IsOpenString text rest token → Spells text rest token
   hexadecimal : IsHexadecimal text token → Spells text rest token
   decimal : IsDecimal text rest token → Spells text rest token
-  char : IsChar text rest token → Spells text rest token
+  char : IsOtherByte text rest token → Spells text rest token
 
 -- the token of a source after a position: blanks are skipped, then its text stands from beg to end
 pub record IsTokenAt (source : List ℕ) (from : ℕ) (token : Token) : Type 0 where

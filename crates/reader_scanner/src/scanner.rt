@@ -4,7 +4,7 @@ ghost use Rattle.std.specs.Char.{is_ascii_digit};
 ghost use Rattle.std.specs.List.{prefix_len};
 ghost use Rattle.std.specs.Str.Parse.{digits_value};
 ghost use Rattle.reader_scanner.specs.Lexeme.{has_byte, name_at, string_at, int_at, lexeme_at};
-ghost use Rattle.reader_scanner.specs.ReaderState.{bytes_of, bytes_from, bytes_between};
+ghost use Rattle.reader_scanner.specs.ReaderState.{item_bytes, bytes_from, bytes_between};
 ghost use Rattle.reader_scanner.specs.Tokens.{IsTokenAt, is_size, int_token};
 ghost use Rattle.reader_scanner.specs.Tokens.{is_blank, is_name_byte, is_string_byte, is_hex_digit};
 
@@ -56,7 +56,7 @@ impl ByteClass {
 /// The byte at this position; past the end 0, as Oberon's readers give it. No test here passes 0 for anything
 /// that a token begins with.
 pub fn byte_at<S: Source>(source: &S, pos: u64) -> u8
-    ensures { result ≡ slice_index (bytes_of (S.items source.now)) pos }
+    ensures { result ≡ slice_index (item_bytes (S.items source.now)) pos }
 {
     if source.len() <= pos {
         return 0;
@@ -188,7 +188,7 @@ fn int_at<S: Source>(source: &S, beg: u64, negative: bool) -> Lexeme
 // Whether a minus sign stands here, directly before a digit.
 fn begins_negative<S: Source>(source: &S, pos: u64) -> bool
     requires { pos + 1 < 2 ^ 64 }
-    ensures { let bytes = bytes_of (S.items source.now) in
+    ensures { let bytes = item_bytes (S.items source.now) in
         result ≡ (slice_index bytes pos == 45 && is_ascii_digit (slice_index bytes (pos + 1))) }
 {
     byte_at(source, pos) == b'-' && byte_at(source, pos + 1).is_ascii_digit()
@@ -248,7 +248,7 @@ impl<'a, S: Source> Scanner<'a, S> {
 
     /// The next token; past the last one it is Inval and empty at the source's end, again and again.
     pub fn scan(&mut self) -> Token
-        ensures token { IsTokenAt (bytes_of self.old.items) self.old.pos result }
+        ensures token { IsTokenAt (item_bytes self.old.items) self.old.pos result }
         ensures next { self.new ≡ record self.old { pos = result.end } }
     {
         let from = self.pos.min(self.source.len());

@@ -15,7 +15,7 @@ use Rattle.machine.specs.Windows.{Screened}
 use Rattle.machine.specs.declared.asked.Query.{Query}
 use Rattle.machine.specs.declared.asked.View.{View}
 use Rattle.machine_laws.proofs.OneOfTexts.{one_element, lemma_one_text}
-use Rattle.machine_laws.specs.Laws.{AnswerTheSame, HoldTheSame, IsSound, Reached, WhatARunReachesIsSound, begins, goes_on, others_write}
+use Rattle.machine_laws.specs.Laws.{AnswerTheSame, HoldTheSame, IsSoundState, Reached, WhatARunReachesIsSound, begins, goes_on, others_write}
 use Rattle.script_io.specs.Lines.{without_return}
 use Rattle.script_runs.specs.Trace.{Run, Step, Trace, is_silent, over_shelf}
 use Rattle.script_runs.specs.Trace.{begins as starts, goes_on as follows}
@@ -42,7 +42,7 @@ module _ (first count width height : ℕ) (files : Files) where
 
 -- so after any lines all is sound
 pub after_sound : EachTraceIsReached → WhatARunReachesIsSound → (start : Start) (s : State) → IsAfterLines start s
-    → IsSound s
+    → IsSoundState s
 after_sound reached sound start s after =
     sound start.first start.count start.width start.height start.files s (reached start s after)
 
@@ -89,7 +89,7 @@ view_replied s i d w v lines at (new, inl (e, x, at', (free, is, stays))) =
 view_replied s i d w v lines at (new, inr (e, x, at', (free, refused))) = absurd (prints_refuses lines _ refused.0)
 
 -- desks that are sound and whose texts have taken in the same hold the same
-pub same_held : (s s' : State) (i j : ℕ) (d e : SiteTexts) → IsSound s → IsSound s' → slice_get s.desks i ≡ Some d
+pub same_held : (s s' : State) (i j : ℕ) (d e : SiteTexts) → IsSoundState s → IsSoundState s' → slice_get s.desks i ≡ Some d
     → slice_get s'.desks j ≡ Some e → HaveTakenTheSame d e → HoldTheSame d e
 same_held s s' i j d e sound sound' at at' same = record {
   count = sound.desks i d at ∙ sym (sound'.desks j e at');

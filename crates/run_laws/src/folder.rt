@@ -1,7 +1,7 @@
 ghost use Rattle.std.specs.Prelude.{IfSome, false};
 ghost use Rattle.shelf.specs.Files.{Files};
 ghost use Rattle.script_runs.specs.Ends.{Ends};
-ghost use Rattle.script_runs.specs.Trace.{begun};
+ghost use Rattle.script_runs.specs.Trace.{begun_run};
 
 use folder_shelf::HostShelf;
 use looks::Refusal;
@@ -22,7 +22,7 @@ pub fn run_over_a_folder<R: Read + Drop, W: Write, F: fs::Files + Drop>(
     settings: Settings,
 ) -> Result<(), Refusal>
     ensures answers { (was now : Files) × IfSome input.old.left (λ script.
-        Ends false (begun settings.first settings.count settings.width settings.height (record { files = was; faults = shelf.old.failures }))
+        Ends false (begun_run settings.first settings.count settings.width settings.height (record { files = was; faults = shelf.old.failures }))
         script result input.new.failed input.new.left output.old.contents output.new.contents
         (record { files = now; faults = shelf.new.failures })) }
 {

@@ -4,13 +4,13 @@ use Rattle.std.specs.Option.{option_map_or}
 use Rattle.std.proofs.lemmas.Option.{same_Some}
 use Rattle.operations.specs.NameSet.{Range}
 use Rattle.script_events.specs.FrontWords.{words_of}
-use Rattle.script_events.specs.NameWords.{range_of_words, ranges_among, ranges_in, split_range}
+use Rattle.script_events.specs.NameWords.{range_of_words, ranges_among, ranges_in_words, split_range}
 use Rattle.script_events.specs.Words.{◌>>=◌, front_word, split_word}
 use Rattle.script_events.proofs.ReadWords.{Cuts, in_front, words_cut}
 
 -- the names of what is left
 abbrev pub names_left : Option (List ℕ) → Option (List Range)
-names_left rest = option_map_or ranges_in rest (Some [])
+names_left rest = option_map_or ranges_in_words rest (Some [])
 
 -- names of a site, and what stands after them
 abbrev Cut : Type 0
@@ -63,7 +63,7 @@ site_step words None = refl
 site_step words (Some cut) = with_at cut.0 cut.1
 
 -- the names of some words are those in front and the ones after them
-pub names_step : (words : List ℕ) → ranges_in words ≡ (split_range words >>= read_all)
+pub names_step : (words : List ℕ) → ranges_in_words words ≡ (split_range words >>= read_all)
 names_step words = ap ranges_among (words_cut words) ∙ site_step words (split_word words)
 
 -- so they are where those in front were read

@@ -87,16 +87,16 @@ TypesAtMost len (Recall pos) = Unit {0}
 TypesAtMost len Restore = Unit {0}
 
 -- a message that is told by its bytes has so many at most
-abbrev pub IsWithin : ℕ → Delivery → Type 0
-IsWithin len (Sent k) = Unit {0}
-IsWithin len (Bytes message) = length message ≤ len
+abbrev pub IsDeliveryWithin : ℕ → Delivery → Type 0
+IsDeliveryWithin len (Sent k) = Unit {0}
+IsDeliveryWithin len (Bytes message) = length message ≤ len
 
 -- the bytes, fronts and names that an event tells are no more than the bytes of a line of this length
 abbrev pub IsOfLine : ℕ → Event → Type 0
 IsOfLine len (Edits desk text e) = TypesAtMost len e
 IsOfLine len (EditsByNames desk text what names) = length names ≤ len
 IsOfLine len (Saves desk text save) = Unit {0}
-IsOfLine len (Takes desk text d) = IsWithin len d
+IsOfLine len (Takes desk text d) = IsDeliveryWithin len d
 IsOfLine len (Unpacks desk text chunk) = length chunk ≤ len
 IsOfLine len (Settles desk text) = Unit {0}
 IsOfLine len (Merges desk text other) = Unit {0}

@@ -10,14 +10,14 @@ use Rattle.operations.specs.Reading.{is_font_name}
 use Rattle.script_events.specs.Words.{◌>>=◌, some_if, is_word, front_word, number_in}
 
 -- what stands after this key, where a word begins with it
-abbrev pub value_of : (key word : List ℕ) → Option (List ℕ)
-value_of key word = some_if (is_word (take (length key) word) key) (drop (length key) word)
+abbrev pub value_after_key : (key word : List ℕ) → Option (List ℕ)
+value_after_key key word = some_if (is_word (take (length key) word) key) (drop (length key) word)
 
 -- the value of this key's attribute, where the words that are left begin with it; and the words that are then left
 abbrev pub split_value : (key : List ℕ) → Option (List ℕ) → Option (List ℕ) × Option (List ℕ)
 split_value key None = (None, None)
 split_value key (Some words) =
-    option_map_or (λ value. (Some value, (front_word words).1)) (value_of key (front_word words).0)
+    option_map_or (λ value. (Some value, (front_word words).1)) (value_after_key key (front_word words).0)
     (None, Some words)
 
 -- a font's name
@@ -45,8 +45,8 @@ given_or read default None = Some default
 given_or read default (Some value) = read value
 
 -- the looks of these values, with the default looks for what isn't given
-abbrev pub looks_of : (font colour offset : Option (List ℕ)) → Option Looks
-looks_of font colour offset = do
+abbrev pub looks_in_words : (font colour offset : Option (List ℕ)) → Option Looks
+looks_in_words font colour offset = do
   f ← given_or font_in plain_looks.font font
   c ← given_or colour_in plain_looks.colour colour
   o ← given_or offset_in plain_looks.offset offset
@@ -62,7 +62,7 @@ selection_in font colour offset =
 abbrev pub change_of : (font colour offset : Option (List ℕ)) → Option (Selection × Looks)
 change_of font colour offset = do
   sel ← selection_in (is_some font) (is_some colour) (is_some offset)
-  looks ← looks_of font colour offset
+  looks ← looks_in_words font colour offset
   Some (sel, looks)
 
 -- the attributes that these words give, where they are all that there is

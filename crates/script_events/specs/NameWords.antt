@@ -22,8 +22,8 @@ ranges_among (site ∷ at ∷ len ∷ words) =
     range_of_words site at len >>= λ names. option_map (λ others. names ∷ others) (ranges_among words)
 
 -- the names of a line's rest, of one site at least
-abbrev pub ranges_in : List ℕ → Option (List Range)
-ranges_in rest = ranges_among (words_of rest)
+abbrev pub ranges_in_words : List ℕ → Option (List Range)
+ranges_in_words rest = ranges_among (words_of rest)
 
 -- the names in front, and what stands after their blank, if they aren't the last ones
 abbrev pub split_range : List ℕ → Option (Range × Option (List ℕ))

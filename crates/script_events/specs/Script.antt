@@ -27,7 +27,7 @@ use Rattle.texts.specs.declared.by_names.ByNames.TheVariants.{Delete, Restore}
 use Rattle.texts.specs.declared.front.Front.{Front as SiteFront}
 use Rattle.script_events.specs.FrontWords.{fronts_in}
 use Rattle.script_events.specs.LooksWords.{change_in}
-use Rattle.script_events.specs.NameWords.{range_of_words, ranges_in}
+use Rattle.script_events.specs.NameWords.{range_of_words, ranges_in_words}
 use Rattle.script_events.specs.Words.{◌>>=◌, some_if, is_word, split_word, front_word, number_in, split_number, desk_in, text_in}
 use Rattle.script_events.specs.declared.event.verbs.ArrangeVerb.{ArrangeVerb}
 use Rattle.script_events.specs.declared.event.verbs.ArrangeVerb.TheVariants.{Close as Closes, Move as Moves, Open as Opens}
@@ -126,15 +126,15 @@ save_event desk text rest = do
   Some (copy desk text beg.0 end.0 other pos)
 
 -- names of a site that end the line
-abbrev pub names_in : List ℕ → Option Range
-names_in rest = do
+abbrev pub names_in_words : List ℕ → Option Range
+names_in_words rest = do
   site ← split_word rest
   at ← split_word site.1
   range_of_words site.0 at.0 at.1
 
 -- `where`: names of a site
 abbrev pub where_event : (desk text : ℕ) → List ℕ → Option Event
-where_event desk text rest = option_map (λ names. query desk text (WhereShown names)) (names_in rest)
+where_event desk text rest = option_map (λ names. query desk text (WhereShown names)) (names_in_words rest)
 
 -- `names`: from where to where
 abbrev pub names_event : (desk text : ℕ) → List ℕ → Option Event
@@ -263,7 +263,7 @@ fronts_event side desk text rest = option_map (λ fronts. query desk text (query
 
 -- what an edit by names goes on with after its text: the names; without any, what was cut last is shown again
 abbrev pub by_names_event : ByNames → (desk text : ℕ) → Option (List ℕ) → Option Event
-by_names_event what desk text (Some words) = option_map (λ names. edit_by_names desk text what names) (ranges_in words)
+by_names_event what desk text (Some words) = option_map (λ names. edit_by_names desk text what names) (ranges_in_words words)
 by_names_event Restore desk text None = Some (edit desk text restoration)
 by_names_event Delete desk text None = None
 

@@ -1,8 +1,8 @@
 ghost use Rattle.std.specs.Prelude.{◌≡◌, ℕ, ◌<◌, ◌≤◌, length, option_map, IfSome};
-ghost use Rattle.script_events.specs.EventView.{delivery_of, edit_of, event_of, event_or_unknown, IsInRun, IsOfLine, IsWithin};
+ghost use Rattle.script_events.specs.EventView.{delivery_of, edit_of, event_of, event_or_unknown, IsInRun, IsOfLine, IsDeliveryWithin};
 ghost use Rattle.script_events.specs.EventView.{OpensDeskText, TypesAtMost};
 ghost use Rattle.script_events.specs.Script.{arrangement_in, by_names_event, delivery_in, desk_event, edit_in, event_in};
-ghost use Rattle.script_events.specs.Script.{fronts_event, long_event, merge_event, names_event, names_in};
+ghost use Rattle.script_events.specs.Script.{fronts_event, long_event, merge_event, names_event, names_in_words};
 ghost use Rattle.script_events.specs.Script.{where_event, save_event, short_event, verb_event};
 
 mod arrangements;
@@ -193,7 +193,7 @@ struct RunSites {
 // How a message is told.
 fn delivery_in(word: &[u8]) -> Option<Delivery<'_>>
     ensures delivery { option_map delivery_of result ≡ delivery_in word.now }
-    ensures within { IfSome result (λ told. (len : ℕ) → length word.now ≤ len → IsWithin len told) }
+    ensures within { IfSome result (λ told. (len : ℕ) → length word.now ≤ len → IsDeliveryWithin len told) }
 {
     match word {
         [b'm', number @ ..] => Some(Delivery::Sent(number_in(number)?)),
@@ -222,7 +222,7 @@ fn save_event(desk: usize, text: TextNo, rest: &[u8]) -> Option<Event<'_>>
 
 // Names of a site that end the line.
 fn names_in(rest: &[u8]) -> Option<NameRange>
-    ensures { result ≡ names_in rest.now }
+    ensures { result ≡ names_in_words rest.now }
 {
     let (site, rest) = split_word(rest)?;
     let (at, len) = split_word(rest)?;

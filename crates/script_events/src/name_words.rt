@@ -2,7 +2,7 @@
 
 ghost use Rattle.std.specs.Prelude.{◌≡◌, ◌+◌, ◌<◌, ◌≤◌, ◌++◌, ℕ, length, option_map, IfSome};
 ghost use Rattle.std.specs.Prelude.{vec_capacity, vec_len};
-ghost use Rattle.script_events.specs.NameWords.{range_of_words, ranges_in, split_range};
+ghost use Rattle.script_events.specs.NameWords.{range_of_words, ranges_in_words, split_range};
 
 use crate::event::words::{front_word, number_in, split_word};
 use char_files::{MAX_FILE, SiteNo};
@@ -21,13 +21,13 @@ pub struct NameWords<'a> {
 impl<'a> Model for NameWords<'a> {
     ghost use Rattle.std.specs.Prelude.{List, [], IsSome, unwrap_or};
     ghost use Rattle.operations.specs.NameSet.{Range};
-    ghost use Rattle.script_events.specs.NameWords.{ranges_in};
+    ghost use Rattle.script_events.specs.NameWords.{ranges_in_words};
 
     ghost Value = { List Range };
 
-    ghost view = { λ n. unwrap_or (ranges_in n.words.now) [] };
+    ghost view = { λ n. unwrap_or (ranges_in_words n.words.now) [] };
 
-    ghost invariant = { λ n. IsSome (ranges_in n.words.now) };
+    ghost invariant = { λ n. IsSome (ranges_in_words n.words.now) };
 }
 
 // Names of a site, as a message has them too: the site, the first one's offset, and how many they are.
@@ -57,7 +57,7 @@ fn split_range(words: &[u8]) -> Option<(NameRange, Option<&[u8]>)>
 impl<'a> NameWords<'a> {
     /// The names that these words spell, or `None` where they spell none.
     pub fn new(words: &'a [u8]) -> Option<NameWords<'a>>
-        ensures names { result ≡ ranges_in words.now }
+        ensures names { result ≡ ranges_in_words words.now }
         ensures shorter { IfSome result (λ names. (len : ℕ) → length words.now ≤ len → length names ≤ len) }
     {
         let mut rest = Some(words);

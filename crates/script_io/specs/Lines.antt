@@ -28,11 +28,11 @@ BreaksLine failed part = (IsTrue failed × IsRaw part) ⊎ IsTooLong part
 
 -- What taking a line from the script answers: a line that a newline ends; the last line, without one; the
 -- end; or a fault, in a line that has not ended, where the reader has failed or the line is too long.
-abbrev pub Takes : (failed : Bool) → Option (List ℕ) → Option (List ℕ) → Result NextLine Refusal → List ℕ
+abbrev pub TakesLine : (failed : Bool) → Option (List ℕ) → Option (List ℕ) → Result NextLine Refusal → List ℕ
     → Type 0
-Takes failed old new (Ok Line) line =
+TakesLine failed old new (Ok Line) line =
     (raw : List ℕ) × IsRaw raw × Consumes old new (raw ++ 10 ∷ []) × (line ≡ without_return raw)
-Takes failed old new (Ok Last) line = IsRaw line × (line ≢ []) × Consumes old new line × IsAtEnd new
-Takes failed old new (Ok End) line = Consumes old new [] × IsAtEnd new
-Takes failed old new (Err why) line =
+TakesLine failed old new (Ok Last) line = IsRaw line × (line ≢ []) × Consumes old new line × IsAtEnd new
+TakesLine failed old new (Ok End) line = Consumes old new [] × IsAtEnd new
+TakesLine failed old new (Err why) line =
     (why ≡ ReadFault) × ((part : List ℕ) × BreaksLine failed part × Consumes old new part)

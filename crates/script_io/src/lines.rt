@@ -1,5 +1,5 @@
 ghost use Rattle.std.specs.Prelude.{◌≡◌, ◌≤◌, ◌⊎◌, Contains, IsTrue, OnOk, vec_capacity};
-ghost use Rattle.script_io.specs.Lines.{Takes, without_return};
+ghost use Rattle.script_io.specs.Lines.{TakesLine, without_return};
 
 use crate::input::Input;
 use crate::output::Output;
@@ -42,7 +42,7 @@ pub fn next_line<R: Read + Drop, W: Write>(
 ) -> Result<NextLine, Refusal>
     requires out { Contains input.old.held 10 ⊎ IsTrue output.now.flushed }
     requires room { MAX_LINE ≤ vec_capacity line.old }
-    ensures taken { Takes input.new.failed input.old.left input.new.left
+    ensures taken { TakesLine input.new.failed input.old.left input.new.left
         result line.new.items }
     ensures whole { OnOk result (input.new.failed ≡ input.old.failed) }
     ensures room { MAX_LINE ≤ vec_capacity line.new }

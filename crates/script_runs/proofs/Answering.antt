@@ -4,8 +4,8 @@ use Rattle.std.specs.Prelude.{MatchBool}
 use Rattle.shelf.specs.Files.{Files}
 use Rattle.machine_laws.proofs.Going.{TextsGo, as_they_are, replies_go}
 use Rattle.commands.specs.Steps.{ShelfSeen}
-use Rattle.script_runs.specs.Seen.{OverBoth, OverFiles, SitesSeen, run_of, sent_after, texts_of}
-use Rattle.script_runs.specs.Sent.{AreHeld, AreSound, messages_at}
+use Rattle.script_runs.specs.Seen.{OverBoth, OverFiles, SitesSeen, run_seen, sent_after, texts_of}
+use Rattle.script_runs.specs.Sent.{AreSentOperations, AreSound, messages_at}
 use Rattle.script_runs.specs.Trace.{Answers, Run, Shelved, is_silent}
 use Rattle.script_runs.specs.declared.sent_at.SentAt.{SentAt}
 use Rattle.script_runs.proofs.Keeping.{same_messages, still_held, still_sound}
@@ -34,24 +34,24 @@ from_both (Some was) (Some now) faults faults' P Q follows holds =
 -- a line is answered by the desks, where the messages that are noted so were sent before those that they hold
 abbrev pub AnsweredAfter : (s new : SitesSeen) (told told' : ShelfSeen) (line answer : List ℕ) → List SentAt → Type 0
 AnsweredAfter s new told told' line answer noted = OverFiles told told' (λ was now.
-    Answers (run_of (sent_after (messages_at (texts_of s) noted) s) was) line answer (run_of (sent_after (messages_at (texts_of s) noted) new) now))
+    Answers (run_seen (sent_after (messages_at (texts_of s) noted) s) was) line answer (run_seen (sent_after (messages_at (texts_of s) noted) new) now))
 
 -- then what was noted is so still, and so are the texts
 module _ (s new : SitesSeen) (told told' : ShelfSeen) (line answer : List ℕ) (noted : List SentAt) (answered : AnsweredAfter s new told told' line answer noted)
-    (held : AreHeld (texts_of s) noted) (sound : AreSound (texts_of s)) where
+    (held : AreSentOperations (texts_of s) noted) (sound : AreSound (texts_of s)) where
   -- the run before, and after
   abbrev run_was : Shelved → Run
-  run_was was = run_of (sent_after (messages_at (texts_of s) noted) s) was
+  run_was was = run_seen (sent_after (messages_at (texts_of s) noted) s) was
 
   abbrev run_now : Shelved → Run
-  run_now now = run_of (sent_after (messages_at (texts_of s) noted) new) now
+  run_now now = run_seen (sent_after (messages_at (texts_of s) noted) new) now
 
   follows_of : (Q : Type 0) → ((was now : Shelved) → TextsGo (run_was was).state (run_now now).state → Q) → Q
   follows_of Q follows = from_both told.files told'.files told.faults told'.faults (λ was now. Answers (run_was was) line answer (run_now now)) Q
       (λ was now holds. follows was now (answers_go (run_was was) (run_now now) line answer holds)) answered
 
-  pub held_then : AreHeld (texts_of new) noted
-  held_then = follows_of (AreHeld (texts_of new) noted)
+  pub held_then : AreSentOperations (texts_of new) noted
+  held_then = follows_of (AreSentOperations (texts_of new) noted)
       (λ was now goes. still_held (run_was was).state (run_now now).state goes (λ i text t there. (sound i text t there).0) noted held)
 
   pub sound_then : AreSound (texts_of new)
@@ -64,11 +64,11 @@ module _ (s new : SitesSeen) (told told' : ShelfSeen) (line answer : List ℕ) (
   -- and the run has gone on to the desks that have let messages go
   pub answered_then : (end : SitesSeen) (noted' : List SentAt)
       → sent_after (messages_at (texts_of end) noted') end ≡ sent_after (messages_at (texts_of new) noted) new
-      → OverFiles told told' (λ was now. Answers (run_was was) line answer (run_of (sent_after (messages_at (texts_of end) noted') end) now))
+      → OverFiles told told' (λ was now. Answers (run_was was) line answer (run_seen (sent_after (messages_at (texts_of end) noted') end) now))
   answered_then end noted' is =
       let same : sent_after (messages_at (texts_of s) noted) new ≡ sent_after (messages_at (texts_of end) noted') end =
       ap (λ (m : List (List ℕ)). sent_after m new) (sym same_then) ∙ sym is in
-      subst (λ (x : SitesSeen). OverFiles told told' (λ was now. Answers (run_was was) line answer (run_of x now))) same answered
+      subst (λ (x : SitesSeen). OverFiles told told' (λ was now. Answers (run_was was) line answer (run_seen x now))) same answered
 
 -- their texts are sound still
 pub sound_end : (new end : SitesSeen) (noted noted' : List SentAt)

@@ -16,7 +16,7 @@ use Rattle.machine.specs.OnTexts.{CopiesText, CopiesTextShort, EditsNames, Edits
 use Rattle.machine.specs.OnTexts.{SettlesText, TakesText, TakesTextShort, UnpacksText, UnpacksTextShort}
 use Rattle.machine.specs.State.{AtText, IsDeskAt, Refuses, State}
 use Rattle.machine.specs.Tasks.{AtCaret, BeginsAs, BeginsWith, DoesTask, EditSteps, EditsAt, EditsShortAt, FileBecomes, IfCaret, Loads}
-use Rattle.machine.specs.Tasks.{LoadsShort, Reopens, ReopensShort, Searches, ShortTask, Writes, has_begun}
+use Rattle.machine.specs.Tasks.{LoadsShort, Reopens, ReopensShort, Searches, ShortTask, Writes, text_has_begun}
 use Rattle.machine.specs.Windows.{Arranged, Caret, Screened, Window, arranged}
 use Rattle.machine.specs.declared.asked.Arrangement.TheVariants.{Close, Move, Open, Point, Scroll, Select}
 use Rattle.machine_laws.proofs.OneReply.{ComesTo}
@@ -158,7 +158,7 @@ module _ (before : List (List ℕ)) where
     task_later (print v) part r new (free, is, same) = (free, is, ap later same)
     task_later (keep form text name) part r new (t, there, does) = (t, there, written_later s _ _ name _ part r new does)
     task_later (reopen text name) part r new (t, there, does) =
-        (t, there, reopened_later s i text t name part (has_begun t) r new does)
+        (t, there, reopened_later s i text t name part (text_has_begun t) r new does)
 
     short_later : (t : Task) (part : Part) (r : Reply) (new : State) → ShortTask s i d w t part r new
         → ShortTask (later s) i d w t part r (later new)

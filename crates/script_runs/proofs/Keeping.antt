@@ -24,7 +24,7 @@ use Rattle.machine_laws.proofs.Growing.{copies_grow, copies_short_grow, edits_gr
 use Rattle.machine_laws.proofs.Growing.{merges_short_grow, named_edits_grow, named_edits_short_grow, settles_grow, takes_grow, takes_short_grow}
 use Rattle.machine_laws.proofs.Reaching.{new_are_texts, new_texts}
 use Rattle.machine_laws.proofs.Unpacking.{unpacks_grow, unpacks_short_grow}
-use Rattle.script_runs.specs.Sent.{AreHeld, AreSound, IsHeld, StandsAt, message_at, messages_at, op_at}
+use Rattle.script_runs.specs.Sent.{AreSentOperations, AreSound, IsOperationAt, IsSentOperation, messages_at, op_at, sent_message}
 use Rattle.script_runs.specs.declared.sent_at.SentAt.{SentAt}
 
 -- each operation stays at its place
@@ -80,11 +80,11 @@ at_same : {X : Type 0} (xs : List X) (i j : ℕ) (x y : X) → j ≡ i → slice
 at_same xs i j x y e at_j at_i = same_Some x y (sym at_j ∙ ap (slice_get xs) e ∙ at_i)
 
 -- an operation that stands in one of the desks' texts stays there
-pub stays : (s new : State) → TextsGo s new → AreTexts s → (at : SentAt) (op : Operation) → StandsAt s.desks at op
-    → StandsAt new.desks at op
-stays s new (as_they_are same) are at op stands = subst (λ (desks : List SiteTexts). StandsAt desks at op) (sym same) stands
+pub stays : (s new : State) → TextsGo s new → AreTexts s → (at : SentAt) (op : Operation) → IsOperationAt s.desks at op
+    → IsOperationAt new.desks at op
+stays s new (as_they_are same) are at op stands = subst (λ (desks : List SiteTexts). IsOperationAt desks at op) (sym same) stands
 stays s new (by_text i text d d' in_run (t, u, of_d, (t', goes, told), is_d') desks) are at op stands =
-    subst (λ (x : List SiteTexts). StandsAt x at op) (sym desks) (elim (set_either s.desks i at.desk stands.desk d' stands.in_run) [
+    subst (λ (x : List SiteTexts). IsOperationAt x at op) (sym desks) (elim (set_either s.desks i at.desk stands.desk d' stands.in_run) [
       | inr other ↦ record {
         on_desk = stands.on_desk;
         desk = stands.desk;
@@ -100,7 +100,7 @@ stays s new (by_text i text d d' in_run (t, u, of_d, (t', goes, told), is_d') de
     kept p x there = subst (λ (y : TextState). slice_get y.operations p ≡ Some x) (sym told)
         (text_keeps s t t' (are i text t (d, in_run, of_d)) goes p x there)
 
-    on_desk : at.desk ≡ i → slice_get (slice_set s.desks i d') at.desk ≡ Some d' → StandsAt (slice_set s.desks i d') at op
+    on_desk : at.desk ≡ i → slice_get (slice_set s.desks i d') at.desk ≡ Some d' → IsOperationAt (slice_set s.desks i d') at op
     on_desk e there =
         let same : stands.desk ≡ d = at_same s.desks i at.desk stands.desk d e stands.in_run in_run in
         let of_text : slice_get d.texts (at.text - 1) ≡ Some stands.text =
@@ -127,31 +127,31 @@ stays s new (by_text i text d d' in_run (t, u, of_d, (t', goes, told), is_d') de
         ]
 
 -- the operation that stands at a place is the one that is found there, and its spelling is the message
-pub found_at : (desks : List SiteTexts) (at : SentAt) (op : Operation) → StandsAt desks at op → op_at desks at ≡ Some op
+pub found_at : (desks : List SiteTexts) (at : SentAt) (op : Operation) → IsOperationAt desks at op → op_at desks at ≡ Some op
 found_at desks at op stands =
     ap (option_and_then (λ (d : SiteTexts). option_and_then (λ (t : TextState). slice_get t.operations at.place) (slice_get d.texts (at.text - 1)))) stands.in_run
     ∙ ap (option_and_then (λ (t : TextState). slice_get t.operations at.place)) stands.of_desk ∙ stands.taken
 
-pub told_at : (desks : List SiteTexts) (at : SentAt) (op : Operation) → StandsAt desks at op → message_at desks at ≡ spelling op
+pub told_at : (desks : List SiteTexts) (at : SentAt) (op : Operation) → IsOperationAt desks at op → sent_message desks at ≡ spelling op
 told_at desks at op stands = ap (λ (o : Option Operation). option_map_or spelling o []) (found_at desks at op stands)
 
 -- two operations that stand at one place are one
-pub one_at : (desks : List SiteTexts) (at : SentAt) (op other : Operation) → StandsAt desks at op → StandsAt desks at other → op ≡ other
+pub one_at : (desks : List SiteTexts) (at : SentAt) (op other : Operation) → IsOperationAt desks at op → IsOperationAt desks at other → op ≡ other
 one_at desks at op other a b = same_Some op other (sym (found_at desks at op a) ∙ found_at desks at other b)
 
 -- what is held of the messages is held after each event, and they are the same
-pub still_held : (s new : State) → TextsGo s new → AreTexts s → (sent : List SentAt) → AreHeld s.desks sent → AreHeld new.desks sent
-still_held s new go are sent held = All-weaker (IsHeld s.desks) (IsHeld new.desks)
+pub still_held : (s new : State) → TextsGo s new → AreTexts s → (sent : List SentAt) → AreSentOperations s.desks sent → AreSentOperations new.desks sent
+still_held s new go are sent held = All-weaker (IsSentOperation s.desks) (IsSentOperation new.desks)
     (λ at (op, stands, valid). (op, stays s new go are at op stands, valid)) sent held
 
-pub same_messages : (s new : State) → TextsGo s new → AreTexts s → (sent : List SentAt) → AreHeld s.desks sent
+pub same_messages : (s new : State) → TextsGo s new → AreTexts s → (sent : List SentAt) → AreSentOperations s.desks sent
     → messages_at new.desks sent ≡ messages_at s.desks sent
 same_messages s new go are [] held = refl
 same_messages s new go are (at ∷ sent) held =
-    let (op, stands, valid) = All-head (IsHeld s.desks) at sent held in
-    let here : message_at new.desks at ≡ message_at s.desks at =
+    let (op, stands, valid) = All-head (IsSentOperation s.desks) at sent held in
+    let here : sent_message new.desks at ≡ sent_message s.desks at =
     told_at new.desks at op (stays s new go are at op stands) ∙ sym (told_at s.desks at op stands) in
-    let rest = same_messages s new go are sent (All-tail (IsHeld s.desks) at sent held) in
+    let rest = same_messages s new go are sent (All-tail (IsSentOperation s.desks) at sent held) in
     λ k. here k ∷ rest k
 
 -- the texts stay sound

@@ -9,7 +9,7 @@ use Rattle.hex.specs.Hex.{encode_lower}
 use Rattle.desk_texts.proofs.HexDigits.{encode_lower-append}
 use Rattle.looks.specs.declared.refusal.Refusal.{Refusal}
 use Rattle.script_runs.specs.Answers.{send_line, send_lines}
-use Rattle.script_runs.specs.Writing.{Writes}
+use Rattle.script_runs.specs.Writing.{WritesBytes}
 use Rattle.script_runs.proofs.WriteLemmas.{writes_after, writes_stopped}
 
 -- a list at an index: what is before it, the element there, and what is after it
@@ -22,10 +22,10 @@ hex_more a b c done stretch p q = subst (Appends a c) (sym (encode_lower-append 
 
 -- a fault in the hex of a stretch
 pub hex_stopped : (result : Result (Unit {0}) Refusal) (failed : Bool) (why : Refusal) (old mid new : Option (List ℕ)) (done stretch after : List ℕ) → Appends old mid (encode_lower done)
-    → IsErrAnd result (λ e. e ≡ why) → Writes (Err why) failed mid new (encode_lower stretch) → Writes result failed old new (encode_lower (done ++ (stretch ++ after)))
+    → IsErrAnd result (λ e. e ≡ why) → WritesBytes (Err why) failed mid new (encode_lower stretch) → WritesBytes result failed old new (encode_lower (done ++ (stretch ++ after)))
 hex_stopped result failed why old mid new done stretch after p e w =
     let whole = encode_lower-append done (stretch ++ after) ∙ ap (λ (r : List ℕ). encode_lower done ++ r) (encode_lower-append stretch after) in
-    subst (Writes result failed old new) (sym whole) (writes_after result failed old mid new (encode_lower done) (encode_lower stretch ++ encode_lower after) p (writes_stopped result failed why mid new (encode_lower stretch) (encode_lower after) e w))
+    subst (WritesBytes result failed old new) (sym whole) (writes_after result failed old mid new (encode_lower done) (encode_lower stretch ++ encode_lower after) p (writes_stopped result failed why mid new (encode_lower stretch) (encode_lower after) e w))
 
 send_lines-append : (k : ℕ) (xs ys : List (List ℕ)) → send_lines k (xs ++ ys) ≡ send_lines k xs ++ send_lines (k + length xs) ys
 send_lines-append k [] ys =
@@ -75,7 +75,7 @@ sends_more a b c sent so_many from index m le is p q =
 
 -- a fault in the line of a message
 pub sends_stopped : (result : Result (Unit {0}) Refusal) (failed : Bool) (why : Refusal) (old mid new : Option (List ℕ)) (sent : List (List ℕ)) (so_many from index : ℕ) (m : List ℕ) → from ≤ index → slice_get sent index ≡ Some m
-    → Appends old mid (send_lines (so_many + from) (take (index - from) (drop from sent))) → IsErrAnd result (λ e. e ≡ why) → Writes (Err why) failed mid new (send_line (so_many + index + 1) m) → Writes result failed old new (send_lines (so_many + from) (drop from sent))
+    → Appends old mid (send_lines (so_many + from) (take (index - from) (drop from sent))) → IsErrAnd result (λ e. e ≡ why) → WritesBytes (Err why) failed mid new (send_line (so_many + index + 1) m) → WritesBytes result failed old new (send_lines (so_many + from) (drop from sent))
 sends_stopped result failed why old mid new sent so_many from index m le is p e w =
     let rest = drop from sent in
     let before = take (index - from) rest in
@@ -86,4 +86,4 @@ sends_stopped result failed why old mid new sent so_many from index m le is p e 
     let lines = ap (send_lines (so_many + from)) split ∙ send_lines-split (so_many + from) (so_many + index) m before after number in
     let line = send_line (so_many + index + 1) m in
     let later = send_lines (so_many + index + 1) after in
-    subst (Writes result failed old new) (sym lines) (writes_after result failed old mid new (send_lines (so_many + from) before) (line ++ later) p (writes_stopped result failed why mid new line later e w))
+    subst (WritesBytes result failed old new) (sym lines) (writes_after result failed old mid new (send_lines (so_many + from) before) (line ++ later) p (writes_stopped result failed why mid new line later e w))

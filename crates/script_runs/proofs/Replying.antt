@@ -19,7 +19,7 @@ use Rattle.script_events.specs.Script.{event_in}
 use Rattle.script_runs.specs.Answers.{refused_line, reply_lines}
 use Rattle.script_runs.specs.Replying.{reply_of}
 use Rattle.script_runs.specs.declared.reply.Reply.{Reply as Answered}
-use Rattle.script_runs.specs.Seen.{OverFiles, Replied, SitesSeen, Stepped, run_of, sent_after, state_of}
+use Rattle.script_runs.specs.Seen.{OverFiles, Replied, SitesSeen, Stepped, run_seen, sent_after, state_of}
 use Rattle.script_runs.proofs.Before.{NamesNone, replied_after}
 use Rattle.script_runs.proofs.Filing.{over_same, over_weaker}
 use Rattle.script_runs.specs.Trace.{Answers, Run, Shelved, Step, is_silent}
@@ -70,13 +70,13 @@ pub other_step : (s new : SitesSeen) (e : Event) (r : Reply) → Replied s e r n
 other_step s new e r replied = λ has. (untouched, r, refl, replied has.files, refl)
 
 -- over files that stay
-pub stepped_over : (told : ShelfSeen) (s new : SitesSeen) (e : Event) (answer : List ℕ) → Stepped s e answer new → OverFiles told told (λ was now. Step (run_of s was) e answer (run_of new now))
-stepped_over told s new e answer stepped = over_same told (λ was now. Step (run_of s was) e answer (run_of new now)) stepped
+pub stepped_over : (told : ShelfSeen) (s new : SitesSeen) (e : Event) (answer : List ℕ) → Stepped s e answer new → OverFiles told told (λ was now. Step (run_seen s was) e answer (run_seen new now))
+stepped_over told s new e answer stepped = over_same told (λ was now. Step (run_seen s was) e answer (run_seen new now)) stepped
 
 -- an edit, where these messages were sent before
 pub edited_over : (told : ShelfSeen) (before : List (List ℕ)) (s new : SitesSeen) (e : Event) (result : Result ℕ EditRefusal) → NamesNone e
     → (messages : List (List ℕ)) × Replied s e (edit_reply result messages) new
-    → OverFiles told told (λ was now. Step (run_of (sent_after before s) was) e (change_lines (sent_after before s) result (sent_after before new)) (run_of (sent_after before new) now))
+    → OverFiles told told (λ was now. Step (run_seen (sent_after before s) was) e (change_lines (sent_after before s) result (sent_after before new)) (run_seen (sent_after before new) now))
 edited_over told before s new e result none (messages, replied) =
     let after : SitesSeen = sent_after before new in
     stepped_over told (sent_after before s) after e (change_lines (sent_after before s) result after)
@@ -84,7 +84,7 @@ edited_over told before s new e result none (messages, replied) =
 
 -- and any other event that names none of them
 pub replied_over : (told : ShelfSeen) (before : List (List ℕ)) (s new : SitesSeen) (e : Event) (r : Reply) → NamesNone e → Replied s e r new
-    → OverFiles told told (λ was now. Step (run_of (sent_after before s) was) e (reply_lines (length (before ++ s.sent)) r) (run_of (sent_after before new) now))
+    → OverFiles told told (λ was now. Step (run_seen (sent_after before s) was) e (reply_lines (length (before ++ s.sent)) r) (run_seen (sent_after before new) now))
 replied_over told before s new e r none replied =
     let after : SitesSeen = sent_after before new in
     stepped_over told (sent_after before s) after e (reply_lines (length (before ++ s.sent)) r)
@@ -118,19 +118,19 @@ pub unknown_step : (s : SitesSeen) → Stepped s (unknown) (refused_line BadEven
 unknown_step s = other_step s s unknown (refuses BadEvent) (λ files. inl (refl, (refl, refl)))
 
 -- a line that isn't silent is answered by a step
-pub line_step : (s : SitesSeen) (was : Shelved) (new : Run) (line answer : List ℕ) → is_silent line ≡ false → Step (run_of s was) (event_in s.first (length s.desks) line) answer new
-    → Answers (run_of s was) line answer new
+pub line_step : (s : SitesSeen) (was : Shelved) (new : Run) (line answer : List ℕ) → is_silent line ≡ false → Step (run_seen s was) (event_in s.first (length s.desks) line) answer new
+    → Answers (run_seen s was) line answer new
 line_step s was new line answer heard step =
     let count : length s.desks ≡ length (map (λ (d : DeskSeen). d.texts) s.desks) = sym (length-map s.desks (λ (d : DeskSeen). d.texts)) in
-    rw heard (subst (λ (n : ℕ). Step (run_of s was) (event_in s.first n line) answer new) count step)
+    rw heard (subst (λ (n : ℕ). Step (run_seen s was) (event_in s.first n line) answer new) count step)
 
 -- over the files that a shelf tells
 pub line_over : (told told' : ShelfSeen) (s new : SitesSeen) (line answer : List ℕ) (e : Event) → is_silent line ≡ false → e ≡ event_in s.first (length s.desks) line
-    → OverFiles told told' (λ was now. Step (run_of s was) e answer (run_of new now)) → OverFiles told told' (λ was now. Answers (run_of s was) line answer (run_of new now))
+    → OverFiles told told' (λ was now. Step (run_seen s was) e answer (run_seen new now)) → OverFiles told told' (λ was now. Answers (run_seen s was) line answer (run_seen new now))
 line_over told told' s new line answer e heard asked stepped =
-    over_weaker told told' (λ was now. Step (run_of s was) e answer (run_of new now)) (λ was now. Answers (run_of s was) line answer (run_of new now))
-    (λ was now step. line_step s was (run_of new now) line answer heard (subst (λ (x : Event). Step (run_of s was) x answer (run_of new now)) asked step)) stepped
+    over_weaker told told' (λ was now. Step (run_seen s was) e answer (run_seen new now)) (λ was now. Answers (run_seen s was) line answer (run_seen new now))
+    (λ was now step. line_step s was (run_seen new now) line answer heard (subst (λ (x : Event). Step (run_seen s was) x answer (run_seen new now)) asked step)) stepped
 
 -- and one that is, by nothing
-pub silent_over : (told : ShelfSeen) (s : SitesSeen) (line : List ℕ) → is_silent line ≡ true → OverFiles told told (λ was now. Answers (run_of s was) line [] (run_of s now))
-silent_over told s line silent = over_same told (λ was now. Answers (run_of s was) line [] (run_of s now)) (λ has. rw silent (refl, refl))
+pub silent_over : (told : ShelfSeen) (s : SitesSeen) (line : List ℕ) → is_silent line ≡ true → OverFiles told told (λ was now. Answers (run_seen s was) line [] (run_seen s now))
+silent_over told s line silent = over_same told (λ was now. Answers (run_seen s was) line [] (run_seen s now)) (λ has. rw silent (refl, refl))

@@ -22,7 +22,7 @@ use Rattle.machine.specs.declared.TheConstants.{MAX_TEXT}
 use Rattle.machine_laws.proofs.Telling.{put_back, told_same}
 use Rattle.commands.specs.Steps.{DeskSeen}
 use Rattle.script_runs.specs.Seen.{SitesSeen, TakesMessage, sent_after, state_of, texts_of}
-use Rattle.script_runs.specs.Sent.{AreHeld, IsHeld, IsTold, StandsAt, message_at, messages_at}
+use Rattle.script_runs.specs.Sent.{AreSentOperations, IsOperationAt, IsSentOperation, IsToldAt, messages_at, sent_message}
 use Rattle.script_runs.specs.declared.sent_at.SentAt.{SentAt}
 use Rattle.script_runs.proofs.Keeping.{get_left, told_at}
 use Rattle.script_runs.proofs.Replying.{message_sent}
@@ -47,7 +47,7 @@ desk_texts_at s i d at = slice_get-map (λ (x : DeskSeen). x.texts) s.desks i �
 
 -- an operation stands at each place of a text
 pub stands_there : (s : SitesSeen) (at : SentAt) (d : DeskSeen) (t : TextState) → slice_get s.desks at.desk ≡ Some d → IsTextOf d.texts at.text t
-    → at.text ≤ MAX_TEXT → at.place < length t.operations → (op : Operation) × StandsAt (texts_of s) at op
+    → at.text ≤ MAX_TEXT → at.place < length t.operations → (op : Operation) × IsOperationAt (texts_of s) at op
 stands_there s at d t in_run of_desk on_desk within =
     let (op, taken) = some_at t.operations at.place within in (
       op,
@@ -61,17 +61,17 @@ of_ok (Err e) P x is holds = absurd cc
 
 -- one message more is noted
 pub note_more : (desks : List SiteTexts) (messages : List (List ℕ)) (index : ℕ) (message : List ℕ) (noted : List SentAt) (at : SentAt)
-    → slice_get messages index ≡ Some message → messages_at desks noted ≡ take index messages → IsTold desks message at
+    → slice_get messages index ≡ Some message → messages_at desks noted ≡ take index messages → IsToldAt desks message at
     → messages_at desks (noted ++ at ∷ []) ≡ take (index + 1) messages
 note_more desks messages index message noted at there all (op, stands_at, valid, spelled) =
-    let here : message_at desks at ≡ get_or messages index message =
+    let here : sent_message desks at ≡ get_or messages index message =
     told_at desks at op stands_at ∙ sym spelled ∙ sym (get_or_from_slice_get messages index message message there) in
-    map-append (message_at desks) noted (at ∷ []) ∙ (λ k. all k ++ here k ∷ [])
+    map-append (sent_message desks) noted (at ∷ []) ∙ (λ k. all k ++ here k ∷ [])
     ∙ sym (take_more messages index message (slice_get_within messages index message there))
 
 -- all messages are
-pub all_noted : (desks : List SiteTexts) (was : List SentAt) (more : List SentAt) → AreHeld desks was → AreHeld desks more → AreHeld desks (was ++ more)
-all_noted desks was more held held_more = All-append (IsHeld desks) was more held held_more
+pub all_noted : (desks : List SiteTexts) (was : List SentAt) (more : List SentAt) → AreSentOperations desks was → AreSentOperations desks more → AreSentOperations desks (was ++ more)
+all_noted desks was more held held_more = All-append (IsSentOperation desks) was more held held_more
 
 -- a message that is named by its number, and whose operation can't be read, for want of memory
 short_state : (s : State) (i text : ℕ) (d : SiteTexts) (t : TextState) (told : Delivery) (message : List ℕ) → slice_get s.desks i ≡ Some d → IsTextOf d text t
@@ -83,22 +83,22 @@ short_state s i text d t told message at_i is_t asked is spells =
     inr (refl, (message, is, (d, d, at_i, (t, t, is_t, (t, (Err OutOfMemory, inl (spells, (refl, refl)), refl), sym (told_same t asked)), texts), all)))
 
 pub refused_noted : (s : SitesSeen) (i text : ℕ) (d : DeskSeen) (at : SentAt) (r : Result Took Refusal) (why : Refusal) → slice_get s.desks i ≡ Some d
-    → ((t : TextState) × IsTextOf d.texts text t × IsText t × (t.asked ≡ length t.operations)) → IsHeld (texts_of s) at → why ≡ OutOfMemory
-    → IsErrAnd r (λ e. e ≡ why) → TakesMessage s i text (message_at (texts_of s) at) r s
+    → ((t : TextState) × IsTextOf d.texts text t × IsText t × (t.asked ≡ length t.operations)) → IsSentOperation (texts_of s) at → why ≡ OutOfMemory
+    → IsErrAnd r (λ e. e ≡ why) → TakesMessage s i text (sent_message (texts_of s) at) r s
 refused_noted s i text d at (Ok took) why at_i has held short e = absurd e
 refused_noted s i text d at (Err e) why at_i (t, there, is_t, asked) (op, stands_at, valid) short is =
-    subst (λ (w : Refusal). TakesMessage s i text (message_at (texts_of s) at) (Err w) s) (sym (is ∙ short))
-    (λ before told in_run files. short_state (state_of (sent_after before s) files) i text d.texts t told (message_at (texts_of s) at)
+    subst (λ (w : Refusal). TakesMessage s i text (sent_message (texts_of s) at) (Err w) s) (sym (is ∙ short))
+    (λ before told in_run files. short_state (state_of (sent_after before s) files) i text d.texts t told (sent_message (texts_of s) at)
     (stands (sent_after before s) files i d at_i).texts there asked (in_run files) (λ none. none op valid (told_at (texts_of s) at op stands_at)))
 
 -- the message of a number among those that were noted
 pub noted_sent : (s : SitesSeen) (noted : List SentAt) (k : ℕ) (at : SentAt) (files : Files) → 0 < k → slice_get noted (k - 1) ≡ Some at
-    → message_in (state_of (sent_after (messages_at (texts_of s) noted) s) files) (sent k) ≡ Some (message_at (texts_of s) at)
+    → message_in (state_of (sent_after (messages_at (texts_of s) noted) s) files) (sent k) ≡ Some (sent_message (texts_of s) at)
 noted_sent s noted k at files some there =
-    let first : slice_get (messages_at (texts_of s) noted) (k - 1) ≡ Some (message_at (texts_of s) at) =
-    slice_get-map (message_at (texts_of s)) noted (k - 1) ∙ ap (option_map (message_at (texts_of s))) there in
-    message_sent (state_of (sent_after (messages_at (texts_of s) noted) s) files) k (message_at (texts_of s) at) some
-    (get_left (messages_at (texts_of s) noted) s.sent (k - 1) (message_at (texts_of s) at) first)
+    let first : slice_get (messages_at (texts_of s) noted) (k - 1) ≡ Some (sent_message (texts_of s) at) =
+    slice_get-map (sent_message (texts_of s)) noted (k - 1) ∙ ap (option_map (sent_message (texts_of s))) there in
+    message_sent (state_of (sent_after (messages_at (texts_of s) noted) s) files) k (sent_message (texts_of s) at) some
+    (get_left (messages_at (texts_of s) noted) s.sent (k - 1) (sent_message (texts_of s) at) first)
 
 -- and among those that were sent after these
 pub held_sent : (s : SitesSeen) (before : List (List ℕ)) (index : ℕ) (message : List ℕ) (files : Files) → slice_get s.sent index ≡ Some message

@@ -27,7 +27,7 @@ use Rattle.script_runs.proofs.Before.{NamesNone, replies_later}
 use Rattle.script_runs.proofs.Merging.{merged_itself}
 use Rattle.script_runs.proofs.Replying.{answer_step, no_message, other_step}
 use Rattle.script_runs.specs.Answers.{reply_lines}
-use Rattle.script_runs.specs.Seen.{OverBoth, OverFiles, Replied, SitesSeen, Stepped, run_of, sent_after, state_of}
+use Rattle.script_runs.specs.Seen.{OverBoth, OverFiles, Replied, SitesSeen, Stepped, run_seen, sent_after, state_of}
 use Rattle.script_runs.specs.Trace.{Shelved, Step}
 
 -- a desk's texts, and its screen
@@ -75,8 +75,8 @@ module _ (s : SitesSeen) (i : ℕ) (d : DeskSeen) (at : slice_get s.desks i ≡ 
   -- what the desk's step leads to, over the files that a shelf tells, where these messages were sent before
   abbrev StepsTo : (before : List (List ℕ)) (event : ℕ → Event) (result : Result Answer EditRefusal) (new : DeskSeen) (after : List (List ℕ)) → Shelved → Shelved → Type 0
   StepsTo before event result new after was now =
-      Step (run_of (sent_after before s) was) (event i)
-      (reply_lines (length (before ++ s.sent)) (answer_reply result (drop (length (before ++ s.sent)) (before ++ after)))) (run_of (sent_after before (with_seen s i new after)) now)
+      Step (run_seen (sent_after before s) was) (event i)
+      (reply_lines (length (before ++ s.sent)) (answer_reply result (drop (length (before ++ s.sent)) (before ++ after)))) (run_seen (sent_after before (with_seen s i new after)) now)
 
   -- a step over what the shelf has, printed, where these messages were sent before
   step_over : (before : List (List ℕ)) (was now : Shelved) (event : ℕ → Event) (part : Part) (result : Result Answer EditRefusal) (messages : List (List ℕ)) (new : DeskSeen) (after : List (List ℕ))
@@ -86,7 +86,7 @@ module _ (s : SitesSeen) (i : ℕ) (d : DeskSeen) (at : slice_get s.desks i ≡ 
   step_over before was now event part result messages new after none replies counted =
       let there : State = state_of (with_seen s i new after) now.files in
       let same : record (with_desk (state_of s was.files) i new after) { files = now.files } ≡ there = λ k. record (put_in s was.files i new after k) { files = now.files } in
-      answer_step (run_of (sent_after before s) was) (run_of (sent_after before (with_seen s i new after)) now) (event i) part result messages
+      answer_step (run_seen (sent_after before s) was) (run_seen (sent_after before (with_seen s i new after)) now) (event i) part result messages
       (replies_later before (state_of s was.files) (event i) part (answer_reply result messages) there none
       (subst (Replies (state_of s was.files) (event i) part (answer_reply result messages)) same replies)) counted
 
@@ -114,12 +114,12 @@ module _ (s : SitesSeen) (i : ℕ) (d : DeskSeen) (at : slice_get s.desks i ≡ 
   -- one that leaves the desk as it was leaves the sites so
   pub filed_same : (before : List (List ℕ)) (event : ℕ → Event) (result : Result Answer EditRefusal) (told told' : ShelfSeen)
       → NamesNone (event i) → IsShelfStep d event result d s.sent s.sent told told'
-      → OverFiles told told' (λ was now. Step (run_of (sent_after before s) was) (event i)
-      (reply_lines (length (before ++ s.sent)) (answer_reply result (drop (length (before ++ s.sent)) (before ++ s.sent)))) (run_of (sent_after before s) now))
+      → OverFiles told told' (λ was now. Step (run_seen (sent_after before s) was) (event i)
+      (reply_lines (length (before ++ s.sent)) (answer_reply result (drop (length (before ++ s.sent)) (before ++ s.sent)))) (run_seen (sent_after before s) now))
   filed_same before event result told told' none step =
       let same : with_seen s i d s.sent ≡ s = λ k. record s { desks = put_back s.desks i d at k } in
-      subst (λ (new : SitesSeen). OverFiles told told' (λ was now. Step (run_of (sent_after before s) was) (event i)
-      (reply_lines (length (before ++ s.sent)) (answer_reply result (drop (length (before ++ s.sent)) (before ++ s.sent)))) (run_of (sent_after before new) now))) same
+      subst (λ (new : SitesSeen). OverFiles told told' (λ was now. Step (run_seen (sent_after before s) was) (event i)
+      (reply_lines (length (before ++ s.sent)) (answer_reply result (drop (length (before ++ s.sent)) (before ++ s.sent)))) (run_seen (sent_after before new) now))) same
       (filed_step before event result d s.sent told told' none step)
 
   -- an edit's step

@@ -7,11 +7,11 @@ use Rattle.looks.specs.declared.refusal.Refusal.{Refusal}
 use Rattle.looks.specs.declared.refusal.Refusal.TheVariants.{OutOfMemory, ReadFault, WriteFault}
 use Rattle.script_runs.specs.Answers.{refused_line}
 use Rattle.script_runs.specs.Ends.{Breaks, IsAnswered, IsBrokenOff, AreDue, Ends}
-use Rattle.script_io.specs.Lines.{IsRaw, without_return, Takes}
+use Rattle.script_io.specs.Lines.{IsRaw, without_return, TakesLine}
 use Rattle.script_runs.specs.Parts.{BreaksOff}
-use Rattle.script_runs.specs.Seen.{SitesSeen, run_of}
+use Rattle.script_runs.specs.Seen.{SitesSeen, run_seen}
 use Rattle.script_runs.specs.Trace.{Answers, AnswersNext, Run, Shelved, Trace, begins, goes_on, shelved}
-use Rattle.script_runs.specs.Writing.{AppendsPrefix, Writes}
+use Rattle.script_runs.specs.Writing.{AppendsPrefix, WritesBytes}
 use Rattle.script_runs.proofs.WriteLemmas.{prefix_after, prefix_of_all, writes_after, writes_kept}
 use Rattle.script_io.specs.declared.lines.NextLine.{NextLine}
 use Rattle.script_io.specs.declared.lines.NextLine.TheVariants.{Line, Last, End}
@@ -70,13 +70,13 @@ module _ (told : Bool) (start : Run) (script : List ℕ) where
     ends_unwritten left old new why answers now e prefix due = subst (λ (w : Refusal). Ends told start script (Err w) failed left old new now) (sym e) (answers, prefix, due)
 
     -- the answers to the whole script are written
-    ends_whole : (result : Result (Unit {0}) Refusal) (cut : Bool) (left old new : Option (List ℕ)) (answers : List ℕ) (now : Shelved) → Writes result cut old new answers → IsWhole left answers now → Ends told start script result failed left old new now
+    ends_whole : (result : Result (Unit {0}) Refusal) (cut : Bool) (left old new : Option (List ℕ)) (answers : List ℕ) (now : Shelved) → WritesBytes result cut old new answers → IsWhole left answers now → Ends told start script result failed left old new now
     ends_whole (Ok done) cut left old new answers now w h = (answers, w, h.0)
     ends_whole (Err why) cut left old new answers now w h = ends_unwritten left old new why answers now w.0 w.2 (inr (inl h))
 
     -- the writer failed at the answer to a line
     ends_in_line : (result : Result (Unit {0}) Refusal) (cut : Bool) (why : Refusal) (left left' old mid new : Option (List ℕ)) (n : ℕ) (s s' : Run) (raw answer : List ℕ) → IsSoFar told start script left old mid n s
-        → n < MAX_LINES → IsRaw raw → Consumes left left' (raw ++ 10 ∷ []) → AnswersNext told s (without_return raw) answer s' → IsErrAnd result (λ e. e ≡ why) → Writes (Err why) cut mid new answer
+        → n < MAX_LINES → IsRaw raw → Consumes left left' (raw ++ 10 ∷ []) → AnswersNext told s (without_return raw) answer s' → IsErrAnd result (λ e. e ≡ why) → WritesBytes (Err why) cut mid new answer
         → Ends told start script result failed left' old new (shelved s')
     ends_in_line (Ok done) cut why left left' old mid new n s s' raw answer f few is_raw taken step e w = absurd e
     ends_in_line (Err y) cut why left left' old mid new n s s' raw answer f few is_raw taken step e w =
@@ -133,24 +133,24 @@ so_far_out told start script left old mid new n s f k =
 
 -- a line's answer is written
 abbrev pub IsWritten : (told : Bool) → Result (Unit {0}) Refusal → (cut : Bool) → (mid new : Option (List ℕ)) (s s' : Run) (line : List ℕ) → Type 0
-IsWritten told result cut mid new s s' line = (answer : List ℕ) × Writes result cut mid new answer × AnswersNext told s line answer s'
+IsWritten told result cut mid new s s' line = (answer : List ℕ) × WritesBytes result cut mid new answer × AnswersNext told s line answer s'
 
 module _ (told : Bool) (start : Run) (script : List ℕ) (failed cut : Bool) (left left' old mid new : Option (List ℕ)) (n : ℕ) (s s' : Run) (f : IsSoFar told start script left old mid n s) where
-  pub ends_by_last : (r : Result (Unit {0}) Refusal) (line : List ℕ) → n < MAX_LINES → Takes failed left left' (Ok Last) line → IsWritten told r cut mid new s s' line → Ends told start script r failed left' old new (shelved s')
+  pub ends_by_last : (r : Result (Unit {0}) Refusal) (line : List ℕ) → n < MAX_LINES → TakesLine failed left left' (Ok Last) line → IsWritten told r cut mid new s s' line → Ends told start script r failed left' old new (shelved s')
   ends_by_last r line few t w =
       ends_whole told start script failed r cut left' old new (f.answers ++ w.0) (shelved s') (writes_after r cut old mid new f.answers w.0 f.written w.1)
       (whole_by_last told start script left left' old mid n s s' line w.0 f few t.0 t.1 t.2 t.3 w.2)
 
-  pub ends_by_end : (r : Result (Unit {0}) Refusal) (line : List ℕ) → n ≤ MAX_LINES → Takes failed left left' (Ok End) line → Keeps mid new → IfErr r (λ e. e ≡ WriteFault) → OnErr r (IsTrue cut) → Ends told start script r failed left' old new (shelved s)
+  pub ends_by_end : (r : Result (Unit {0}) Refusal) (line : List ℕ) → n ≤ MAX_LINES → TakesLine failed left left' (Ok End) line → Keeps mid new → IfErr r (λ e. e ≡ WriteFault) → OnErr r (IsTrue cut) → Ends told start script r failed left' old new (shelved s)
   ends_by_end r line few t kept e h =
       ends_whole told start script failed r cut left' old new f.answers (shelved s) (writes_kept r cut old mid new f.answers f.written kept e h) (whole_by_end told start script left left' old mid n s f few t.0 t.1)
 
   -- in a line that has not ended
-  pub ends_by_fault : (r : Result (Unit {0}) Refusal) (line : List ℕ) (why : Refusal) → n ≤ MAX_LINES → Takes failed left left' (Err why) line → BreaksOff cut mid new r → Ends told start script r failed left' old new (shelved s)
+  pub ends_by_fault : (r : Result (Unit {0}) Refusal) (line : List ℕ) (why : Refusal) → n ≤ MAX_LINES → TakesLine failed left left' (Err why) line → BreaksOff cut mid new r → Ends told start script r failed left' old new (shelved s)
   ends_by_fault r line why few t b = ends_broken told start script failed left left' old mid new n s t.1.0 r cut f few (inl t.1.1) t.1.2 b
 
   -- a line or a part of one stands after the last line
-  pub ends_by_limit : (r : Result (Unit {0}) Refusal) (taken : Result NextLine Refusal) (line : List ℕ) → n ≡ MAX_LINES → taken ≢ Ok End → Takes failed left left' taken line → BreaksOff cut mid new r
+  pub ends_by_limit : (r : Result (Unit {0}) Refusal) (taken : Result NextLine Refusal) (line : List ℕ) → n ≡ MAX_LINES → taken ≢ Ok End → TakesLine failed left left' taken line → BreaksOff cut mid new r
       → Ends told start script r failed left' old new (shelved s)
   ends_by_limit r (Ok Line) line full some t b =
       ends_broken told start script failed left left' old mid new n s (t.0 ++ 10 ∷ []) r cut f (omega arith) (inr (full, (t.0, t.1, inl refl))) t.2 b
@@ -160,25 +160,25 @@ module _ (told : Bool) (start : Run) (script : List ℕ) (failed cut : Bool) (le
   ends_by_limit r (Err why) line full some t b = ends_by_fault r line why (omega arith) t b
 
   -- the writer failed at a line's answer
-  pub ends_by_line : (r : Result (Unit {0}) Refusal) (why : Refusal) (line : List ℕ) → n < MAX_LINES → Takes failed left left' (Ok Line) line → IsErrAnd r (λ e. e ≡ why) → IsWritten told (Err why) cut mid new s s' line
+  pub ends_by_line : (r : Result (Unit {0}) Refusal) (why : Refusal) (line : List ℕ) → n < MAX_LINES → TakesLine failed left left' (Ok Line) line → IsErrAnd r (λ e. e ≡ why) → IsWritten told (Err why) cut mid new s s' line
       → Ends told start script r failed left' old new (shelved s')
   ends_by_line r why line few t e w =
       let step = subst (λ (l : List ℕ). AnswersNext told s l w.0 s') t.3 w.2 in
       ends_in_line told start script failed r cut why left left' old mid new n s s' t.0 w.0 f few t.1 t.2 step e w.1
 
-  pub goes_on_by : (line : List ℕ) → Takes failed left left' (Ok Line) line → (answer : List ℕ) × Appends mid new answer × AnswersNext told s line answer s' → IsSoFar told start script left' old new (n + 1) s'
+  pub goes_on_by : (line : List ℕ) → TakesLine failed left left' (Ok Line) line → (answer : List ℕ) × Appends mid new answer × AnswersNext told s line answer s' → IsSoFar told start script left' old new (n + 1) s'
   goes_on_by line t w =
       let step = subst (λ (l : List ℕ). AnswersNext told s l w.0 s') t.3 w.2 in
       so_far_goes_on told start script left left' old mid new n s s' t.0 w.0 f t.1 t.2 w.1 step
 
 -- so far, of sites over the files that a shelf told as the run began, and over those that it tells now
 abbrev pub SoFarOver : (told : Bool) → SitesSeen → (known left old new : Option (List ℕ)) → ℕ → SitesSeen → Shelved → Shelved → Type 0
-SoFarOver told start known left old new n s was now = IfSome known (λ script. IsSoFar told (run_of start was) script left old new n (run_of s now))
+SoFarOver told start known left old new n s was now = IfSome known (λ script. IsSoFar told (run_seen start was) script left old new n (run_seen s now))
 
 -- the end of such a run
 abbrev pub EndsOver : (told : Bool) → SitesSeen → (known : Option (List ℕ)) → Result (Unit {0}) Refusal → (failed : Bool) → (left old new : Option (List ℕ)) → Shelved → Shelved → Type 0
-EndsOver told start known r failed left old new was now = IfSome known (λ script. Ends told (run_of start was) script r failed left old new now)
+EndsOver told start known r failed left old new was now = IfSome known (λ script. Ends told (run_seen start was) script r failed left old new now)
 
 -- the answer to a line of it
 abbrev pub AnsweredOver : SitesSeen → (line answer : List ℕ) → SitesSeen → Shelved → Shelved → Type 0
-AnsweredOver s line answer new was now = Answers (run_of s was) line answer (run_of new now)
+AnsweredOver s line answer new was now = Answers (run_seen s was) line answer (run_seen new now)

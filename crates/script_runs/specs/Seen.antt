@@ -35,8 +35,8 @@ state_of s files = record {
 }
 
 -- a run of these sites, over a shelf that has this
-abbrev pub run_of : SitesSeen → Shelved → Run
-run_of s has = record { state = state_of s has.files; faults = has.faults }
+abbrev pub run_seen : SitesSeen → Shelved → Run
+run_seen s has = record { state = state_of s has.files; faults = has.faults }
 
 -- over any files, the event is replied to so, and the sites go on to new; no file is asked for
 abbrev pub Replied : SitesSeen → Event → Reply → SitesSeen → Type 0
@@ -50,7 +50,7 @@ TakesMessage s desk text message result new = (before : List (List ℕ)) (told :
 
 -- over what any shelf has, the event is answered so
 abbrev pub Stepped : SitesSeen → Event → List ℕ → SitesSeen → Type 0
-Stepped s e answer new = (has : Shelved) → Step (run_of s has) e answer (run_of new has)
+Stepped s e answer new = (has : Shelved) → Step (run_seen s has) e answer (run_seen new has)
 
 -- So it is of what a shelf had before, and of what it has now, where it reports its files; of some files, where it reports none. A shelf
 -- that reports its files goes on to do so, and no other begins to.

@@ -16,15 +16,15 @@ op_at desks at =
     (slice_get desks at.desk)
 
 -- the message that tells it
-abbrev pub message_at : List SiteTexts → SentAt → List ℕ
-message_at desks at = option_map_or spelling (op_at desks at) []
+abbrev pub sent_message : List SiteTexts → SentAt → List ℕ
+sent_message desks at = option_map_or spelling (op_at desks at) []
 
 -- the messages of these places, in order
 abbrev pub messages_at : List SiteTexts → List SentAt → List (List ℕ)
-messages_at desks sent = map (message_at desks) sent
+messages_at desks sent = map (sent_message desks) sent
 
 -- the operation is the one that the text of this number, on the desk at this index, has at this place
-pub record StandsAt (desks : List SiteTexts) (at : SentAt) (op : Operation) : Type 0 where
+pub record IsOperationAt (desks : List SiteTexts) (at : SentAt) (op : Operation) : Type 0 where
   pub on_desk : at.text ≤ MAX_TEXT
   pub desk : SiteTexts
   pub in_run : slice_get desks at.desk ≡ Some desk
@@ -33,16 +33,16 @@ pub record StandsAt (desks : List SiteTexts) (at : SentAt) (op : Operation) : Ty
   pub taken : slice_get text.operations at.place ≡ Some op
 
 -- an operation stands there, and has a spelling
-abbrev pub IsHeld : List SiteTexts → SentAt → Type 0
-IsHeld desks at = (op : Operation) × StandsAt desks at op × HasSpelling op
+abbrev pub IsSentOperation : List SiteTexts → SentAt → Type 0
+IsSentOperation desks at = (op : Operation) × IsOperationAt desks at op × HasSpelling op
 
 -- so it is at each of these places
-abbrev pub AreHeld : List SiteTexts → List SentAt → Type 0
-AreHeld desks sent = All (IsHeld desks) sent
+abbrev pub AreSentOperations : List SiteTexts → List SentAt → Type 0
+AreSentOperations desks sent = All (IsSentOperation desks) sent
 
 -- an operation stands there that the message tells
-abbrev pub IsTold : List SiteTexts → (message : List ℕ) → SentAt → Type 0
-IsTold desks message at = (op : Operation) × StandsAt desks at op × HasSpelling op × (message ≡ spelling op)
+abbrev pub IsToldAt : List SiteTexts → (message : List ℕ) → SentAt → Type 0
+IsToldAt desks message at = (op : Operation) × IsOperationAt desks at op × HasSpelling op × (message ≡ spelling op)
 
 -- each text of the desks is what its operations define, and has told its changes
 abbrev pub AreSound : List SiteTexts → Type 0

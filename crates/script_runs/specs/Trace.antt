@@ -28,8 +28,8 @@ abbrev pub over_shelf : Run → Shelved → Run
 over_shelf s now = record { state = record s.state { files = now.files }; faults = now.faults }
 
 -- a run as it begins, over a shelf that has this
-abbrev pub begun : (first count width height : ℕ) → Shelved → Run
-begun first count width height has = record { state = new_state first count width height has.files; faults = has.faults }
+abbrev pub begun_run : (first count width height : ℕ) → Shelved → Run
+begun_run first count width height has = record { state = new_state first count width height has.files; faults = has.faults }
 
 -- One step of the machine: a reply to the event, printed, with some part of the files in it. Where they failed, the shelf
 -- counted it, and else it counted nothing.

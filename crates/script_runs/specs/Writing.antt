@@ -12,11 +12,11 @@ AppendsPrefix old new bytes =
 
 -- What writing these bytes does: at `Ok` all of them were appended; the only error is `WriteFault`, which
 -- comes only where the writer failed, and then a prefix of them was.
-abbrev pub Writes : Result (Unit {0}) Refusal → (failed : Bool) → (old new : Option (List ℕ)) → List ℕ
+abbrev pub WritesBytes : Result (Unit {0}) Refusal → (failed : Bool) → (old new : Option (List ℕ)) → List ℕ
     → Type 0
-Writes (Ok done) failed old new bytes = Appends old new bytes
-Writes (Err why) failed old new bytes = (why ≡ WriteFault) × IsTrue failed × AppendsPrefix old new bytes
+WritesBytes (Ok done) failed old new bytes = Appends old new bytes
+WritesBytes (Err why) failed old new bytes = (why ≡ WriteFault) × IsTrue failed × AppendsPrefix old new bytes
 
 -- the same of an output
-abbrev pub Puts : Result (Unit {0}) Refusal → (old new : OutputState) → List ℕ → Type 0
-Puts result old new bytes = Writes result new.failed old.contents new.contents bytes
+abbrev pub PutsToOutput : Result (Unit {0}) Refusal → (old new : OutputState) → List ℕ → Type 0
+PutsToOutput result old new bytes = WritesBytes result new.failed old.contents new.contents bytes

@@ -7,7 +7,7 @@ ghost use Rattle.commands.specs.Steps.{answer_reply, done_reply, open_reply, pri
 ghost use Rattle.script_runs.specs.Answers.{counts_line, refused_line, reply_lines, send_line};
 ghost use Rattle.script_runs.specs.Answers.{send_lines, settled_line, unpacked_line};
 ghost use Rattle.script_runs.specs.Replying.{reply_of};
-ghost use Rattle.script_runs.specs.Writing.{Puts};
+ghost use Rattle.script_runs.specs.Writing.{PutsToOutput};
 ghost use Rattle.script_runs.specs.declared.answers.TheConstants.{STRETCH};
 
 use crate::reply::Reply;
@@ -23,7 +23,7 @@ const STRETCH: usize = 128;
 
 /// Writes the bytes. Refused `WriteFault` where the writer fails, is interrupted or takes nothing.
 pub fn put<W: Write>(output: &mut Output<W>, bytes: &[u8]) -> Result<(), Refusal>
-    ensures { Puts result output.old output.new bytes.now }
+    ensures { PutsToOutput result output.old output.new bytes.now }
 {
     let mut rest = bytes;
     while !rest.is_empty() {
@@ -34,7 +34,7 @@ pub fn put<W: Write>(output: &mut Output<W>, bytes: &[u8]) -> Result<(), Refusal
 }
 
 fn put_number<W: Write>(output: &mut Output<W>, number: u64) -> Result<(), Refusal>
-    ensures { Puts result output.old output.new (decimal number) }
+    ensures { PutsToOutput result output.old output.new (decimal number) }
 {
     put(output, itoa::Buffer::new().format(number).as_bytes())
 }
@@ -42,7 +42,7 @@ fn put_number<W: Write>(output: &mut Output<W>, number: u64) -> Result<(), Refus
 // Some bytes, and a number after them.
 #[tactic(auto, using(crate::proofs::WriteLemmas::writes_after, crate::proofs::WriteLemmas::writes_stopped))]
 fn put_numbered<W: Write>(output: &mut Output<W>, front: &[u8], number: u64) -> Result<(), Refusal>
-    ensures { Puts result output.old output.new (front.now ++ decimal number) }
+    ensures { PutsToOutput result output.old output.new (front.now ++ decimal number) }
 {
     put(output, front)?;
     put_number(output, number)
@@ -55,7 +55,7 @@ fn put_numbered_far<W: Write>(
     front: &[u8],
     number: u128,
 ) -> Result<(), Refusal>
-    ensures { Puts result output.old output.new (front.now ++ decimal number) }
+    ensures { PutsToOutput result output.old output.new (front.now ++ decimal number) }
 {
     put(output, front)?;
     put(output, itoa::Buffer::new().format(number).as_bytes())
@@ -64,7 +64,7 @@ fn put_numbered_far<W: Write>(
 // The line of a number after a word.
 #[tactic(auto, using(crate::proofs::WriteLemmas::writes_after, crate::proofs::WriteLemmas::writes_stopped))]
 fn put_count<W: Write>(output: &mut Output<W>, word: &[u8], count: u64) -> Result<(), Refusal>
-    ensures { Puts result output.old output.new (line (word.now ++ decimal count)) }
+    ensures { PutsToOutput result output.old output.new (line (word.now ++ decimal count)) }
 {
     put_numbered(output, word, count)?;
     put(output, b"\n")
@@ -73,7 +73,7 @@ fn put_count<W: Write>(output: &mut Output<W>, word: &[u8], count: u64) -> Resul
 // A stretch of bytes. Its digits go into an array, so that no answer needs a growth after its edit stands.
 fn put_hex_stretch<W: Write>(output: &mut Output<W>, stretch: &[u8]) -> Result<(), Refusal>
     requires { length stretch.now ≤ STRETCH }
-    ensures { Puts result output.old output.new (encode_lower stretch.now) }
+    ensures { PutsToOutput result output.old output.new (encode_lower stretch.now) }
 {
     let mut room = [0; 2 * STRETCH];
     let digits = &mut room[..2 * stretch.len()];
@@ -82,7 +82,7 @@ fn put_hex_stretch<W: Write>(output: &mut Output<W>, stretch: &[u8]) -> Result<(
 }
 
 fn put_hex<W: Write>(output: &mut Output<W>, bytes: &[u8]) -> Result<(), Refusal>
-    ensures { Puts result output.old output.new (encode_lower bytes.now) }
+    ensures { PutsToOutput result output.old output.new (encode_lower bytes.now) }
 {
     for stretch in bytes.chunks(STRETCH) {
         put_hex_stretch(output, stretch)?;
@@ -92,7 +92,7 @@ fn put_hex<W: Write>(output: &mut Output<W>, bytes: &[u8]) -> Result<(), Refusal
 
 /// Writes the answer that refuses an event.
 pub fn put_refused<W: Write>(output: &mut Output<W>, why: Refusal) -> Result<(), Refusal>
-    ensures { Puts result output.old output.new (refused_line why) }
+    ensures { PutsToOutput result output.old output.new (refused_line why) }
 {
     put_numbered(output, b"refused ", u64::from(why.number()))?;
     put(output, b"\n")
@@ -126,7 +126,7 @@ fn fill_send_line(number: &[u8], message: &[u8], line: &mut [u8])
 #[tactic(auto, unfolding(crate::specs::Answers::send_line))]
 fn put_short_send<W: Write>(output: &mut Output<W>, k: u128, message: &[u8]) -> Result<(), Refusal>
     requires { length message.now ≤ STRETCH }
-    ensures { Puts result output.old output.new (send_line k message.now) }
+    ensures { PutsToOutput result output.old output.new (send_line k message.now) }
 {
     let mut number = itoa::Buffer::new();
     let number = number.format(k).as_bytes();
@@ -138,7 +138,7 @@ fn put_short_send<W: Write>(output: &mut Output<W>, k: u128, message: &[u8]) -> 
 
 // The same of any message.
 fn put_long_send<W: Write>(output: &mut Output<W>, k: u128, message: &[u8]) -> Result<(), Refusal>
-    ensures { Puts result output.old output.new (send_line k message.now) }
+    ensures { PutsToOutput result output.old output.new (send_line k message.now) }
 {
     put_numbered_far(output, b"send m", k)?;
     put(output, b" ")?;
@@ -148,7 +148,7 @@ fn put_long_send<W: Write>(output: &mut Output<W>, k: u128, message: &[u8]) -> R
 
 // The line of one message, the run's k-th.
 fn put_send<W: Write>(output: &mut Output<W>, k: u128, message: &[u8]) -> Result<(), Refusal>
-    ensures { Puts result output.old output.new (send_line k message.now) }
+    ensures { PutsToOutput result output.old output.new (send_line k message.now) }
 {
     if message.len() <= STRETCH {
         put_short_send(output, k, message)
@@ -164,7 +164,7 @@ fn put_sends<W: Write>(
     from: usize,
     before: usize,
 ) -> Result<(), Refusal>
-    ensures { Puts result output.old output.new (send_lines (before + from) (drop from outbox.now)) }
+    ensures { PutsToOutput result output.old output.new (send_lines (before + from) (drop from outbox.now)) }
 {
     for index in from..outbox.len() {
         put_send(
@@ -178,7 +178,7 @@ fn put_sends<W: Write>(
 
 // The last line of an edit, or of a merge, of which the first operations stand; and the number of why not all do.
 fn put_partial<W: Write>(output: &mut Output<W>, done: u64, number: u8) -> Result<(), Refusal>
-    ensures { Puts result output.old output.new (line (codes "partial " ++ decimal done ++ 32 ∷ decimal number)) }
+    ensures { PutsToOutput result output.old output.new (line (codes "partial " ++ decimal done ++ 32 ∷ decimal number)) }
 {
     put_numbered(output, b"partial ", done)?;
     put_numbered(output, b" ", u64::from(number))?;
@@ -193,7 +193,7 @@ fn put_edit<W: Write>(
     before: usize,
     outcome: Result<u32, EditRefusal>,
 ) -> Result<(), Refusal>
-    ensures { Puts result output.old output.new
+    ensures { PutsToOutput result output.old output.new
         (reply_lines (before + from) (edit_reply outcome (drop from outbox.now))) }
 {
     match outcome {
@@ -217,7 +217,7 @@ fn put_counts<W: Write>(
     second: u64,
     stopped: bool,
 ) -> Result<(), Refusal>
-    ensures { Puts result output.old output.new (counts_line word.now first second stopped) }
+    ensures { PutsToOutput result output.old output.new (counts_line word.now first second stopped) }
 {
     put_numbered(output, word, first)?;
     put_numbered(output, b" ", second)?;
@@ -235,7 +235,7 @@ fn put_drained<W: Write>(
     dropped: u32,
     stopped: bool,
 ) -> Result<(), Refusal>
-    ensures { Puts result output.old output.new (counts_line (codes "taken ") drained dropped stopped) }
+    ensures { PutsToOutput result output.old output.new (counts_line (codes "taken ") drained dropped stopped) }
 {
     if drained == 0 && dropped == 0 && !stopped {
         return put(output, b"taken 0 0\n");
@@ -254,7 +254,7 @@ fn put_taken<W: Write>(
     output: &mut Output<W>,
     outcome: Result<Took, Refusal>,
 ) -> Result<(), Refusal>
-    ensures { (k : ℕ) → Puts result output.old output.new (reply_lines k (take_reply outcome)) }
+    ensures { (k : ℕ) → PutsToOutput result output.old output.new (reply_lines k (take_reply outcome)) }
 {
     match outcome {
         Ok(
@@ -273,7 +273,7 @@ fn put_taken<W: Write>(
 // The line of a chunk of which each operation was handed in.
 #[tactic(auto, using(crate::proofs::WriteLemmas::writes_after, crate::proofs::WriteLemmas::writes_stopped))]
 fn put_unpacked_whole<W: Write>(output: &mut Output<W>, counts: Unpacked) -> Result<(), Refusal>
-    ensures { Puts result output.old output.new (unpacked_line counts) }
+    ensures { PutsToOutput result output.old output.new (unpacked_line counts) }
 {
     put_numbered(output, b"unpacked ", counts.taken)?;
     put_counts(output, b" ", counts.known, counts.waiting, counts.stopped)
@@ -284,7 +284,7 @@ fn put_unpacked<W: Write>(
     output: &mut Output<W>,
     outcome: Result<Unpacked, UnpackRefusal>,
 ) -> Result<(), Refusal>
-    ensures { (k : ℕ) → Puts result output.old output.new (reply_lines k (unpack_reply outcome)) }
+    ensures { (k : ℕ) → PutsToOutput result output.old output.new (reply_lines k (unpack_reply outcome)) }
 {
     match outcome {
         Ok(counts) => put_unpacked_whole(output, counts),
@@ -295,7 +295,7 @@ fn put_unpacked<W: Write>(
 
 // Writes the line of a room that was drained.
 fn put_settled<W: Write>(output: &mut Output<W>, settled: Settled) -> Result<(), Refusal>
-    ensures { Puts result output.old output.new (settled_line settled.drained settled.dropped settled.stopped) }
+    ensures { PutsToOutput result output.old output.new (settled_line settled.drained settled.dropped settled.stopped) }
 {
     let Settled {
         drained,
@@ -316,7 +316,7 @@ fn put_merged<W: Write>(
     output: &mut Output<W>,
     outcome: Result<u64, MergeRefusal>,
 ) -> Result<(), Refusal>
-    ensures { (k : ℕ) → Puts result output.old output.new (reply_lines k (merge_reply outcome)) }
+    ensures { (k : ℕ) → PutsToOutput result output.old output.new (reply_lines k (merge_reply outcome)) }
 {
     match outcome {
         Ok(count) => put_count(output, b"merged ", count),
@@ -330,7 +330,7 @@ fn put_opened<W: Write>(
     output: &mut Output<W>,
     outcome: Result<u32, Refusal>,
 ) -> Result<(), Refusal>
-    ensures { (k : ℕ) → Puts result output.old output.new (reply_lines k (open_reply outcome)) }
+    ensures { (k : ℕ) → PutsToOutput result output.old output.new (reply_lines k (open_reply outcome)) }
 {
     match outcome {
         Ok(viewer) => put_count(output, b"viewer ", u64::from(viewer)),
@@ -340,7 +340,7 @@ fn put_opened<W: Write>(
 
 // Writes the line of another arrangement.
 fn put_done<W: Write>(output: &mut Output<W>, outcome: Result<(), Refusal>) -> Result<(), Refusal>
-    ensures { (k : ℕ) → Puts result output.old output.new (reply_lines k (done_reply outcome)) }
+    ensures { (k : ℕ) → PutsToOutput result output.old output.new (reply_lines k (done_reply outcome)) }
 {
     match outcome {
         Ok(()) => put(output, b"ok\n"),
@@ -356,7 +356,7 @@ fn put_answer<W: Write>(
     before: usize,
     outcome: Result<Answer, EditRefusal>,
 ) -> Result<(), Refusal>
-    ensures { Puts result output.old output.new (reply_lines (before + from) (answer_reply outcome (drop from outbox.now))) }
+    ensures { PutsToOutput result output.old output.new (reply_lines (before + from) (answer_reply outcome (drop from outbox.now))) }
 {
     match outcome {
         Ok(Answer::Sent(count)) => put_edit(output, outbox, from, before, Ok(count)),
@@ -374,7 +374,7 @@ fn put_printed<W: Write>(
     output: &mut Output<W>,
     outcome: Result<Vec<u8>, Refusal>,
 ) -> Result<(), Refusal>
-    ensures { (k : ℕ) → Puts result output.old output.new
+    ensures { (k : ℕ) → PutsToOutput result output.old output.new
         (reply_lines k (print_reply outcome (λ lines. lines.items))) }
 {
     match outcome {
@@ -392,7 +392,7 @@ pub fn put_reply<W: Write>(
     before: usize,
     reply: Reply,
 ) -> Result<(), Refusal>
-    ensures { Puts result output.old output.new (reply_lines (before + from) (reply_of reply (drop from outbox.now))) }
+    ensures { PutsToOutput result output.old output.new (reply_lines (before + from) (reply_of reply (drop from outbox.now))) }
 {
     match reply {
         Reply::Edited(outcome) => put_edit(output, outbox, from, before, outcome),

@@ -9,10 +9,10 @@ ghost use Rattle.script_events.specs.EventView.{edit_of, event_of, IsInRun, IsOf
 ghost use Rattle.script_events.specs.Script.{query_at, typing};
 ghost use Rattle.script_runs.specs.Answers.{reply_lines};
 ghost use Rattle.script_runs.specs.Replying.{reply_of};
-ghost use Rattle.script_runs.specs.Seen.{OverFiles, Replied, run_of, sent_after, state_of, texts_of};
-ghost use Rattle.script_runs.specs.Sent.{AreHeld, messages_at};
+ghost use Rattle.script_runs.specs.Seen.{OverFiles, Replied, run_seen, sent_after, state_of, texts_of};
+ghost use Rattle.script_runs.specs.Sent.{AreSentOperations, messages_at};
 ghost use Rattle.script_runs.specs.Trace.{Answers, Step, is_silent};
-ghost use Rattle.script_runs.specs.Writing.{Puts};
+ghost use Rattle.script_runs.specs.Writing.{PutsToOutput};
 
 mod screen;
 mod sending;
@@ -109,12 +109,12 @@ impl Desks {
         shelf: &mut S,
         line: &[u8],
     ) -> Result<(), Refusal>
-        requires held { AreHeld (texts_of self.old) noted.now }
+        requires held { AreSentOperations (texts_of self.old) noted.now }
         requires short { length line.now ≤ MAX_LINE }
-        ensures { (answer : List ℕ) × Puts result output.old output.new answer
+        ensures { (answer : List ℕ) × PutsToOutput result output.old output.new answer
             × OverFiles (shelf_seen (S.files shelf.old) (S.faults shelf.old)) (shelf_seen (S.files shelf.new) (S.faults shelf.new)) (λ was now.
             let before = messages_at (texts_of self.old) noted.now in
-            Answers (run_of (sent_after before self.old) was) line.now answer (run_of (sent_after before self.new) now)) }
+            Answers (run_seen (sent_after before self.old) was) line.now answer (run_seen (sent_after before self.new) now)) }
     {
         if is_silent(line) {
             return Ok(());
@@ -133,13 +133,13 @@ impl Desks {
 
     // Does what an event asks: a row for each.
     fn step<S: Shelf>(&mut self, noted: &[SentAt], shelf: &mut S, event: Event) -> Reply
-        requires held { AreHeld (texts_of self.old) noted.now }
+        requires held { AreSentOperations (texts_of self.old) noted.now }
         requires in_run { IsInRun (length self.old.desks) event }
         requires of_line { IsOfLine MAX_LINE event }
         ensures { OverFiles (shelf_seen (S.files shelf.old) (S.faults shelf.old)) (shelf_seen (S.files shelf.new) (S.faults shelf.new)) (λ was now.
-            let before = messages_at (texts_of self.old) noted.now in Step (run_of (sent_after before self.old) was) (event_of event.entry)
+            let before = messages_at (texts_of self.old) noted.now in Step (run_seen (sent_after before self.old) was) (event_of event.entry)
             (reply_lines (length (before ++ self.old.sent)) (reply_of result (drop (length (before ++ self.old.sent)) (before ++ self.new.sent))))
-            (run_of (sent_after before self.new) now)) }
+            (run_seen (sent_after before self.new) now)) }
     {
         match event {
             Event::Edits { desk, text, edit } => Reply::Edited(self.edit(desk, text, &edit)),

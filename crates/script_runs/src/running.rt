@@ -4,9 +4,9 @@ ghost use Rattle.std.specs.Io.KnownBytes.{Keeps};
 ghost use Rattle.commands.specs.Steps.{shelf_seen};
 ghost use Rattle.script_runs.specs.Ends.{Ends, IsEnd};
 ghost use Rattle.script_runs.specs.Parts.{BreaksOff};
-ghost use Rattle.script_runs.specs.Seen.{OverFiles, run_of};
-ghost use Rattle.script_runs.specs.Trace.{Answers, begun};
-ghost use Rattle.script_runs.specs.Writing.{Puts};
+ghost use Rattle.script_runs.specs.Seen.{OverFiles, run_seen};
+ghost use Rattle.script_runs.specs.Trace.{Answers, begun_run};
+ghost use Rattle.script_runs.specs.Writing.{PutsToOutput};
 
 use crate::answers::put_refused;
 use crate::settings::Settings;
@@ -47,9 +47,9 @@ fn answer_last<W: Write, S: Shelf>(
     line: &[u8],
 ) -> Result<(), Refusal>
     requires { length line.now ≤ MAX_LINE }
-    ensures answers { (answer : List ℕ) × Puts result output.old output.new answer
+    ensures answers { (answer : List ℕ) × PutsToOutput result output.old output.new answer
         × OverFiles (shelf_seen (S.files shelf.old) (S.faults shelf.old)) (shelf_seen (S.files shelf.new) (S.faults shelf.new)) (λ was now.
-        Answers (run_of sites.old was) line.now answer (run_of sites.new now)) }
+        Answers (run_seen sites.old was) line.now answer (run_seen sites.new now)) }
     ensures flushed { OnOk result (IsTrue output.new.flushed) }
 {
     sites.answer(output, shelf, line)?;
@@ -76,7 +76,7 @@ fn run_lines<R: Read + Drop, W: Write, S: Shelf>(
 ) -> Result<(), Refusal>
     requires { MAX_LINE ≤ vec_capacity line.old }
     ensures answers { OverFiles (shelf_seen (S.files shelf.old) (S.faults shelf.old)) (shelf_seen (S.files shelf.new) (S.faults shelf.new)) (λ was now. IfSome input.old.left (λ script.
-        Ends (is_some (S.files shelf.old)) (run_of sites.old was) script result input.new.failed
+        Ends (is_some (S.files shelf.old)) (run_seen sites.old was) script result input.new.failed
         input.new.left output.old.contents output.new.contents now)) }
     ensures errors { IfErr result IsEnd }
     ensures write_fault { result ≡ Err Refusal.WriteFault → IsTrue output.new.failed }
@@ -113,7 +113,7 @@ pub fn run<R: Read + Drop, W: Write, S: Shelf>(
     settings: Settings,
 ) -> Result<(), Refusal>
     ensures answers { OverFiles (shelf_seen (S.files shelf.old) (S.faults shelf.old)) (shelf_seen (S.files shelf.new) (S.faults shelf.new)) (λ was now. IfSome input.old.left (λ script.
-        Ends (is_some (S.files shelf.old)) (begun settings.first settings.count settings.width settings.height was) script result input.new.failed
+        Ends (is_some (S.files shelf.old)) (begun_run settings.first settings.count settings.width settings.height was) script result input.new.failed
         input.new.left output.old.contents output.new.contents now)) }
     ensures errors { IfErr result IsEnd }
     ensures write_fault { result ≡ Err Refusal.WriteFault → IsTrue output.new.failed }

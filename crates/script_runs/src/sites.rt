@@ -3,9 +3,9 @@ ghost use Rattle.looks.specs.Refusal.{RefusedForMemoryAlone};
 ghost use Rattle.machine.specs.State.{new_state};
 ghost use Rattle.shelf.specs.Files.{Files};
 ghost use Rattle.commands.specs.Steps.{shelf_seen};
-ghost use Rattle.script_runs.specs.Seen.{OverFiles, run_of, state_of};
+ghost use Rattle.script_runs.specs.Seen.{OverFiles, run_seen, state_of};
 ghost use Rattle.script_runs.specs.Trace.{Answers};
-ghost use Rattle.script_runs.specs.Writing.{Puts};
+ghost use Rattle.script_runs.specs.Writing.{PutsToOutput};
 
 use crate::desks::Desks;
 use crate::sent_at::SentAt;
@@ -27,13 +27,13 @@ pub struct Sites {
 
 impl Model for Sites {
     ghost use Rattle.script_runs.specs.Seen.{SitesSeen, sent_after, texts_of};
-    ghost use Rattle.script_runs.specs.Sent.{AreHeld, AreSound, messages_at};
+    ghost use Rattle.script_runs.specs.Sent.{AreSentOperations, AreSound, messages_at};
 
     ghost Value = { SitesSeen };
 
     ghost view = { λ s. sent_after (messages_at (texts_of s.desks) s.sent.items) s.desks };
 
-    ghost invariant = { λ s. AreHeld (texts_of s.desks) s.sent.items × AreSound (texts_of s.desks) };
+    ghost invariant = { λ s. AreSentOperations (texts_of s.desks) s.sent.items × AreSound (texts_of s.desks) };
 }
 
 impl Sites {
@@ -56,9 +56,9 @@ impl Sites {
         line: &[u8],
     ) -> Result<(), Refusal>
         requires { length line.now ≤ MAX_LINE }
-        ensures { (answer : List ℕ) × Puts result output.old output.new answer
+        ensures { (answer : List ℕ) × PutsToOutput result output.old output.new answer
             × OverFiles (shelf_seen (S.files shelf.old) (S.faults shelf.old)) (shelf_seen (S.files shelf.new) (S.faults shelf.new)) (λ was now.
-            Answers (run_of self.old was) line.now answer (run_of self.new now)) }
+            Answers (run_seen self.old was) line.now answer (run_seen self.new now)) }
     {
         let answered = self.desks.answer(&self.sent, output, shelf, line);
         let _ = self.desks.let_go(&mut self.sent);

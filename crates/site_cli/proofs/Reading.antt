@@ -11,7 +11,7 @@ use Rattle.clap.proofs.WalkLemmas.{first_value-rows}
 use Rattle.script_runs.specs.declared.settings.Settings.{Settings}
 use Rattle.script_runs.specs.declared.settings.TheConstants.{MAX_FIRST, MAX_SITES, MIN_WIDTH, MAX_WIDTH, MIN_HEIGHT, MAX_HEIGHT}
 use Rattle.site_cli.specs.Numbers.{number_found}
-use Rattle.site_cli.specs.Finding.{Finds, are_found, are_some, count_found, height_found, width_found}
+use Rattle.site_cli.specs.Finding.{FindsSettings, are_found, are_some, count_found, height_found, width_found}
 use Rattle.site_cli.specs.CommandLine.{Gives, are_numbers, count_in, faults_in, first_in, program, width_in}
 
 -- ---- four numbers, one of which is missing
@@ -82,7 +82,7 @@ module _ (m : ArgMatches) (a : App) (words : List (List ℕ)) (is : a ≡ progra
   found : (name : List ℕ) → first_value (found_of m) name ≡ first_of name (matches_of program words)
   found name = found-words m a words name is has
 
-  pub gives-found : (s : Settings) → Finds (found_of m) s → Gives words s
+  pub gives-found : (s : Settings) → FindsSettings (found_of m) s → Gives words s
   gives-found s h = (
     ap (number_found 1 MAX_FIRST) (sym (found (codes "first"))) ∙ h.0,
     ap (number_found 1 MAX_SITES) (sym (found (codes "count"))) ∙ h.1,
@@ -98,7 +98,7 @@ module _ (m : ArgMatches) (a : App) (words : List (List ℕ)) (is : a ≡ progra
       ∙ ap (λ (o : Option (List ℕ)). are_some (first_in words) (count_in words) (number_found MIN_WIDTH MAX_WIDTH o) (height_found f)) (found (codes "width"))
       ∙ ap (λ (o : Option (List ℕ)). are_some (first_in words) (count_in words) (width_in words) (number_found MIN_HEIGHT MAX_HEIGHT o)) (found (codes "height"))
 
-  pub fails-read : (r : Result Settings Error) → fault_of a words ≡ [] → IfOk r (Finds (found_of m))
+  pub fails-read : (r : Result Settings Error) → fault_of a words ≡ [] → IfOk r (FindsSettings (found_of m))
       → IfErr r (λ e. (kind_of e ≡ OutOfMemory) ⊎ ((kind_of e ≡ ValueValidation) × (are_found (found_of m) ≡ false)))
       → FailsBy (faults_in words) r
   fails-read (Ok s) none ok err =

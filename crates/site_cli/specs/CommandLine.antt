@@ -22,20 +22,20 @@ program = with_rule (with_rule (with_rule (with_rule (new_app (codes "site_cli")
     (option_rule (codes "width") (codes "80"))) (option_rule (codes "height") (codes "24"))
 
 -- the number of an option: what the words say, or else its default
-abbrev pub number_of : (name : List ℕ) → (least most : ℕ) → (words : List (List ℕ)) → Option ℕ
-number_of name least most words = number_found least most (first_of name (matches_of program words))
+abbrev pub option_number : (name : List ℕ) → (least most : ℕ) → (words : List (List ℕ)) → Option ℕ
+option_number name least most words = number_found least most (first_of name (matches_of program words))
 
 abbrev pub first_in : List (List ℕ) → Option ℕ
-first_in = number_of (codes "first") 1 MAX_FIRST
+first_in = option_number (codes "first") 1 MAX_FIRST
 
 abbrev pub count_in : List (List ℕ) → Option ℕ
-count_in = number_of (codes "count") 1 MAX_SITES
+count_in = option_number (codes "count") 1 MAX_SITES
 
 abbrev pub width_in : List (List ℕ) → Option ℕ
-width_in = number_of (codes "width") MIN_WIDTH MAX_WIDTH
+width_in = option_number (codes "width") MIN_WIDTH MAX_WIDTH
 
 abbrev pub height_in : List (List ℕ) → Option ℕ
-height_in = number_of (codes "height") MIN_HEIGHT MAX_HEIGHT
+height_in = option_number (codes "height") MIN_HEIGHT MAX_HEIGHT
 
 -- the words give these settings
 abbrev pub Gives : List (List ℕ) → Settings → Type 0

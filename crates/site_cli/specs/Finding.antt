@@ -24,8 +24,8 @@ abbrev pub height_found : Found → Option ℕ
 height_found f = number_found MIN_HEIGHT MAX_HEIGHT (first_value f (codes "height"))
 
 -- these settings were found
-abbrev pub Finds : Found → Settings → Type 0
-Finds f s = (first_found f ≡ Some s.first) × (count_found f ≡ Some s.count)
+abbrev pub FindsSettings : Found → Settings → Type 0
+FindsSettings f s = (first_found f ≡ Some s.first) × (count_found f ≡ Some s.count)
     × (width_found f ≡ Some s.width) × (height_found f ≡ Some s.height)
 
 abbrev pub are_found : Found → Bool

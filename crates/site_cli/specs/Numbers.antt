@@ -10,10 +10,10 @@ decimal_in text =
     then Some (digits_value 10 text) else None
 
 -- such a number within bounds
-abbrev pub number_in : (least most : ℕ) → List ℕ → Option ℕ
-number_in least most text = option_and_then
+abbrev pub bounded_number : (least most : ℕ) → List ℕ → Option ℕ
+bounded_number least most text = option_and_then
     (λ n. if nat_le least n && nat_le n most then Some n else None) (decimal_in text)
 
 -- the same of a text, where there is one
 abbrev pub number_found : (least most : ℕ) → Option (List ℕ) → Option ℕ
-number_found least most text = option_and_then (number_in least most) text
+number_found least most text = option_and_then (bounded_number least most) text

@@ -1,7 +1,7 @@
 ghost use Rattle.std.specs.Prelude.{◌≡◌, ◌⊎◌, IfErr, IfOk, None, Some};
 ghost use Rattle.std.specs.Str.{all_ascii_digits};
 ghost use Rattle.clap.specs.Words.{first_value, found_of, kind_of};
-ghost use Rattle.site_cli.specs.Numbers.{decimal_in, number_found, number_in};
+ghost use Rattle.site_cli.specs.Numbers.{bounded_number, decimal_in, number_found};
 
 use clap::error::ErrorKind;
 use clap::{ArgMatches, Command, Error};
@@ -25,7 +25,7 @@ fn decimal_in(text: &str) -> Option<u16>
 }
 
 fn number_in(text: &str, least: u16, most: u16) -> Option<u16>
-    ensures { result ≡ number_in least most text.now }
+    ensures { result ≡ bounded_number least most text.now }
 {
     let number = decimal_in(text)?;
     if number < least || most < number {

@@ -1,7 +1,7 @@
 ghost use Rattle.std.specs.Prelude.{◌≡◌, ◌⊎◌, IfErr, IfOk, false, map, if◌then◌else◌};
 ghost use Rattle.clap.specs.Words.{FailsBy, app_of, found_of, kind_of, rule_of};
 ghost use Rattle.site_cli.specs.CommandLine.{Gives, faults_in, is_help, option_rule, program};
-ghost use Rattle.site_cli.specs.Finding.{Finds, are_found};
+ghost use Rattle.site_cli.specs.Finding.{FindsSettings, are_found};
 
 use crate::numbers::number_of;
 use clap::error::ErrorKind;
@@ -45,7 +45,7 @@ fn settings_in<'a>(
     program: &mut Command<'a>,
     matches: &ArgMatches<'a>,
 ) -> Result<Settings, Error>
-    ensures ok { IfOk result (Finds (found_of matches.now)) }
+    ensures ok { IfOk result (FindsSettings (found_of matches.now)) }
     ensures err { IfErr result (λ e. (kind_of e ≡ ErrorKind.OutOfMemory)
         ⊎ ((kind_of e ≡ ErrorKind.ValueValidation) × (are_found (found_of matches.now) ≡ false))) }
 {

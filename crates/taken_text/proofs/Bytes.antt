@@ -5,7 +5,7 @@ use Rattle.std.proofs.lemmas.Bool.Decides.{eqb_tells}
 use Rattle.std.proofs.lemmas.List.{get_or_append_left, get_or-append_right, length-append}
 use Rattle.std.proofs.lemmas.List.Elements.{Contains-push_cases}
 use Rattle.looks.specs.declared.looks.Looks.{Looks}
-use Rattle.char_files.specs.CharFiles.{Files, bytes_of, OthersStay, SameBytes}
+use Rattle.char_files.specs.CharFiles.{FilesBySite, bytes_of, OtherSitesStay, SameBytes}
 use Rattle.char_files.specs.CharName.{CharName}
 use Rattle.char_files.specs.declared.name.Anchor.{Anchor}
 use Rattle.operations.specs.Operation.{Operation, OpKind, insert, appended_len, Inserts, InsertsBy}
@@ -23,9 +23,9 @@ len_of_others : (ops : List Operation) (op : Operation) → AreCountedOn ops op 
 len_of_others ops op counted site e = rw e at (counted.file site)
 
 -- what is appended to a site's file where room was made stands after what it had
-pub appended : (files mid files' : Files) (site at : ℕ) (bytes given : List ℕ) → at ≡ site → given ≡ bytes
-    → SameBytes files mid → bytes_of files' at ≡ bytes_of mid at ++ given → OthersStay mid at files'
-    → (bytes_of files' site ≡ bytes_of files site ++ bytes) × OthersStay files site files'
+pub appended : (files mid files' : FilesBySite) (site at : ℕ) (bytes given : List ℕ) → at ≡ site → given ≡ bytes
+    → SameBytes files mid → bytes_of files' at ≡ bytes_of mid at ++ given → OtherSitesStay mid at files'
+    → (bytes_of files' site ≡ bytes_of files site ++ bytes) × OtherSitesStay files site files'
 appended files mid files' site at bytes given there same unchanged put others = (
   subst (λ (s : ℕ). bytes_of files' s ≡ bytes_of files s ++ bytes) there
       (put ∙ ap (λ (bs : List ℕ). bs ++ given) (unchanged at) ∙ ap (λ (bs : List ℕ). bytes_of files at ++ bs) same),
@@ -33,8 +33,8 @@ appended files mid files' site at bytes given there same unchanged put others = 
 )
 
 -- a byte of a file stays where more bytes are appended to a site's file
-pub byte_stays : (files files' : Files) (site : ℕ) (bytes : List ℕ) → bytes_of files' site ≡ bytes_of files site ++ bytes
-    → OthersStay files site files' → (c : CharName) → c.off < length (bytes_of files c.site)
+pub byte_stays : (files files' : FilesBySite) (site : ℕ) (bytes : List ℕ) → bytes_of files' site ≡ bytes_of files site ++ bytes
+    → OtherSitesStay files site files' → (c : CharName) → c.off < length (bytes_of files c.site)
     → slice_index (bytes_of files' c.site) c.off ≡ slice_index (bytes_of files c.site) c.off
 byte_stays files files' site bytes own others c within = elim (eqb_tells c.site site) [
   | inl same ↦
@@ -43,7 +43,7 @@ byte_stays files files' site bytes own others c within = elim (eqb_tells c.site 
   | inr other ↦ ap (λ (bs : List ℕ). slice_index bs c.off) (others c.site other.1)
 ]
 
-module _ (ops : List Operation) (op : Operation) (files : Files) (here : (c : CharName) → IsHere ops c → IsChar ops c) (is_here : (c : CharName) → IsChar ops c → IsHere ops c) (counted : AreCountedOn ops op) (hold : HoldBytes ops files) where
+module _ (ops : List Operation) (op : Operation) (files : FilesBySite) (here : (c : CharName) → IsHere ops c → IsChar ops c) (is_here : (c : CharName) → IsChar ops c → IsHere ops c) (counted : AreCountedOn ops op) (hold : HoldBytes ops files) where
   -- a Delete, a Restore or a ChangeLooks leaves the files as they are
   pub hold_no_more : InsertsNone op → appended_len op.kind ≡ 0 → HoldBytes (ops ++ op ∷ []) files
   hold_no_more none appended = record {
@@ -57,7 +57,7 @@ module _ (ops : List Operation) (op : Operation) (files : Files) (here : (c : Ch
     ];
   }
 
-  module _ (cause : Anchor) (looks : Looks) (bytes : List ℕ) (files' : Files) (kind : op.kind ≡ insert cause (file_len ops op.site) looks bytes) (own : bytes_of files' op.site ≡ bytes_of files op.site ++ bytes) (others : OthersStay files op.site files') where
+  module _ (cause : Anchor) (looks : Looks) (bytes : List ℕ) (files' : FilesBySite) (kind : op.kind ≡ insert cause (file_len ops op.site) looks bytes) (own : bytes_of files' op.site ≡ bytes_of files op.site ++ bytes) (others : OtherSitesStay files op.site files') where
     -- a byte that was there is there still
     old_byte : (c : CharName) → IsHere ops c → slice_index (bytes_of files' c.site) c.off ≡ slice_index (bytes_of files c.site) c.off
     old_byte c h = byte_stays files files' op.site bytes own others c (omega (arith, hold.lengths c.site, h))

@@ -7,7 +7,7 @@ use Rattle.std.proofs.lemmas.List.{length-map, get_or-map}
 use Rattle.std.proofs.lemmas.List.Elements.{All-filter, Contains-get_or}
 use Rattle.std.proofs.lemmas.Option.{slice_get_cases, slice_get_within, get_or_from_slice_get, slice_get-map}
 use Rattle.looks.specs.declared.looks.Looks.{Looks}
-use Rattle.char_files.specs.CharFiles.{Files, bytes_of}
+use Rattle.char_files.specs.CharFiles.{FilesBySite, bytes_of}
 use Rattle.char_files.specs.CharName.{CharName}
 use Rattle.char_files.specs.declared.character.Char.{Char}
 use Rattle.operations.specs.Operation.{Operation}
@@ -17,24 +17,24 @@ use Rattle.set_laws.specs.Fronts.{IsHere}
 use Rattle.set_laws.proofs.Files.{char_is_here}
 use Rattle.piece_list.specs.Spelled.{spelled, shown_chars, names_of_atoms}
 use Rattle.piece_list.specs.Piece.{Piece}
-use Rattle.taken_text.specs.Taken.{TakenSeen, IsTaken, char_in, seen_in, shown_of}
+use Rattle.taken_text.specs.Taken.{TakenSeen, IsTaken, char_in, seen_in, shown_of_taken}
 use Rattle.taken_text.proofs.Spelling.{all_tell, shown_of_atoms}
 
 -- a name's byte is in its site's file
-abbrev pub HasByteIn : Files → CharName → Type 0
+abbrev pub HasByteIn : FilesBySite → CharName → Type 0
 HasByteIn files c = c.off < length (bytes_of files c.site)
 
 -- what is shown are the atoms that aren't hidden
-pub shown_now : (ops : List Operation) (items : List (ℕ × Piece)) (files : Files) (asked : ℕ) (now : TakenSeen)
+pub shown_now : (ops : List Operation) (items : List (ℕ × Piece)) (files : FilesBySite) (asked : ℕ) (now : TakenSeen)
     → seen_in ops items files asked ≡ now → IsTaken ops items files
-    → shown_of now ≡ map (char_in files) (shown_chars (spelled items))
+    → shown_of_taken now ≡ map (char_in files) (shown_chars (spelled items))
 shown_now ops items files asked now seen t =
-    sym (ap shown_of seen)
+    sym (ap shown_of_taken seen)
     ∙ shown_of_atoms ops files (spelled items) (all_tell ops t.good (spelled items) t.atoms.registers)
 
-pub count_now : (ops : List Operation) (items : List (ℕ × Piece)) (files : Files) (asked : ℕ) (now : TakenSeen)
+pub count_now : (ops : List Operation) (items : List (ℕ × Piece)) (files : FilesBySite) (asked : ℕ) (now : TakenSeen)
     → seen_in ops items files asked ≡ now → IsTaken ops items files
-    → length (shown_of now) ≡ length (shown_chars (spelled items))
+    → length (shown_of_taken now) ≡ length (shown_chars (spelled items))
 count_now ops items files asked now seen t =
     ap (length {A = Char}) (shown_now ops items files asked now seen t) ∙ length-map (shown_chars (spelled items)) (char_in files)
 
@@ -44,7 +44,7 @@ name_of_atom atoms k (i, lt, is) =
     let name : Atom → CharName = λ (o : Atom). o.name in
     (i, omega (arith, length-map atoms name), get_or-map name atoms i k k.name lt ∙ ap name is)
 
-pub have_bytes : (ops : List Operation) (items : List (ℕ × Piece)) (files : Files) → IsTaken ops items files
+pub have_bytes : (ops : List Operation) (items : List (ℕ × Piece)) (files : FilesBySite) → IsTaken ops items files
     → All (λ k. HasByteIn files k.name) (spelled items)
 have_bytes ops items files t = λ i d lt.
     let k : Atom = get_or (spelled items) i d in
@@ -53,8 +53,8 @@ have_bytes ops items files t = λ i d lt.
     omega (arith, here, t.bytes.lengths k.name.site)
 
 -- the character that is shown at a position, of the name and looks that the pieces tell
-module _ (ops : List Operation) (items : List (ℕ × Piece)) (files : Files) (asked : ℕ) (now : TakenSeen)
-    (seen : seen_in ops items files asked ≡ now) (t : IsTaken ops items files) (pos : ℕ) (within : pos < length (shown_of now)) where
+module _ (ops : List Operation) (items : List (ℕ × Piece)) (files : FilesBySite) (asked : ℕ) (now : TakenSeen)
+    (seen : seen_in ops items files asked ≡ now) (t : IsTaken ops items files) (pos : ℕ) (within : pos < length (shown_of_taken now)) where
   pub is_within : pos < length (shown_chars (spelled items))
   is_within = omega (arith, within, count_now ops items files asked now seen t)
 
@@ -79,7 +79,7 @@ module _ (ops : List Operation) (items : List (ℕ × Piece)) (files : Files) (a
         (subst Has (get_or_from_slice_get shown pos k k there.1) (all pos k (slice_get_within shown pos k there.1)))
 
     pub char_shown : (byte : ℕ) → byte ≡ slice_index (bytes_of files name.site) name.off
-        → slice_get (shown_of now) pos ≡ Some (record { name = name; byte = byte; looks = looks })
+        → slice_get (shown_of_taken now) pos ≡ Some (record { name = name; byte = byte; looks = looks })
     char_shown byte is =
         let k : Atom = there.0 in
         let shown : List Atom = shown_chars (spelled items) in

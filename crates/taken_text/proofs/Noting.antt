@@ -5,7 +5,7 @@ use Rattle.std.proofs.lemmas.Bool.{cases_lt}
 use Rattle.std.proofs.lemmas.List.{append-nil, length-append, length-take, take_all, take-append-le, drop-append-le, drop_all, drop-take, drop-map, take-map, take-append-drop}
 use Rattle.std.proofs.lemmas.List.Elements.{All-filter, All-head, All-tail, All-cons, All-nil}
 use Rattle.std.proofs.lemmas.Simd.{map-map}
-use Rattle.char_files.specs.CharFiles.{Files, bytes_of, OthersStay, SameBytes}
+use Rattle.char_files.specs.CharFiles.{FilesBySite, bytes_of, OtherSitesStay, SameBytes}
 use Rattle.char_files.specs.CharName.{CharName}
 use Rattle.char_files.specs.declared.character.Char.{Char}
 use Rattle.operations.specs.NameSet.{Range, IsAmong}
@@ -19,7 +19,7 @@ use Rattle.tree_order.specs.Registers.{Atom}
 use Rattle.tree_order.specs.Shown.{IsShown}
 use Rattle.list_changes.proofs.Leading.{leads-append, leads-mapped}
 use Rattle.piece_list.specs.Piece.{Piece}
-use Rattle.piece_list.specs.Noted.{Notes, SameName, IsReplaceOf, appearances, names_shown}
+use Rattle.piece_list.specs.Noted.{Notes, SameName, IsReplaceOf, appearances, names_of_shown}
 use Rattle.piece_list.specs.Shown.{Appearance, appearance_of}
 use Rattle.piece_list.specs.Spelled.{spelled, shown_chars}
 use Rattle.taken_text.specs.Noted.{AreChangesAfter, AreChangesOf, AreChangesOfAll, AreChangesSince, AreToldTogether, GainsChangesOf, IsChangeOf, SameChar, insertion_of}
@@ -34,7 +34,7 @@ abbrev Items : Type 0
 Items = List (ℕ × Piece)
 
 -- Changes of what pieces show are changes of what the files' bytes make of it.
-module _ (files : Files) where
+module _ (files : FilesBySite) where
   told_chars : (items : Items) → map (with_byte files) (appearances items) ≡ chars_shown items files
   told_chars items = map-map (with_byte files) appearance_of (shown_chars (spelled items))
 
@@ -49,11 +49,11 @@ module _ (files : Files) where
       (leads-mapped SameName SameChar (with_byte files) same_char changes (appearances was) (appearances now) leads))
 
 -- the byte of a character is the same in both files
-abbrev StaysIn : Files → Files → Atom → Type 0
+abbrev StaysIn : FilesBySite → FilesBySite → Atom → Type 0
 StaysIn files files' k =
     slice_index (bytes_of files' k.name.site) k.name.off ≡ slice_index (bytes_of files k.name.site) k.name.off
 
-chars_stay : (files files' : Files) (atoms : List Atom) → All (StaysIn files files') atoms
+chars_stay : (files files' : FilesBySite) (atoms : List Atom) → All (StaysIn files files') atoms
     → map (char_in files') atoms ≡ map (char_in files) atoms
 chars_stay files files' [] all = refl
 chars_stay files files' (k ∷ atoms) all =
@@ -63,7 +63,7 @@ chars_stay files files' (k ∷ atoms) all =
     (chars_stay files files' atoms (All-tail (StaysIn files files') k atoms all))
 
 -- files of the same bytes show the same
-pub shown_same : (items items' : Items) (files files' : Files) → items' ≡ items → SameBytes files files'
+pub shown_same : (items items' : Items) (files files' : FilesBySite) → items' ≡ items → SameBytes files files'
     → chars_shown items' files' ≡ chars_shown items files
 shown_same items items' files files' same bytes =
     ap (λ (l : Items). chars_shown l files') same
@@ -72,8 +72,8 @@ shown_same items items' files files' same bytes =
     (bytes (get_or (shown_chars (spelled items)) i d).name.site))
 
 -- and so do files that gain bytes at an end
-pub shown_stay : (ops : List Operation) (items : Items) (files files' : Files) (site : ℕ) (bytes : List ℕ)
-    → IsTaken ops items files → bytes_of files' site ≡ bytes_of files site ++ bytes → OthersStay files site files'
+pub shown_stay : (ops : List Operation) (items : Items) (files files' : FilesBySite) (site : ℕ) (bytes : List ℕ)
+    → IsTaken ops items files → bytes_of files' site ≡ bytes_of files site ++ bytes → OtherSitesStay files site files'
     → chars_shown items files' ≡ chars_shown items files
 shown_stay ops items files files' site bytes taken own others =
     chars_stay files files' (shown_chars (spelled items))
@@ -113,13 +113,13 @@ named_stretch names shown beg end all =
         (each_named cs (All-tail (IsAmong names) c.name (map name cs) all))
 
 -- replaces of names that a ChangeLooks has are its changes
-pub replaces_told : (names : List Range) (sel : Selection) (looks : Looks) (items : Items) (files : Files) (changes : List Change)
+pub replaces_told : (names : List Range) (sel : Selection) (looks : Looks) (items : Items) (files : FilesBySite) (changes : List Change)
     → All (IsReplaceOf names (appearances items)) changes
     → All (IsChangeOf (change_looks sel looks names) (chars_shown items files)) changes
 replaces_told names sel looks items files changes all = λ i d lt.
     let (kind, named) = all i d lt in
     let change : Change = get_or changes i d in
-    let same : names_shown (appearances items) ≡ map (λ (c : Char). c.name) (chars_shown items files) =
+    let same : names_of_shown (appearances items) ≡ map (λ (c : Char). c.name) (chars_shown items files) =
     map-map (λ (a : Appearance). a.name) appearance_of (shown_chars (spelled items))
     ∙ sym (map-map (λ (c : Char). c.name) (char_in files) (shown_chars (spelled items))) in (
       kind,
@@ -129,7 +129,7 @@ replaces_told names sel looks items files changes all = λ i d lt.
 
 -- What is noted of pieces is noted of the text, for one operation more.
 pub gains_told : (ops : List Operation) (op : Operation) (Is : Change → Type 0) (old new : List Change) (was now : Items)
-    (files files' : Files) → IsTaken (ops ++ op ∷ []) now files' → chars_shown was files' ≡ chars_shown was files
+    (files files' : FilesBySite) → IsTaken (ops ++ op ∷ []) now files' → chars_shown was files' ≡ chars_shown was files
     → ((changes : List Change) → All Is changes → All (IsChangeOf op.kind (chars_shown was files)) changes)
     → Notes Is old new (appearances was) (appearances now)
     → GainsChangesOf ops op old new (chars_shown was files) (chars_shown now files')
@@ -230,7 +230,7 @@ after_all ops shown is = record {
       (sym (drop_all (length ops) ops (omega arith))) (refl, refl);
 }
 
-pub since_now : (ops : List Operation) (items : Items) (files : Files) → IsTaken ops items files
+pub since_now : (ops : List Operation) (items : Items) (files : FilesBySite) → IsTaken ops items files
     → AreChangesSince (length ops) ops [] (chars_shown items files)
 since_now ops items files taken =
     let after : AreChangesAfter (length ops) ops [] (chars_shown items files) (chars_shown items files) =
@@ -238,7 +238,7 @@ since_now ops items files taken =
     record { was = chars_shown items files; shown = after.shown; told = inl after }
 
 -- one insertion tells of all operations together
-pub since_together : (asked : ℕ) (ops : List Operation) (items : Items) (files : Files) → asked ≡ 0 → IsTaken ops items files
+pub since_together : (asked : ℕ) (ops : List Operation) (items : Items) (files : FilesBySite) → asked ≡ 0 → IsTaken ops items files
     → AreChangesSince asked ops (insertion_of (length (chars_shown items files))) (chars_shown items files)
 since_together asked ops items files none taken = record {
   was = [];

@@ -3,7 +3,7 @@ use Rattle.std.proofs.Common.{◌≡◌, ℕ, Bool, true, false, not, cond, List
 use Rattle.std.specs.Prelude.{slice_index}
 use Rattle.std.specs.List.{filter}
 use Rattle.std.proofs.lemmas.List.Elements.{All-filter, All-head, All-tail, All-cons, All-nil, All-map}
-use Rattle.char_files.specs.CharFiles.{Files, SameBytes}
+use Rattle.char_files.specs.CharFiles.{FilesBySite, SameBytes}
 use Rattle.char_files.specs.CharName.{CharName}
 use Rattle.char_files.specs.declared.character.Char.{Char}
 use Rattle.operations.specs.Operation.{Operation}
@@ -19,17 +19,17 @@ use Rattle.piece_list.specs.Spelled.{spelled, shown_chars}
 use Rattle.piece_list.specs.Piece.{Piece}
 use Rattle.taken_text.specs.Taken.{IsTaken, HoldBytes, IsDefined, char_in, chars_shown, seen_in}
 
-names_of_chars : (files : Files) (atoms : List Atom) → map (λ (c : Char). c.name) (map (char_in files) atoms) ≡ map (λ (k : Atom). k.name) atoms
+names_of_chars : (files : FilesBySite) (atoms : List Atom) → map (λ (c : Char). c.name) (map (char_in files) atoms) ≡ map (λ (k : Atom). k.name) atoms
 names_of_chars files [] = refl
 names_of_chars files (k ∷ atoms) = ap (λ (cs : List CharName). k.name ∷ cs) (names_of_chars files atoms)
 
-has_byte : (ops : List Operation) (files : Files) → HoldBytes ops files → (k : Atom) → HasRegisters ops k → HasByte ops k.name (char_in files k).byte
+has_byte : (ops : List Operation) (files : FilesBySite) → HoldBytes ops files → (k : Atom) → HasRegisters ops k → HasByte ops k.name (char_in files k).byte
 has_byte ops files hold k r =
     let (i, is, key) = r.key in
     let has : HasByte ops k.name (byte_by i.kind k.name) = (i, is, refl) in
     subst (HasByte ops k.name) (hold.bytes k.name (byte_by i.kind k.name) has) has
 
-all_bytes : (ops : List Operation) (files : Files) → HoldBytes ops files → (atoms : List Atom) → All (HasRegisters ops) atoms → All (λ (k : Atom). HasByte ops (char_in files k).name (char_in files k).byte) atoms
+all_bytes : (ops : List Operation) (files : FilesBySite) → HoldBytes ops files → (atoms : List Atom) → All (HasRegisters ops) atoms → All (λ (k : Atom). HasByte ops (char_in files k).name (char_in files k).byte) atoms
 all_bytes ops files hold [] all = All-nil _
 all_bytes ops files hold (k ∷ atoms) all =
     All-cons (λ (j : Atom). HasByte ops (char_in files j).name (char_in files j).byte) k atoms (has_byte ops files hold k (All-head (HasRegisters ops) k atoms all)) (all_bytes ops files hold atoms (All-tail (HasRegisters ops) k atoms all))
@@ -39,13 +39,13 @@ pub all_tell : (ops : List Operation) → Good ops → (atoms : List Atom) → A
 all_tell ops good [] all = All-nil (FollowRegisters ops)
 all_tell ops good (k ∷ atoms) all = All-cons (FollowRegisters ops) k atoms (tell ops good k (All-head (HasRegisters ops) k atoms all)) (all_tell ops good atoms (All-tail (HasRegisters ops) k atoms all))
 
-all_looks : (ops : List Operation) (files : Files) (atoms : List Atom) → All (FollowRegisters ops) atoms → All (λ (k : Atom). HasLooks ops (char_in files k).name (char_in files k).looks) atoms
+all_looks : (ops : List Operation) (files : FilesBySite) (atoms : List Atom) → All (FollowRegisters ops) atoms → All (λ (k : Atom). HasLooks ops (char_in files k).name (char_in files k).looks) atoms
 all_looks ops files [] all = All-nil _
 all_looks ops files (k ∷ atoms) all =
     All-cons (λ (j : Atom). HasLooks ops (char_in files j).name (char_in files j).looks) k atoms (All-head (FollowRegisters ops) k atoms all).looks (all_looks ops files atoms (All-tail (FollowRegisters ops) k atoms all))
 
 -- the atoms are the characters of the operations
-pub chars_of_taken : (ops : List Operation) (items : List (ℕ × Piece)) (files : Files) → IsTaken ops items files
+pub chars_of_taken : (ops : List Operation) (items : List (ℕ × Piece)) (files : FilesBySite) → IsTaken ops items files
     → AreChars ops (map (char_in files) (spelled items))
 chars_of_taken ops items files t = record {
   order = subst (IsOrder ops) (sym (names_of_chars files (spelled items))) t.atoms.order;
@@ -54,7 +54,7 @@ chars_of_taken ops items files t = record {
 }
 
 -- what is shown of the pieces is what is shown
-pub shown_of_atoms : (ops : List Operation) (files : Files) (atoms : List Atom) → All (FollowRegisters ops) atoms
+pub shown_of_atoms : (ops : List Operation) (files : FilesBySite) (atoms : List Atom) → All (FollowRegisters ops) atoms
     → filter (λ (c : Char). is_visible ops c.name) (map (char_in files) atoms) ≡ map (char_in files) (shown_chars atoms)
 shown_of_atoms ops files [] all = refl
 shown_of_atoms ops files (k ∷ atoms) all =
@@ -94,14 +94,14 @@ visible_are_shown ops chars are = record {
 }
 
 -- so what the pieces show is what is defined
-pub is_shown : (ops : List Operation) (items : List (ℕ × Piece)) (files : Files) → IsTaken ops items files
+pub is_shown : (ops : List Operation) (items : List (ℕ × Piece)) (files : FilesBySite) → IsTaken ops items files
     → IsShown ops (chars_shown items files)
 is_shown ops items files t =
     subst (IsShown ops) (shown_of_atoms ops files (spelled items) (all_tell ops t.good (spelled items) t.atoms.registers))
     (visible_are_shown ops (map (char_in files) (spelled items)) (chars_of_taken ops items files t))
 
 -- so all is as it is defined
-pub defined : (ops : List Operation) (items : List (ℕ × Piece)) (files : Files) (asked : ℕ) → IsTaken ops items files → IsDefined (seen_in ops items files asked)
+pub defined : (ops : List Operation) (items : List (ℕ × Piece)) (files : FilesBySite) (asked : ℕ) → IsTaken ops items files → IsDefined (seen_in ops items files asked)
 defined ops items files asked t = record {
   good = t.good;
   in_order = t.in_order;
@@ -110,7 +110,7 @@ defined ops items files asked t = record {
 }
 
 -- files of the same bytes hold the same
-pub same_taken : (ops : List Operation) (items items' : List (ℕ × Piece)) (files files' : Files) → items' ≡ items → SameBytes files files' → IsTaken ops items files → IsTaken ops items' files'
+pub same_taken : (ops : List Operation) (items items' : List (ℕ × Piece)) (files files' : FilesBySite) → items' ≡ items → SameBytes files files' → IsTaken ops items files → IsTaken ops items' files'
 same_taken ops items items' files files' same bytes t = record {
   good = t.good;
   in_order = t.in_order;

@@ -5,7 +5,7 @@ use Rattle.std.specs.Prelude.{slice_range}
 use Rattle.std.specs.List.{flat_map}
 use Rattle.std.proofs.lemmas.List.{map-append, take-map, drop-map}
 use Rattle.std.proofs.lemmas.List.Elements.{All-filter, All-take, All-drop, All-tail}
-use Rattle.char_files.specs.CharFiles.{Files}
+use Rattle.char_files.specs.CharFiles.{FilesBySite}
 use Rattle.char_files.specs.CharName.{CharName}
 use Rattle.char_files.specs.declared.TheConstants.{MAX_FILE}
 use Rattle.char_files.specs.declared.character.Char.{Char}
@@ -18,7 +18,7 @@ use Rattle.piece_list.specs.Spelled.{spelled, shown_chars}
 use Rattle.piece_list.specs.Piece.{Piece}
 use Rattle.piece_list.specs.declared.run.Run.{Run}
 use Rattle.taken_text.specs.Shown.{range_of_run}
-use Rattle.taken_text.specs.Taken.{TakenSeen, IsTaken, char_in, seen_in, shown_of, names_between}
+use Rattle.taken_text.specs.Taken.{TakenSeen, IsTaken, char_in, seen_in, shown_of_taken, names_between}
 use Rattle.taken_text.proofs.Counted.{HasByteIn, have_bytes, shown_now}
 
 -- a stretch of what a function gives
@@ -39,19 +39,19 @@ names_told (r ∷ runs) =
     ∙ ap (λ (l : List CharName). map (λ (a : Appearance). a.name) (appearances_in r) ++ l) (names_told runs)
     ∙ sym (map-append (λ (a : Appearance). a.name) (appearances_in r) (flat_map appearances_in runs))
 
-names_of_all : (files : Files) (atoms : List Atom)
+names_of_all : (files : FilesBySite) (atoms : List Atom)
     → map (λ (a : Appearance). a.name) (map appearance_of atoms) ≡ map (λ (c : Char). c.name) (map (char_in files) atoms)
 names_of_all files [] = refl
 names_of_all files (k ∷ atoms) = ap (λ (l : List CharName). k.name ∷ l) (names_of_all files atoms)
 
 -- of pieces and what is told of them between two positions
-module _ (ops : List Operation) (items : List (ℕ × Piece)) (files : Files) (asked : ℕ) (now : TakenSeen)
+module _ (ops : List Operation) (items : List (ℕ × Piece)) (files : FilesBySite) (asked : ℕ) (now : TakenSeen)
     (seen : seen_in ops items files asked ≡ now) (t : IsTaken ops items files) (beg end : ℕ) where
   -- the atoms that are shown there
   abbrev pub part : List Atom
   part = slice_range (shown_chars (spelled items)) beg end
 
-  pub part_shown : slice_range (shown_of now) beg end ≡ map (char_in files) part
+  pub part_shown : slice_range (shown_of_taken now) beg end ≡ map (char_in files) part
   part_shown =
       ap (λ (cs : List Char). slice_range cs beg end) (shown_now ops items files asked now seen t)
       ∙ range_map (char_in files) (shown_chars (spelled items)) beg end

@@ -6,7 +6,7 @@ use Rattle.looks.specs.Key.{is_below}
 use Rattle.looks.specs.declared.key.Key.{Key}
 use Rattle.std.specs.Prelude.{Result, Ok, Err, OnOk}
 use Rattle.looks.specs.declared.looks.Looks.{Looks}
-use Rattle.char_files.specs.CharFiles.{Files, bytes_of, OthersStay}
+use Rattle.char_files.specs.CharFiles.{FilesBySite, bytes_of, OtherSitesStay}
 use Rattle.char_files.specs.CharName.{CharName}
 use Rattle.char_files.specs.declared.name.Anchor.{Anchor}
 use Rattle.char_files.specs.declared.name.Anchor.TheVariants.{Root, At}
@@ -45,7 +45,7 @@ pub both_ok : {X E : Type 0} (r : Result X E) (P Q R : Type 0) → (P → Q → 
 both_ok (Ok x) P Q R f h g = f h g
 both_ok (Err e) P Q R f h g = tt
 
-module _ (ops : List Operation) (op : Operation) (items : List (ℕ × Piece)) (files : Files) (taken : IsTaken ops items files) (new : IsNew ops op) (is : HasVerdict ops op ready) where
+module _ (ops : List Operation) (op : Operation) (items : List (ℕ × Piece)) (files : FilesBySite) (taken : IsTaken ops items files) (new : IsNew ops op) (is : HasVerdict ops op ready) where
   told : AreDeterminedByCounts ops op
   told = determined_by_counts ops op taken.good taken.identified new
 
@@ -74,8 +74,8 @@ module _ (ops : List Operation) (op : Operation) (items : List (ℕ × Piece)) (
         none_after ops op taken.good taken.identified new is (spelled items) taken.atoms c (omega (arith, len, h.1))
 
     -- its run put in its place, and its bytes after its site's
-    pub taken_with_run : (run : Run) → IsRunOf op run → (items' : List (ℕ × Piece)) (files' : Files)
-        → IsPlaced run.key cause (chars_of (piece_of run)) (spelled items) (spelled items') → bytes_of files' op.site ≡ bytes_of files op.site ++ bytes → OthersStay files op.site files'
+    pub taken_with_run : (run : Run) → IsRunOf op run → (items' : List (ℕ × Piece)) (files' : FilesBySite)
+        → IsPlaced run.key cause (chars_of (piece_of run)) (spelled items) (spelled items') → bytes_of files' op.site ≡ bytes_of files op.site ++ bytes → OtherSitesStay files op.site files'
         → IsTaken (ops ++ op ∷ []) items' files'
     taken_with_run run of items' files' put own others =
         let chars = first_atoms_piece op run of in

@@ -4,8 +4,8 @@ use Rattle.operations.specs.declared.typing.Typing.{Typing}
 use Rattle.piece_list.specs.declared.run.Run.{Run}
 
 -- so many letters
-abbrev pub run_of : Typing → ℕ → Run
-run_of t n = record {
+abbrev pub typed_run : Typing → ℕ → Run
+typed_run t n = record {
   site = t.site;
   off = t.at;
   len = n;

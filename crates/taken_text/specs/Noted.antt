@@ -6,7 +6,7 @@ use Rattle.operations.specs.Operation.{Operation, OpKind, insert, delete, restor
 use Rattle.list_changes.specs.Changes.{IsOfKind, Leads}
 use Rattle.list_changes.specs.declared.change.Change.{Change}
 use Rattle.list_changes.specs.declared.change.ChangeKind.TheVariants.{Insert, Delete, Replace}
-use Rattle.char_files.specs.CharFiles.{Files}
+use Rattle.char_files.specs.CharFiles.{FilesBySite}
 use Rattle.tree_order.specs.Shown.{IsShown}
 use Rattle.piece_list.specs.Piece.{Piece}
 use Rattle.taken_text.specs.Taken.{IsTaken, chars_shown}
@@ -74,7 +74,7 @@ pub record GainsChangesOf (ops : List Operation) (op : Operation) (old new : Lis
   pub told : AreChangesOf ops op gained was now
 
 -- the operations are taken in, and the note tells what those after the first so many made of what is shown
-pub record IsNotedText (ops : List Operation) (items : List (ℕ × Piece)) (files : Files) (asked : ℕ)
+pub record IsNotedText (ops : List Operation) (items : List (ℕ × Piece)) (files : FilesBySite) (asked : ℕ)
     (note : List Change) : Type 0 where
   pub taken : IsTaken ops items files
   pub noted : AreChangesSince asked ops note (chars_shown items files)

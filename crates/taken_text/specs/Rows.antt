@@ -2,12 +2,12 @@
 use Rattle.std.specs.Prelude.{ℕ, ◌+◌, List, [], ◌∷◌, slice_range}
 use Rattle.std.specs.List.{flat_map}
 use Rattle.looks.specs.declared.looks.Looks.{Looks}
-use Rattle.char_files.specs.CharFiles.{Files, bytes_of}
+use Rattle.char_files.specs.CharFiles.{FilesBySite, bytes_of}
 use Rattle.char_files.specs.declared.character.Char.{Char}
 use Rattle.piece_list.specs.declared.run.Run.{Run}
 
 -- characters that stand one after the other in a site's file, from this offset on, and look alike
-pub record Row : Type 0 where
+pub record RowSeen : Type 0 where
   pub site : ℕ
   pub off : ℕ
   pub bytes : List ℕ
@@ -21,15 +21,15 @@ chars_from site off looks (byte ∷ bytes) =
     ∷ chars_from site (off + 1) looks bytes
 
 -- a row's characters
-abbrev pub chars_of_row : Row → List Char
+abbrev pub chars_of_row : RowSeen → List Char
 chars_of_row r = chars_from r.site r.off r.looks r.bytes
 
 -- the characters of rows, one row after the other
-abbrev pub chars_of_rows : List Row → List Char
+abbrev pub chars_of_rows : List RowSeen → List Char
 chars_of_rows rows = flat_map chars_of_row rows
 
 -- a run as a row, with its bytes
-abbrev pub row_in : Files → Run → Row
+abbrev pub row_in : FilesBySite → Run → RowSeen
 row_in files r = record {
   site = r.site;
   off = r.off;

@@ -6,7 +6,7 @@ ghost use Rattle.char_files.specs.CharFiles.{SameBytes};
 ghost use Rattle.operations.specs.Letters.{letter, letters};
 ghost use Rattle.operations.specs.Spelling.{HasSpelling};
 ghost use Rattle.set_laws.specs.Verdict.{HasVerdict, IsNew, ready};
-ghost use Rattle.taken_text.specs.Letters.{run_of};
+ghost use Rattle.taken_text.specs.Letters.{typed_run};
 ghost use Rattle.taken_text.specs.Noted.{IsNotedText};
 ghost use Rattle.taken_text.specs.Taken.{IsTaken};
 
@@ -21,7 +21,7 @@ use piece_list::{PieceList, Run};
 // Letters as one run.
 fn run_of(typing: &Typing, len: usize) -> Run
     requires { len ≤ MAX_INSERT }
-    ensures { result ≡ run_of typing.now len }
+    ensures { result ≡ typed_run typing.now len }
 {
     Run {
         site: typing.site,

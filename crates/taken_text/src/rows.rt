@@ -21,9 +21,9 @@ pub struct ShownRow<'a> {
 
 impl<'a> Model for ShownRow<'a> {
     ghost use Rattle.std.specs.Prelude.{◌<◌, length};
-    ghost use Rattle.taken_text.specs.Rows.{Row};
+    ghost use Rattle.taken_text.specs.Rows.{RowSeen};
 
-    ghost Value = { Row };
+    ghost Value = { RowSeen };
 
     ghost view = { λ r. record { site = r.site; off = r.off; bytes = r.bytes.now; looks = r.looks } };
 
@@ -83,10 +83,10 @@ pub struct ShownRows<'a> {
 
 impl<'a> Model for ShownRows<'a> {
     ghost use Rattle.std.specs.Prelude.{List, map};
-    ghost use Rattle.taken_text.specs.Rows.{Row, row_in};
+    ghost use Rattle.taken_text.specs.Rows.{RowSeen, row_in};
     ghost use Rattle.taken_text.specs.Shown.{AreInFiles};
 
-    ghost Value = { List Row };
+    ghost Value = { List RowSeen };
 
     ghost view = { λ s. map (row_in s.files.now) s.walk };
 

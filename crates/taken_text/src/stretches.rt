@@ -11,7 +11,7 @@ ghost use Rattle.tree_order.specs.Shown.{is_visible};
 ghost use Rattle.tree_order.specs.Tree.{IsChar};
 ghost use Rattle.taken_text.specs.Rows.{chars_of_rows};
 ghost use Rattle.taken_text.specs.Shown.{range_of_run};
-ghost use Rattle.taken_text.specs.Taken.{names_between, shown_of};
+ghost use Rattle.taken_text.specs.Taken.{names_between, shown_of_taken};
 
 use crate::rows::ShownRows;
 use crate::shown::Shown;
@@ -55,7 +55,7 @@ impl TakenText {
     /// The characters that are shown from `beg` to `end`, one after the other. It takes no memory.
     pub fn shown_between(&self, beg: u64, end: u64) -> Shown<'_>
         requires { beg ≤ end }
-        ensures { result ≡ slice_range (shown_of self.now) beg end }
+        ensures { result ≡ slice_range (shown_of_taken self.now) beg end }
     {
         Shown::of(self.pieces.walk_between(beg, end), &self.files)
     }
@@ -63,7 +63,7 @@ impl TakenText {
     /// The same as rows of neighbouring bytes, one after the other. It takes no memory.
     pub fn rows_between(&self, beg: u64, end: u64) -> ShownRows<'_>
         requires { beg ≤ end }
-        ensures { chars_of_rows result ≡ slice_range (shown_of self.now) beg end }
+        ensures { chars_of_rows result ≡ slice_range (shown_of_taken self.now) beg end }
     {
         ShownRows::of(self.pieces.walk_between(beg, end), &self.files)
     }
@@ -74,7 +74,7 @@ impl TakenText {
     /// it.
     pub fn names_shown(&self, beg: u64, end: u64) -> Result<NameSet, Refusal>
         requires range { beg ≤ end }
-        requires in_text { end ≤ length (shown_of self.now) }
+        requires in_text { end ≤ length (shown_of_taken self.now) }
         ensures ok { IfOk result (λ set. set ≡ names_between self.now beg end) }
         ensures scattered { IsErrOf result Refusal.Scattered
             → MAX_RANGES < length (names_between self.now beg end) }
@@ -89,9 +89,9 @@ impl TakenText {
     /// stretch is never refused.
     pub fn stretch(&self, beg: u64, end: u64) -> Result<Buffer, Refusal>
         requires range { beg ≤ end }
-        requires in_text { end ≤ length (shown_of self.now) }
+        requires in_text { end ≤ length (shown_of_taken self.now) }
         ensures ok { IfOk result
-            (λ buffer. buffer ≡ map (λ c. (c.byte, c.looks)) (slice_range (shown_of self.now) beg end)) }
+            (λ buffer. buffer ≡ map (λ c. (c.byte, c.looks)) (slice_range (shown_of_taken self.now) beg end)) }
         ensures long { IsErrOf result Refusal.FileSpent ↔ (MAX_FILE < end - beg) }
         ensures errors { IfErr result (λ e. (e ≡ Refusal.FileSpent) ⊎ (e ≡ Refusal.OutOfMemory)) }
         ensures empty { beg ≡ end → IsOk result }

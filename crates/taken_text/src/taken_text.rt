@@ -8,7 +8,7 @@ ghost use Rattle.tree_order.specs.Shown.{IsPlace};
 ghost use Rattle.tree_order.specs.Tree.{IsChar};
 ghost use Rattle.set_laws.specs.Verdict.{HasVerdict, IsNew, ready};
 ghost use Rattle.taken_text.specs.Noted.{AreChangesSince, GainsChangesOf, insertion_of};
-ghost use Rattle.taken_text.specs.Taken.{IsDefined, IsTaken, chars_shown, shown_of};
+ghost use Rattle.taken_text.specs.Taken.{IsDefined, IsTaken, chars_shown, shown_of_taken};
 
 use crate::shown::Shown;
 use char_files::{Char, CharFiles, Name};
@@ -169,15 +169,15 @@ impl TakenText {
 
     /// How many characters are shown.
     pub fn shown_len(&self) -> u64
-        ensures { result ≡ length (shown_of self.now) }
+        ensures { result ≡ length (shown_of_taken self.now) }
     {
         self.pieces.shown_len()
     }
 
     /// The character that is shown at this position, from 0.
     pub fn char_at(&self, pos: u64) -> Char
-        requires { pos < length (shown_of self.now) }
-        ensures { slice_get (shown_of self.now) pos ≡ Some result }
+        requires { pos < length (shown_of_taken self.now) }
+        ensures { slice_get (shown_of_taken self.now) pos ≡ Some result }
     {
         let (name, looks) = self.pieces.shown_at(pos);
         Char {
@@ -198,7 +198,7 @@ impl TakenText {
 
     /// The characters that are shown, in their order, one after the other: takes no memory.
     pub fn shown(&self) -> Shown<'_>
-        ensures { result ≡ shown_of self.now }
+        ensures { result ≡ shown_of_taken self.now }
     {
         self.shown_between(0, self.shown_len())
     }
@@ -206,7 +206,7 @@ impl TakenText {
     /// What the operations taken in since the last call changed of what is shown, in their order. They are
     /// handed out and no longer kept. It takes no memory.
     pub fn changes(&mut self) -> Vec<Change>
-        ensures told { AreChangesSince self.old.asked self.old.operations result.items (shown_of self.old) }
+        ensures told { AreChangesSince self.old.asked self.old.operations result.items (shown_of_taken self.old) }
         ensures asked { self.new ≡ record self.old { asked = length self.old.operations } }
     {
         self.asked = self.log.len();

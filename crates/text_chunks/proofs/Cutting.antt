@@ -8,19 +8,19 @@ use Rattle.packed.specs.Told.{nothing_begun}
 use Rattle.chunks.specs.Chunks.{Placed, CanCome, CanAllCome, Written, chunks_on, fits, nothing_written, told_by, written_on}
 use Rattle.chunks.proofs.Agreeing.{nothing_is_weaker, weaken}
 use Rattle.chunks.proofs.Divided.{one_fits}
-use Rattle.text_chunks.specs.Parts.{Cut, IsCutOn, added_to, bytes_in, chunks_from, closed, cut_on, has_room, told_in}
+use Rattle.text_chunks.specs.Parts.{Cut, IsCutOn, added_to, chunk_closed, chunk_has_room, chunks_from, cut_on, told_in, written_chunks}
 
 -- the chunk that is being written is the last where nothing more comes
-last_one : (text : ℕ) (current : Option Written) → bytes_in current ≡ chunks_from text current []
+last_one : (text : ℕ) (current : Option Written) → written_chunks current ≡ chunks_from text current []
 last_one text None = refl
 last_one text (Some w) = refl
 
-pub cut_nothing : (c : Cut) → (closed c).full ≡ cut_on c []
+pub cut_nothing : (c : Cut) → (chunk_closed c).full ≡ cut_on c []
 cut_nothing c = ap (λ (l : List (List ℕ)). c.full ++ l) (last_one c.text c.current)
 
 -- ---- an operation for which there is room
 
-room_chunks : (text : ℕ) (current : Option Written) (p : Placed) (ps : List Placed) → has_room current p ≡ true
+room_chunks : (text : ℕ) (current : Option Written) (p : Placed) (ps : List Placed) → chunk_has_room current p ≡ true
     → chunks_from text (added_to current p) ps ≡ chunks_from text current (p ∷ ps)
 room_chunks text None p ps room = absurd cc
 room_chunks text (Some w) p ps room =
@@ -28,13 +28,13 @@ room_chunks text (Some w) p ps room =
     ∙ sym (cond-true (fits w p) (chunks_on text (written_on w p) ps)
     (w.bytes ∷ chunks_on text (written_on (nothing_written text) p) ps) room)
 
-room_come : (text : ℕ) (current : Option Written) (p : Placed) (ps : List Placed) → has_room current p ≡ true
+room_come : (text : ℕ) (current : Option Written) (p : Placed) (ps : List Placed) → chunk_has_room current p ≡ true
     → CanAllCome (told_in current) text (p ∷ ps) → CanAllCome (told_in (added_to current p)) text ps
 room_come text None p ps room come = absurd cc
 room_come text (Some w) p ps room come =
     subst (λ (v : Written). CanAllCome v.told text ps) (sym (cond-true (fits w p) (written_on w p) w room)) come.1
 
-pub room_cut : (c : Cut) (p : Placed) → has_room c.current p ≡ true
+pub room_cut : (c : Cut) (p : Placed) → chunk_has_room c.current p ≡ true
     → IsCutOn c p (record c { current = added_to c.current p })
 room_cut c p room = record {
   text = refl;
@@ -57,8 +57,8 @@ over_can text None p can = can
 over_can text (Some w) p can = (weaken (p ∷ []) nothing_begun w.told text (nothing_is_weaker w.told) (can, tt)).0
 
 over_chunks : (text : ℕ) (full : List (List ℕ)) (current : Option Written) (p : Placed) (ps : List Placed)
-    → has_room current p ≡ false
-    → (full ++ bytes_in (added_to current p)) ++ chunks_on text (written_on (nothing_written text) p) ps
+    → chunk_has_room current p ≡ false
+    → (full ++ written_chunks (added_to current p)) ++ chunks_on text (written_on (nothing_written text) p) ps
     ≡ full ++ chunks_from text current (p ∷ ps)
 over_chunks text full None p ps none =
     ap (λ (l : List (List ℕ)). l ++ chunks_on text (written_on (nothing_written text) p) ps) (append-nil full)
@@ -78,22 +78,22 @@ over_come text (Some w) p ps come =
 -- a chunk with this operation alone, after the one that was being written
 abbrev pub begun_over : Cut → Placed → Cut
 begun_over c p =
-    record (closed (record c { current = added_to c.current p }))
+    record (chunk_closed (record c { current = added_to c.current p }))
     { current = Some (written_on (nothing_written c.text) p) }
 
-pub over_cut : (c : Cut) (p : Placed) → has_room c.current p ≡ false → IsCutOn c p (begun_over c p)
+pub over_cut : (c : Cut) (p : Placed) → chunk_has_room c.current p ≡ false → IsCutOn c p (begun_over c p)
 over_cut c p none = record {
   text = refl;
   cut = λ ps. over_chunks c.text c.full c.current p ps none;
   come = λ ps come. over_come c.text c.current p ps come;
 }
 
-pub begun_after : (c here over new : Cut) (p : Placed) (r : Result (Unit {0}) Refusal) → has_room c.current p ≡ false
-    → here ≡ record c { current = added_to c.current p } → over ≡ closed here
+pub begun_after : (c here over new : Cut) (p : Placed) (r : Result (Unit {0}) Refusal) → chunk_has_room c.current p ≡ false
+    → here ≡ record c { current = added_to c.current p } → over ≡ chunk_closed here
     → OnOk r (new ≡ record over { current = Some (written_on (nothing_written over.text) p) })
     → OnOk r (IsCutOn c p new)
 begun_after c here over new p (Ok done) none added full begun =
     let is : new ≡ begun_over c p =
-    begun ∙ ap (λ (x : Cut). record x { current = Some (written_on (nothing_written x.text) p) }) (full ∙ ap closed added) in
+    begun ∙ ap (λ (x : Cut). record x { current = Some (written_on (nothing_written x.text) p) }) (full ∙ ap chunk_closed added) in
     subst (IsCutOn c p) (sym is) (over_cut c p none)
 begun_after c here over new p (Err why) none added full begun = tt

@@ -12,8 +12,8 @@ use Rattle.chunks.proofs.OneChunk.{some_added}
 use Rattle.texts.specs.Take.{TakesOp, TakesOpShort}
 use Rattle.texts.specs.TextState.{TextState}
 use Rattle.texts.specs.declared.took.Took.{Took}
-use Rattle.text_chunks.specs.Parts.{HandsInOne, HasGrown, HasRoom}
-use Rattle.text_chunks.specs.Unpacking.{HandsIn, HandsInAll, Unpacks, UnpacksShort, counted, nothing_unpacked, refusal_after}
+use Rattle.text_chunks.specs.Parts.{CountsHaveRoom, HandsInOne, HasGrown}
+use Rattle.text_chunks.specs.Unpacking.{HandsIn, HandsInAll, Unpacks, UnpacksShort, counted_in, nothing_unpacked, refusal_after}
 use Rattle.text_chunks.specs.declared.unpacked.UnpackRefusal.{UnpackRefusal}
 use Rattle.text_chunks.specs.declared.unpacked.UnpackRefusal.TheVariants.{Whole}
 use Rattle.text_chunks.specs.declared.unpacked.Unpacked.{Unpacked}
@@ -46,7 +46,7 @@ few text ps bytes ops is are =
 -- ---- one is handed in
 
 pub one_handed : (c more : Unpacked) (t new : TextState) (op : Operation) (took : Took)
-    → TakesOp t op (Ok took) new ⊎ TakesOpShort t op (Ok took) new → more ≡ counted c t new took
+    → TakesOp t op (Ok took) new ⊎ TakesOpShort t op (Ok took) new → more ≡ counted_in c t new took
     → HandsInOne c t op (Ok more) new
 one_handed c more t new op took (inl takes) is = (false, Ok took, takes, ap Ok is)
 one_handed c more t new op took (inr takes) is = (true, Ok took, takes, ap Ok is)
@@ -83,7 +83,7 @@ none_yet start ops left same = record {
 module _ (start : TextState) (ops : List Operation) (done : ℕ) (c : Unpacked) (now : TextState) (op : Operation)
     (left : List Operation) (s : Goes start ops done c now (op ∷ left)) where
   -- there is room to count one more
-  pub has_room : length ops ≤ MAX_CHUNK → HasRoom c
+  pub has_room : length ops ≤ MAX_CHUNK → CountsHaveRoom c
   has_room short = record {
     taken = omega (arith, s.taken, s.counted, short);
     known = omega (arith, s.known, s.counted, short);
@@ -94,7 +94,7 @@ module _ (start : TextState) (ops : List Operation) (done : ℕ) (c : Unpacked) 
   pub one_more : (more : Unpacked) (mid : TextState) → HandsInOne c now op (Ok more) mid → HasGrown c more
       → Goes start ops (done + 1) more mid left
   one_more more mid (one, Ok how, takes, is) grown =
-      let same : more ≡ counted c now mid how = cc in
+      let same : more ≡ counted_in c now mid how = cc in
       record {
         was = s.was || one;
         counted = omega (arith, s.counted);

@@ -26,7 +26,7 @@ use Rattle.texts.specs.declared.took.Took.TheVariants.{Waits}
 use Rattle.waiting_room.specs.declared.room.TheConstants.{MAX_WAITING}
 use Rattle.text_chunks.specs.Laws.{ChunksHandInTheMessages, TakesEach, UnpacksEach}
 use Rattle.text_chunks.specs.Packing.{placed_beyond}
-use Rattle.text_chunks.specs.Unpacking.{HandsIn, HandsInAll, Unpacks, counted, nothing_unpacked}
+use Rattle.text_chunks.specs.Unpacking.{HandsIn, HandsInAll, Unpacks, counted_in, nothing_unpacked}
 use Rattle.text_chunks.specs.declared.unpacked.UnpackRefusal.{UnpackRefusal}
 use Rattle.text_chunks.specs.declared.unpacked.Unpacked.{Unpacked}
 
@@ -107,7 +107,7 @@ stays_short : (ops : List Operation) (done : ℕ) (c : Unpacked) (t new : TextSt
     → HandsIn done c true t ops false result new → ⊥
 stays_short [] done c t new result last = absurd (let is = last.0 in cc)
 stays_short (op ∷ ops) done c t new result (one, Ok how, mid, takes, rest) =
-    stays_short ops (done + 1) (counted c t mid how) mid new result rest
+    stays_short ops (done + 1) (counted_in c t mid how) mid new result rest
 stays_short (op ∷ ops) done c t new result (one, Err why, mid, takes, last) = absurd (let is = last.0 in cc)
 
 take_messages : (ops : List Operation) (done : ℕ) (c all : Unpacked) (t new : TextState) → All HasSpelling ops
@@ -117,17 +117,17 @@ take_messages (op ∷ ops) done c all t new spelled (false, Ok how, mid, takes, 
   how,
   mid,
   message_of_op t mid op (Ok how) (All-head HasSpelling op ops spelled) takes,
-  take_messages ops (done + 1) (counted c t mid how) all mid new (All-tail HasSpelling op ops spelled) rest,
+  take_messages ops (done + 1) (counted_in c t mid how) all mid new (All-tail HasSpelling op ops spelled) rest,
 )
 take_messages (op ∷ ops) done c all t new spelled (true, Ok how, mid, takes, rest) =
-    absurd (stays_short ops (done + 1) (counted c t mid how) mid new (Ok all) rest)
+    absurd (stays_short ops (done + 1) (counted_in c t mid how) mid new (Ok all) rest)
 take_messages (op ∷ ops) done c all t new spelled (one, Err why, mid, takes, last) = absurd (let is = last.1 in cc)
 
 hand_in : (ops : List Operation) (done : ℕ) (c : Unpacked) (t new : TextState) → All HasSpelling ops
     → TakesEach t (map spelling ops) new → (all : Unpacked) × HandsIn done c false t ops false (Ok all) new
 hand_in [] done c t new spelled same = (c, (refl, refl, same))
 hand_in (op ∷ ops) done c t new spelled (how, mid, takes, rest) =
-    let (all, hands) = hand_in ops (done + 1) (counted c t mid how) mid new (All-tail HasSpelling op ops spelled) rest in
+    let (all, hands) = hand_in ops (done + 1) (counted_in c t mid how) mid new (All-tail HasSpelling op ops spelled) rest in
     (all, (false, Ok how, mid, op_of_message t mid op how (All-head HasSpelling op ops spelled) takes, hands))
 
 -- ---- a chunk

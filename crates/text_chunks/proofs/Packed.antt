@@ -15,7 +15,7 @@ use Rattle.packed.proofs.PackedLists.{adds_at_the_end}
 use Rattle.kept_file.proofs.Following.{first_parts, is_next}
 use Rattle.kept_file.proofs.Packings.{follow_more}
 use Rattle.chunks.specs.Chunks.{Placed, CanCome, CanAllCome, chunks, placed_from}
-use Rattle.chunks.specs.Laws.{beyond}
+use Rattle.chunks.specs.Laws.{above_fronts}
 use Rattle.chunks.specs.Parts.{placed}
 use Rattle.chunks.proofs.Histories.{what_is_beyond_can_come}
 use Rattle.texts.specs.Fronts.{front_in, is_beyond}
@@ -27,7 +27,7 @@ use Rattle.text_chunks.specs.Parts.{Cut, IsCutOn, cut_on, told_in}
 
 -- the first of the operations, those beyond the fronts, each with the length of its site's file
 abbrev pub placed_first : List Front → List Operation → ℕ → List Placed
-placed_first fronts ops n = beyond (front_in fronts) (placed_from nothing_told (take n ops))
+placed_first fronts ops n = above_fronts (front_in fronts) (placed_from nothing_told (take n ops))
 
 placed_more : (t : Told) (xs ys : List Operation)
     → placed_from t (xs ++ ys) ≡ placed_from t xs ++ placed_from (told_after t xs) ys
@@ -60,7 +60,7 @@ pub all_packed : (fronts : List Front) (t : TextState) (n : ℕ) (h : Told) (c :
     → IsPackedTo fronts t.operations t.text n h c → cut_on c [] ≡ chunks_beyond fronts t
 all_packed fronts t n h c all s =
     s.cut [] ∙ ap (chunks t.text) (append-nil (placed_first fronts t.operations n))
-    ∙ ap (λ (l : List Operation). chunks t.text (beyond (front_in fronts) (placed_from nothing_told l)))
+    ∙ ap (λ (l : List Operation). chunks t.text (above_fronts (front_in fronts) (placed_from nothing_told l)))
     (take_all n t.operations all)
 
 module _ (fronts : List Front) (t : TextState) (is : IsText t) (once : AllPairs (λ a b. a ≢ b) t.operations)
@@ -93,13 +93,13 @@ module _ (fronts : List Front) (t : TextState) (is : IsText t) (once : AllPairs 
   here = placed op (expected h op.site).len
 
   placed_one : placed_first fronts t.operations (n + 1)
-      ≡ placed_first fronts t.operations n ++ beyond (front_in fronts) (here ∷ [])
+      ≡ placed_first fronts t.operations n ++ above_fronts (front_in fronts) (here ∷ [])
   placed_one =
-      ap (λ (l : List Operation). beyond (front_in fronts) (placed_from nothing_told l)) (first_parts t.operations n op at)
-      ∙ ap (beyond (front_in fronts)) (placed_more nothing_told first (op ∷ []))
+      ap (λ (l : List Operation). above_fronts (front_in fronts) (placed_from nothing_told l)) (first_parts t.operations n op at)
+      ∙ ap (above_fronts (front_in fronts)) (placed_more nothing_told first (op ∷ []))
       ∙ filter-append _ (placed_from nothing_told first) (placed op (expected (told first) op.site).len ∷ [])
       ∙ ap (λ (u : Told). placed_first fronts t.operations n
-      ++ beyond (front_in fronts) (placed op (expected u op.site).len ∷ [])) (sym s.tells)
+      ++ above_fronts (front_in fronts) (placed op (expected u op.site).len ∷ [])) (sym s.tells)
 
   placed_beyond : is_beyond fronts op ≡ true
       → placed_first fronts t.operations (n + 1) ≡ placed_first fronts t.operations n ++ here ∷ []

@@ -7,7 +7,7 @@ use Rattle.packed.specs.Told.{Told, nothing_begun}
 use Rattle.chunks.specs.Chunks.{Placed, CanAllCome, Written, chunks, chunks_on, fits, written_on}
 use Rattle.texts.specs.TextState.{TextState}
 use Rattle.texts.specs.declared.took.Took.{Took}
-use Rattle.text_chunks.specs.Unpacking.{TakesOpSo, counted}
+use Rattle.text_chunks.specs.Unpacking.{TakesOpSo, counted_in}
 use Rattle.text_chunks.specs.declared.unpacked.Unpacked.{Unpacked}
 
 -- ---- operations that are being cut into chunks
@@ -40,9 +40,9 @@ pub record IsCutOn (c : Cut) (p : Placed) (new : Cut) : Type 0 where
       → CanAllCome (told_in new.current) c.text ps
 
 -- the chunk that is being written, if it is, has room for an operation
-abbrev pub has_room : Option Written → Placed → Bool
-has_room None p = false
-has_room (Some w) p = fits w p
+abbrev pub chunk_has_room : Option Written → Placed → Bool
+chunk_has_room None p = false
+chunk_has_room (Some w) p = fits w p
 
 -- and has it then
 abbrev pub added_to : Option Written → Placed → Option Written
@@ -50,17 +50,17 @@ added_to None p = None
 added_to (Some w) p = Some (if fits w p then written_on w p else w)
 
 -- the chunk that was being written is full
-abbrev pub bytes_in : Option Written → List (List ℕ)
-bytes_in None = []
-bytes_in (Some w) = w.bytes ∷ []
+abbrev pub written_chunks : Option Written → List (List ℕ)
+written_chunks None = []
+written_chunks (Some w) = w.bytes ∷ []
 
-abbrev pub closed : Cut → Cut
-closed c = record c { full = c.full ++ bytes_in c.current; current = None }
+abbrev pub chunk_closed : Cut → Cut
+chunk_closed c = record c { full = c.full ++ written_chunks c.current; current = None }
 
 -- ---- operations that are handed in
 
 -- counts that have room for what one operation more can do
-pub record HasRoom (c : Unpacked) : Type 0 where
+pub record CountsHaveRoom (c : Unpacked) : Type 0 where
   pub taken : c.taken < 2 ^ 63
   pub known : c.known < 2 ^ 63
   pub waiting : c.waiting < 2 ^ 63
@@ -75,4 +75,4 @@ pub record HasGrown (c more : Unpacked) : Type 0 where
 abbrev pub HandsInOne : Unpacked → TextState → Operation → Result Unpacked Refusal → TextState → Type 0
 HandsInOne c t op result new =
     (one : Bool) × (took : Result Took Refusal) × TakesOpSo one t op took new
-    × MatchResult took (λ how. result ≡ Ok (counted c t new how)) (λ why. result ≡ Err why)
+    × MatchResult took (λ how. result ≡ Ok (counted_in c t new how)) (λ why. result ≡ Err why)

@@ -19,11 +19,11 @@ nothing_unpacked = record { taken = 0; known = 0; waiting = 0; stopped = false }
 
 -- one more was handed in, which was answered so: it was taken in, with those that waited for it; or it is held; or it waits, from
 -- now on where the room grew, else already
-abbrev pub counted : Unpacked → (t new : TextState) → Took → Unpacked
-counted c t new (Taken drained dropped stopped) =
+abbrev pub counted_in : Unpacked → (t new : TextState) → Took → Unpacked
+counted_in c t new (Taken drained dropped stopped) =
     record c { taken = c.taken + (drained + 1); stopped = c.stopped || stopped }
-counted c t new Repeat = record c { known = c.known + 1 }
-counted c t new Waits =
+counted_in c t new Repeat = record c { known = c.known + 1 }
+counted_in c t new Waits =
     if nat_lt (length t.waiting_room) (length new.waiting_room) then record c { waiting = c.waiting + 1 }
     else record c { known = c.known + 1 }
 
@@ -43,7 +43,7 @@ abbrev pub HandsIn : (done : ℕ) → Unpacked → (was : Bool) → TextState �
 HandsIn done c was t [] short result new = (short ≡ was) × (result ≡ Ok c) × (new ≡ t)
 HandsIn done c was t (op ∷ ops) short result new =
     (one : Bool) × (took : Result Took Refusal) × (mid : TextState) × TakesOpSo one t op took mid
-    × MatchResult took (λ how. HandsIn (done + 1) (counted c t mid how) (was || one) mid ops short result new)
+    × MatchResult took (λ how. HandsIn (done + 1) (counted_in c t mid how) (was || one) mid ops short result new)
     (λ why. (short ≡ was || one) × (result ≡ Err (refusal_after done why)) × (new ≡ mid))
 
 -- all of a chunk's are, from the first on

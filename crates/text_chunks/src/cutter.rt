@@ -3,7 +3,7 @@ ghost use Rattle.looks.specs.Refusal.{RefusedForMemoryAlone};
 ghost use Rattle.packed.specs.Told.{nothing_begun};
 ghost use Rattle.chunks.specs.Chunks.{CanCome, nothing_written, written_on};
 ghost use Rattle.chunks.specs.Parts.{placed};
-ghost use Rattle.text_chunks.specs.Parts.{IsCutOn, added_to, closed, cut_on, has_room, told_in};
+ghost use Rattle.text_chunks.specs.Parts.{IsCutOn, added_to, chunk_closed, chunk_has_room, cut_on, told_in};
 
 use char_files::TextNo;
 use chunks::ChunkWriter;
@@ -60,7 +60,7 @@ impl Cutter {
 
     // Ends the chunk that is being written.
     fn close(&mut self) -> Result<(), Refusal>
-        ensures ok { OnOk result (self.new ≡ closed self.old) }
+        ensures ok { OnOk result (self.new ≡ chunk_closed self.old) }
         ensures errors { RefusedForMemoryAlone result }
     {
         if let Some(writer) = self.current.take() {
@@ -72,7 +72,7 @@ impl Cutter {
     // Adds an operation to the chunk that is being written; `false` where that has no room, or where there is none.
     fn add_here(&mut self, op: &Op, len: u32) -> Result<bool, Refusal>
         requires { CanCome (told_in self.old.current) self.old.text (placed op.now len) }
-        ensures room { IfOk result (λ added. added ≡ has_room self.old.current (placed op.now len)) }
+        ensures room { IfOk result (λ added. added ≡ chunk_has_room self.old.current (placed op.now len)) }
         ensures ok { OnOk result (self.new ≡ record self.old
             { current = added_to self.old.current (placed op.now len) }) }
         ensures errors { RefusedForMemoryAlone result }

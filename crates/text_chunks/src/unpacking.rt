@@ -1,8 +1,8 @@
 ghost use Rattle.std.specs.Prelude.{◌≡◌, ◌≤◌, ◌⊎◌, Bool, IfOk, length, nat_lt};
 ghost use Rattle.chunks.specs.declared.TheConstants.{MAX_CHUNK};
 ghost use Rattle.texts.specs.TextState.{TextState};
-ghost use Rattle.text_chunks.specs.Parts.{HandsInOne, HasGrown, HasRoom};
-ghost use Rattle.text_chunks.specs.Unpacking.{HandsInAll, Unpacks, UnpacksShort, counted, nothing_unpacked, refusal_after};
+ghost use Rattle.text_chunks.specs.Parts.{CountsHaveRoom, HandsInOne, HasGrown};
+ghost use Rattle.text_chunks.specs.Unpacking.{HandsInAll, Unpacks, UnpacksShort, counted_in, nothing_unpacked, refusal_after};
 
 use crate::unpacked::{UnpackRefusal, Unpacked};
 use chunks::read_chunk;
@@ -13,10 +13,10 @@ use texts::{Replica, Took};
 
 // Counts an operation that was answered so; and whether the room grew then.
 fn count(counts: Unpacked, took: Took, grew: bool) -> Unpacked
-    requires { HasRoom counts }
+    requires { CountsHaveRoom counts }
     ensures grown { HasGrown counts result }
     ensures counted { (t new : TextState) → grew ≡ nat_lt (length t.waiting_room) (length new.waiting_room)
-        → result ≡ counted counts t new took }
+        → result ≡ counted_in counts t new took }
 {
     match took {
         Took::Taken {
@@ -52,7 +52,7 @@ fn refusal_after(done: u64, why: Refusal) -> UnpackRefusal
 
 // Hands in an operation, and counts it.
 fn hand_in(replica: &mut Replica, op: Op, counts: Unpacked) -> Result<Unpacked, Refusal>
-    requires { HasRoom counts }
+    requires { CountsHaveRoom counts }
     ensures grown { IfOk result (HasGrown counts) }
     ensures answered { HandsInOne counts replica.old op result replica.new }
 {

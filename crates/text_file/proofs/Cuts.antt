@@ -10,7 +10,7 @@ use Rattle.char_files.specs.Stretch.{Stretch, Item, items_of, items_of_run, AreR
 use Rattle.text_file.specs.declared.TheConstants.{MAX_STORED}
 use Rattle.text_file.specs.declared.loading.Head.{Head}
 use Rattle.text_file.specs.Files.{run_spelling}
-use Rattle.text_file.specs.Heads.{head_spelling, AreHeads, total_of, cut}
+use Rattle.text_file.specs.Heads.{head_spelling, AreHeads, total_of, cut_into_runs}
 
 -- a run without its characters
 abbrev pub head_of : Stretch → Head
@@ -39,16 +39,16 @@ module _ (h : Head) (heads : List Head) (chars : List ℕ) (e : total_of (h ∷ 
   others_len = omega (arith, e, length-drop h.len chars)
 
 pub cut_heads : (heads : List Head) (chars : List ℕ) → total_of heads ≡ length chars
-    → map head_of (cut heads chars) ≡ heads
+    → map head_of (cut_into_runs heads chars) ≡ heads
 cut_heads [] chars e = refl
 cut_heads (h ∷ heads) chars e =
     let made : ℕ → Head = λ n. record { looks = h.looks; len = n } in
-    let others : List Head = map head_of (cut heads (drop h.len chars)) in
+    let others : List Head = map head_of (cut_into_runs heads (drop h.len chars)) in
     ap (λ (n : ℕ). made n ∷ others) (first_len h heads chars e)
     ∙ ap (λ (more : List Head). h ∷ more) (cut_heads heads (drop h.len chars) (others_len h heads chars e))
 
 pub cut_chars : (heads : List Head) (chars : List ℕ) → total_of heads ≡ length chars
-    → chars_of (cut heads chars) ≡ chars
+    → chars_of (cut_into_runs heads chars) ≡ chars
 cut_chars [] chars e = sym (nil_from_length chars (sym e))
 cut_chars (h ∷ heads) chars e =
     ap (λ (more : List ℕ). take h.len chars ++ more) (cut_chars heads (drop h.len chars)
@@ -60,7 +60,7 @@ first_there : (h : Head) (heads : List Head) (chars : List ℕ) → total_of (h 
 first_there h heads chars e some none = absurd (omega (arith, first_len h heads chars e, ap length none))
 
 pub cut_runs : (last : Option Looks) (heads : List Head) (chars : List ℕ) → AreHeads last heads
-    → total_of heads ≡ length chars → AreRuns (cut heads chars)
+    → total_of heads ≡ length chars → AreRuns (cut_into_runs heads chars)
 cut_runs last [] chars valid e = tt
 cut_runs last (h ∷ []) chars valid e = first_there h [] chars e valid.0.some
 cut_runs last (h ∷ g ∷ heads) chars valid e = (
@@ -75,15 +75,15 @@ run_in_looks looks [] items is others = others
 run_in_looks looks (b ∷ bytes) items is others = (is, run_in_looks looks bytes items is others)
 
 pub cut_in_looks : (last : Option Looks) (heads : List Head) (chars : List ℕ) → AreHeads last heads
-    → InLooks (items_of (cut heads chars))
+    → InLooks (items_of (cut_into_runs heads chars))
 cut_in_looks last [] chars valid = tt
 cut_in_looks last (h ∷ heads) chars valid =
-    run_in_looks h.looks (take h.len chars) (items_of (cut heads (drop h.len chars))) valid.0.looks
+    run_in_looks h.looks (take h.len chars) (items_of (cut_into_runs heads (drop h.len chars))) valid.0.looks
     (cut_in_looks (Some h.looks) heads (drop h.len chars) valid.2)
 
 -- ---- runs, taken apart
 
-pub cut_again : (runs : List Stretch) → cut (map head_of runs) (chars_of runs) ≡ runs
+pub cut_again : (runs : List Stretch) → cut_into_runs (map head_of runs) (chars_of runs) ≡ runs
 cut_again [] = refl
 cut_again (r ∷ runs) =
     let made : List ℕ → Stretch = λ bytes. record { looks = r.looks; bytes = bytes } in
@@ -91,9 +91,9 @@ cut_again (r ∷ runs) =
     take_at r.bytes (chars_of runs) (length r.bytes) refl in
     let back : drop (length r.bytes) (r.bytes ++ chars_of runs) ≡ chars_of runs =
     drop_at r.bytes (chars_of runs) (length r.bytes) refl in
-    ap (λ (bytes : List ℕ). made bytes ∷ cut (map head_of runs) (drop (length r.bytes) (r.bytes
+    ap (λ (bytes : List ℕ). made bytes ∷ cut_into_runs (map head_of runs) (drop (length r.bytes) (r.bytes
     ++ chars_of runs))) front
-    ∙ ap (λ (bytes : List ℕ). r ∷ cut (map head_of runs) bytes) back
+    ∙ ap (λ (bytes : List ℕ). r ∷ cut_into_runs (map head_of runs) bytes) back
     ∙ ap (λ (more : List Stretch). r ∷ more) (cut_again runs)
 
 run_chars : (looks : Looks) (bytes : List ℕ)

@@ -13,7 +13,7 @@ use Rattle.looks.specs.Refusal.{RefusedForMemoryAlone}
 use Rattle.char_files.specs.Stretch.{Item, items_of}
 use Rattle.operations.specs.Reading.{LooksAreDetermined}
 use Rattle.text_file.specs.declared.loading.Head.{Head}
-use Rattle.text_file.specs.Heads.{head_spelling, IsHead, AreHeads, total_of, cut, AreSpelled}
+use Rattle.text_file.specs.Heads.{head_spelling, IsHead, AreHeads, total_of, cut_into_runs, AreSpelled}
 use Rattle.text_file.proofs.Cuts.{run_items}
 use Rattle.text_file.proofs.Heads.{head_told}
 
@@ -32,12 +32,12 @@ pub record Todo (whole text : List Item) (rest left : List ℕ) : Type 0 where
   pub valid : AreHeads last runs
   pub total : total_of runs ≡ length left
   pub spelled : rest ≡ flat_map head_spelling runs
-  pub ends : text ++ items_of (cut runs left) ≡ whole
+  pub ends : text ++ items_of (cut_into_runs runs left) ≡ whole
 
 -- the same, whichever runs are spelled so
 abbrev pub Goes : (heads chars : List ℕ) → List Item → (rest left : List ℕ) → Type 0
 Goes heads chars text rest left =
-    (runs : List Head) → AreSpelled runs chars heads → Todo (items_of (cut runs chars)) text rest left
+    (runs : List Head) → AreSpelled runs chars heads → Todo (items_of (cut_into_runs runs chars)) text rest left
 
 pub todo_all : (heads chars : List ℕ) (text : List Item) → text ≡ [] → Goes heads chars text heads chars
 todo_all heads chars text none runs s = record {
@@ -46,7 +46,7 @@ todo_all heads chars text none runs s = record {
   valid = s.valid;
   total = s.total;
   spelled = s.spelled;
-  ends = ap (λ (t : List Item). t ++ items_of (cut runs chars)) none;
+  ends = ap (λ (t : List Item). t ++ items_of (cut_into_runs runs chars)) none;
 }
 
 module _ (told : LooksAreDetermined) (whole text : List Item) (rest left : List ℕ) (h : Head) (after : List ℕ)
@@ -82,7 +82,7 @@ module _ (told : LooksAreDetermined) (whole text : List Item) (rest left : List 
       → new ≡ text ++ run_items h.looks front → Todo whole new after others
   todo_more new front others front_is others_is t pushed =
       let next = next_is t in
-      let more : List Item = items_of (cut next.0 (drop h.len left)) in
+      let more : List Item = items_of (cut_into_runs next.0 (drop h.len left)) in
       subst (λ (l : List ℕ). Todo whole new after l) (sym others_is)
       (record {
         last = Some h.looks;
@@ -94,7 +94,7 @@ module _ (told : LooksAreDetermined) (whole text : List Item) (rest left : List 
             ap (λ (x : List Item). x ++ more) (pushed
             ∙ ap (λ (bytes : List ℕ). text ++ run_items h.looks bytes) front_is)
             ∙ append_assoc text (run_items h.looks (take h.len left)) more
-            ∙ ap (λ (hs : List Head). text ++ items_of (cut hs left)) (sym next.1) ∙ t.ends;
+            ∙ ap (λ (hs : List Head). text ++ items_of (cut_into_runs hs left)) (sym next.1) ∙ t.ends;
       })
 
 -- how long the text is with one run more
@@ -110,7 +110,7 @@ todo_none whole text rest left t none = go t.runs refl
   where
     go : (runs : List Head) → t.runs ≡ runs → text ≡ whole
     go [] are =
-        sym (append-nil text) ∙ ap (λ (hs : List Head). text ++ items_of (cut hs left)) (sym are) ∙ t.ends
+        sym (append-nil text) ∙ ap (λ (hs : List Head). text ++ items_of (cut_into_runs hs left)) (sym are) ∙ t.ends
     go (g ∷ runs) are =
         let valid : AreHeads t.last (g ∷ runs) = subst (AreHeads t.last) are t.valid in
         absurd (none g (flat_map head_spelling runs) valid.0 (t.spelled

@@ -10,7 +10,7 @@ use Rattle.byte_fields.specs.Fields.{number_spelling}
 use Rattle.operations.specs.Spelling.{looks_spelling}
 use Rattle.text_file.specs.declared.TheConstants.{MAX_STORED}
 use Rattle.text_file.specs.declared.loading.Head.{Head}
-use Rattle.text_file.specs.Heads.{head_spelling, IsHead, AreHeads, total_of, IsRead}
+use Rattle.text_file.specs.Heads.{head_spelling, IsHead, AreHeads, total_of, IsFormattedBody}
 use Rattle.text_file.proofs.Numbers.{number_told, number_len, number_long}
 
 -- ---- runs after others
@@ -164,14 +164,14 @@ none_more told bytes n left count last rest s lt none heads more valid counted f
 
 -- ---- the parts after the tag
 
-heads_fit : (heads : List Head) (chars bytes : List ℕ) → IsRead heads chars bytes → length heads < 2 ^ 32
+heads_fit : (heads : List Head) (chars bytes : List ℕ) → IsFormattedBody heads chars bytes → length heads < 2 ^ 32
 heads_fit heads chars bytes r = omega (arith, heads_few None heads r.valid, r.total, r.few)
 
-chars_fit : (heads : List Head) (chars bytes : List ℕ) → IsRead heads chars bytes → length chars < 2 ^ 32
+chars_fit : (heads : List Head) (chars bytes : List ℕ) → IsFormattedBody heads chars bytes → length chars < 2 ^ 32
 chars_fit heads chars bytes r = omega (arith, r.few)
 
 -- the bytes begin with a number
-pub read_long : (heads : List Head) (chars bytes : List ℕ) → IsRead heads chars bytes → 4 ≤ length bytes
+pub read_long : (heads : List Head) (chars bytes : List ℕ) → IsFormattedBody heads chars bytes → 4 ≤ length bytes
 read_long heads chars bytes r =
     omega (
       arith,
@@ -181,7 +181,7 @@ read_long heads chars bytes r =
     )
 
 pub count_told : (heads : List Head) (chars bytes : List ℕ) (count : ℕ) (rest : List ℕ)
-    → IsRead heads chars bytes → count < 2 ^ 32 → bytes ≡ number_spelling w32 count ++ rest
+    → IsFormattedBody heads chars bytes → count < 2 ^ 32 → bytes ≡ number_spelling w32 count ++ rest
     → (length heads ≡ count)
     × (rest ≡ flat_map head_spelling heads ++ (number_spelling w32 (length chars) ++ chars))
 count_told heads chars bytes count rest r fits e =
@@ -215,7 +215,7 @@ module _ (told : LooksAreDetermined) (bytes : List ℕ) (count : ℕ) (rest : Li
   -- no runs can be read after the count
   pub no_heads : ((heads : List Head) (more : List ℕ) → AreHeads None heads → length heads ≡ count
       → total_of heads ≤ MAX_STORED → rest ≡ flat_map head_spelling heads ++ more → ⊥)
-      → (heads : List Head) (chars : List ℕ) → IsRead heads chars bytes → ⊥
+      → (heads : List Head) (chars : List ℕ) → IsFormattedBody heads chars bytes → ⊥
   no_heads none heads chars r =
       let told_count = count_told heads chars bytes count rest r fits first in
       none heads (number_spelling w32 (length chars) ++ chars) r.valid told_count.0
@@ -224,14 +224,14 @@ module _ (told : LooksAreDetermined) (bytes : List ℕ) (count : ℕ) (rest : Li
   -- what can be read after them
   pub total_after : (done : List Head) (after : List ℕ) → AreHeads None done → length done ≡ count
       → rest ≡ flat_map head_spelling done ++ after → (heads : List Head) (chars : List ℕ)
-      → IsRead heads chars bytes → (heads ≡ done) × (after ≡ number_spelling w32 (length chars) ++ chars)
+      → IsFormattedBody heads chars bytes → (heads ≡ done) × (after ≡ number_spelling w32 (length chars) ++ chars)
   total_after done after done_are counted e heads chars r =
       let told_count = count_told heads chars bytes count rest r fits first in
       total_told told heads chars rest done after r.valid done_are (counted ∙ sym told_count.0) told_count.1 e
 
   pub no_total : (done : List Head) (after : List ℕ) → AreHeads None done → length done ≡ count
       → rest ≡ flat_map head_spelling done ++ after → length after < 4 → (heads : List Head)
-      (chars : List ℕ) → IsRead heads chars bytes → ⊥
+      (chars : List ℕ) → IsFormattedBody heads chars bytes → ⊥
   no_total done after done_are counted e short heads chars r =
       let there = total_after done after done_are counted e heads chars r in
       omega (arith, short, ap length there.1, number_long (length chars) chars)
@@ -241,7 +241,7 @@ module _ (told : LooksAreDetermined) (bytes : List ℕ) (count : ℕ) (rest : Li
       → AreHeads None done → length done ≡ count → total_of done ≡ sum
       → rest ≡ flat_map head_spelling done ++ after → total < 2 ^ 32
       → after ≡ number_spelling w32 total ++ more → (total ≢ sum) ⊎ (length more ≢ sum)
-      → (heads : List Head) (chars : List ℕ) → IsRead heads chars bytes → ⊥
+      → (heads : List Head) (chars : List ℕ) → IsFormattedBody heads chars bytes → ⊥
   other_total done after sum total more done_are counted sum_is e total_fits f why heads chars r =
       let there = total_after done after done_are counted e heads chars r in
       let same =

@@ -10,7 +10,7 @@ use Rattle.looks.specs.Looks.{IsLooks}
 use Rattle.char_files.specs.Runs.{maximal_runs, NoOtherRuns}
 use Rattle.char_files.specs.Stretch.{Stretch, Item, items_of, AreRuns}
 use Rattle.byte_fields.specs.Fields.{number_spelling}
-use Rattle.text_file.specs.Files.{tag, run_spelling, formatted}
+use Rattle.text_file.specs.Files.{text_tag, run_spelling, formatted}
 use Rattle.text_file.proofs.Cuts.{InLooks, chars_of, items_chars, items_len, some_len, first_some, other_runs}
 use Rattle.text_file.proofs.Texts.{bytes_of}
 
@@ -71,10 +71,10 @@ runs_few (r ∷ runs) h =
 -- what a formatted file has after the tag, by its runs
 abbrev with_runs : List Stretch → ℕ → List ℕ → List ℕ
 with_runs runs len chars =
-    tag ++ number_spelling w32 (length runs) ++ flat_map run_spelling runs ++ number_spelling w32 len ++ chars
+    text_tag ++ number_spelling w32 (length runs) ++ flat_map run_spelling runs ++ number_spelling w32 len ++ chars
 
 pub stored : NoOtherRuns → (text : List Item) (runs : List Stretch) (a b c d e : List ℕ) → AreRuns runs
-    → items_of runs ≡ text → a ≡ tag → b ≡ a ++ number_spelling w32 (length runs)
+    → items_of runs ≡ text → a ≡ text_tag → b ≡ a ++ number_spelling w32 (length runs)
     → c ≡ b ++ flat_map run_spelling runs → d ≡ c ++ number_spelling w32 (length text)
     → e ≡ d ++ chars_of runs → e ≡ formatted text
 unfolding formatted
@@ -84,9 +84,9 @@ stored only text runs a b c d e are is a_is b_is c_is d_is e_is =
     let n : List ℕ = number_spelling w32 (length runs) in
     let spelled : List ℕ = flat_map run_spelling runs in
     let len : List ℕ = number_spelling w32 (length text) in
-    let with_tag : b ≡ tag ++ n = b_is ∙ ap (λ (l : List ℕ). l ++ n) a_is in
-    let with_heads : c ≡ tag ++ n ++ spelled = c_is ∙ ap (λ (l : List ℕ). l ++ spelled) with_tag in
-    let with_len : d ≡ tag ++ n ++ spelled ++ len = d_is ∙ ap (λ (l : List ℕ). l ++ len) with_heads in
+    let with_tag : b ≡ text_tag ++ n = b_is ∙ ap (λ (l : List ℕ). l ++ n) a_is in
+    let with_heads : c ≡ text_tag ++ n ++ spelled = c_is ∙ ap (λ (l : List ℕ). l ++ spelled) with_tag in
+    let with_len : d ≡ text_tag ++ n ++ spelled ++ len = d_is ∙ ap (λ (l : List ℕ). l ++ len) with_heads in
     e_is ∙ ap (λ (l : List ℕ). l ++ chars_of runs) with_len
     ∙ ap (λ (rs : List Stretch). with_runs rs (length text) (chars_of runs)) (sym maximal)
     ∙ ap (λ (cs : List ℕ). with_runs (maximal_runs text) (length text) cs) (sym bytes)

@@ -17,9 +17,9 @@ use Rattle.operations.specs.Reading.{LooksAreDetermined}
 use Rattle.byte_fields.specs.Fields.{number_spelling}
 use Rattle.text_file.specs.declared.TheConstants.{MAX_STORED}
 use Rattle.text_file.specs.declared.loading.Head.{Head}
-use Rattle.text_file.specs.Files.{tag, run_spelling, formatted, HasFile, IsFormatted}
+use Rattle.text_file.specs.Files.{text_tag, run_spelling, formatted, HasFormattedFile, IsFormatted}
 use Rattle.text_file.specs.Files.{IsFileOf, IsNoFile, OneText, plain_bytes}
-use Rattle.text_file.specs.Heads.{head_spelling, cut, AreSpelled, IsRead}
+use Rattle.text_file.specs.Heads.{head_spelling, cut_into_runs, AreSpelled, IsFormattedBody}
 use Rattle.text_file.proofs.Cuts.{head_of, chars_of, InLooks, cut_heads, cut_chars, cut_runs, cut_in_looks}
 use Rattle.text_file.proofs.Cuts.{cut_again, items_chars, items_len, heads_total, heads_spelling, heads_valid}
 use Rattle.text_file.proofs.Cuts.{FirstApart}
@@ -47,25 +47,25 @@ read_spelling heads chars =
 regroup : (a b c d e : List ℕ) → a ++ b ++ c ++ d ++ e ≡ a ++ (b ++ (c ++ (d ++ e)))
 regroup a b c d e = simp append_assoc
 
-pub formatted_is : (items : List Item) → formatted items ≡ tag ++ read_spelling (heads_of items) (bytes_of items)
+pub formatted_is : (items : List Item) → formatted items ≡ text_tag ++ read_spelling (heads_of items) (bytes_of items)
 unfolding formatted
 formatted_is items =
     let runs : List Stretch = maximal_runs items in
     let bytes : List ℕ = bytes_of items in
     let spelled : List ℕ = flat_map run_spelling runs in
     let first : Item → ℕ = λ c. c.0 in
-    regroup tag (number_spelling w32 (length runs)) spelled (number_spelling w32 (length items)) bytes
-    ∙ ap (λ (n : ℕ). tag ++ rest_of_tag n spelled (length items) bytes) (sym (length-map runs head_of))
-    ∙ ap (λ (l : List ℕ). tag ++ rest_of_tag (length (heads_of items)) l (length items) bytes)
+    regroup text_tag (number_spelling w32 (length runs)) spelled (number_spelling w32 (length items)) bytes
+    ∙ ap (λ (n : ℕ). text_tag ++ rest_of_tag n spelled (length items) bytes) (sym (length-map runs head_of))
+    ∙ ap (λ (l : List ℕ). text_tag ++ rest_of_tag (length (heads_of items)) l (length items) bytes)
     (sym (heads_spelling runs))
-    ∙ ap (λ (n : ℕ). tag ++ rest_of_tag (length (heads_of items)) (flat_map head_spelling (heads_of items)) n
+    ∙ ap (λ (n : ℕ). text_tag ++ rest_of_tag (length (heads_of items)) (flat_map head_spelling (heads_of items)) n
     bytes) (sym (length-map items first))
 
 -- a formatted file begins with the tag
-pub formatted_tagged : (items : List Item) (file : List ℕ) → IsFormatted items file → take 4 file ≡ tag
+pub formatted_tagged : (items : List Item) (file : List ℕ) → IsFormatted items file → take 4 file ≡ text_tag
 formatted_tagged items file f =
     let rest : List ℕ = read_spelling (heads_of items) (bytes_of items) in
-    ap (λ (l : List ℕ). take 4 l) (f.spelled ∙ formatted_is items) ∙ take_at tag rest 4 refl
+    ap (λ (l : List ℕ). take 4 l) (f.spelled ∙ formatted_is items) ∙ take_at text_tag rest 4 refl
 
 none_apart : (runs : List Stretch) → FirstApart None runs
 none_apart [] = tt
@@ -80,15 +80,15 @@ module _ (maximal : RunsAreMaximal) where
       sym (items_chars (maximal_runs items)) ∙ ap bytes_of (maximal items).1
 
   -- a text is what its runs and its characters say
-  pub text_again : (items : List Item) → items_of (cut (heads_of items) (bytes_of items)) ≡ items
+  pub text_again : (items : List Item) → items_of (cut_into_runs (heads_of items) (bytes_of items)) ≡ items
   text_again items =
       let runs : List Stretch = maximal_runs items in
-      ap (λ (bytes : List ℕ). items_of (cut (heads_of items) bytes)) (sym (bytes_chars items))
+      ap (λ (bytes : List ℕ). items_of (cut_into_runs (heads_of items) bytes)) (sym (bytes_chars items))
       ∙ ap items_of (cut_again runs) ∙ (maximal items).1
 
   -- a text's file is read so
-  pub text_read : (items : List Item) → HasFile items
-      → IsRead (heads_of items) (bytes_of items) (read_spelling (heads_of items) (bytes_of items))
+  pub text_read : (items : List Item) → HasFormattedFile items
+      → IsFormattedBody (heads_of items) (bytes_of items) (read_spelling (heads_of items) (bytes_of items))
   text_read items text =
       let runs : List Stretch = maximal_runs items in
       let bytes : length (chars_of runs) ≡ length (bytes_of items) = ap length (bytes_chars items) in
@@ -105,27 +105,27 @@ module _ (maximal : RunsAreMaximal) where
       }
 
   -- a formatted file is read so
-  pub formatted_read : (items : List Item) (rest : List ℕ) → IsFormatted items (tag ++ rest)
-      → IsRead (heads_of items) (bytes_of items) rest
+  pub formatted_read : (items : List Item) (rest : List ℕ) → IsFormatted items (text_tag ++ rest)
+      → IsFormattedBody (heads_of items) (bytes_of items) rest
   formatted_read items rest f =
       let r = text_read items f.text in
       let same : rest ≡ read_spelling (heads_of items) (bytes_of items) =
-      append_cancel_left tag rest (read_spelling (heads_of items) (bytes_of items)) (f.spelled
+      append_cancel_left text_tag rest (read_spelling (heads_of items) (bytes_of items)) (f.spelled
       ∙ formatted_is items) in
       record { valid = r.valid; total = r.total; few = r.few; parts = same }
 
   pub formatted_none : (rest : List ℕ)
-      → ((heads : List Head) (chars : List ℕ) → IsRead heads chars rest → ⊥) → (items : List Item)
-      → IsFormatted items (tag ++ rest) → ⊥
+      → ((heads : List Head) (chars : List ℕ) → IsFormattedBody heads chars rest → ⊥) → (items : List Item)
+      → IsFormatted items (text_tag ++ rest) → ⊥
   formatted_none rest none items f = none (heads_of items) (bytes_of items) (formatted_read items rest f)
 
 -- a text of such runs has no others
 module _ (only : NoOtherRuns) where
   -- what is read so is a text's file
-  pub read_text : (heads : List Head) (chars rest : List ℕ) → IsRead heads chars rest
-      → IsFormatted (items_of (cut heads chars)) (tag ++ rest)
+  pub read_text : (heads : List Head) (chars rest : List ℕ) → IsFormattedBody heads chars rest
+      → IsFormatted (items_of (cut_into_runs heads chars)) (text_tag ++ rest)
   read_text heads chars rest r =
-      let runs : List Stretch = cut heads chars in
+      let runs : List Stretch = cut_into_runs heads chars in
       let bytes : chars_of runs ≡ chars = cut_chars heads chars r.total in
       let same_runs : maximal_runs (items_of runs) ≡ runs = only runs (cut_runs None heads chars r.valid
       r.total) in
@@ -138,31 +138,31 @@ module _ (only : NoOtherRuns) where
           looks = cut_in_looks None heads chars r.valid;
         };
         spelled =
-            ap (λ (l : List ℕ). tag ++ l) r.parts
-            ∙ ap (λ (hs : List Head). tag ++ read_spelling hs chars) (sym same_heads)
-            ∙ ap (λ (cs : List ℕ). tag ++ read_spelling (heads_of (items_of runs)) cs) (sym same_bytes)
+            ap (λ (l : List ℕ). text_tag ++ l) r.parts
+            ∙ ap (λ (hs : List Head). text_tag ++ read_spelling hs chars) (sym same_heads)
+            ∙ ap (λ (cs : List ℕ). text_tag ++ read_spelling (heads_of (items_of runs)) cs) (sym same_bytes)
             ∙ sym (formatted_is (items_of runs));
       }
 
   pub formatted_loaded : (rest : List ℕ) (r : Result (List Item) Refusal) (heads : List Head)
-      (chars spelled : List ℕ) → IsRead heads chars rest → AreSpelled heads chars spelled
-      → IfOk r (λ text. (runs : List Head) → AreSpelled runs chars spelled → text ≡ items_of (cut runs chars))
-      → IfOk r (λ text. IsFormatted text (tag ++ rest))
+      (chars spelled : List ℕ) → IsFormattedBody heads chars rest → AreSpelled heads chars spelled
+      → IfOk r (λ text. (runs : List Head) → AreSpelled runs chars spelled → text ≡ items_of (cut_into_runs runs chars))
+      → IfOk r (λ text. IsFormatted text (text_tag ++ rest))
   formatted_loaded rest (Ok text) heads chars spelled read s is =
-      subst (λ (t : List Item). IsFormatted t (tag ++ rest)) (sym (is heads s)) (read_text heads chars rest read)
+      subst (λ (t : List Item). IsFormatted t (text_tag ++ rest)) (sym (is heads s)) (read_text heads chars rest read)
   formatted_loaded rest (Err e) heads chars spelled read s is = tt
 
   -- a formatted file is refused for memory alone
   pub formatted_refused : (rest : List ℕ) (r : Result (List Item) Refusal) (heads : List Head) (chars : List ℕ)
-      → IsRead heads chars rest → RefusedForMemoryAlone r
-      → IsErrOf r BadFile ↔ ((items : List Item) → IsFormatted items (tag ++ rest) → ⊥)
+      → IsFormattedBody heads chars rest → RefusedForMemoryAlone r
+      → IsErrOf r BadFile ↔ ((items : List Item) → IsFormatted items (text_tag ++ rest) → ⊥)
   formatted_refused rest (Ok text) heads chars read errors =
-      (λ e. absurd cc, λ none. absurd (none (items_of (cut heads chars)) (read_text heads chars rest read)))
+      (λ e. absurd cc, λ none. absurd (none (items_of (cut_into_runs heads chars)) (read_text heads chars rest read)))
   formatted_refused rest (Err x) heads chars read errors = (
     λ e.
         let is : x ≡ BadFile = cc in
         let apart : ◌≡◌ {A = Refusal} OutOfMemory BadFile = sym errors ∙ is in absurd cc,
-    λ none. absurd (none (items_of (cut heads chars)) (read_text heads chars rest read)),
+    λ none. absurd (none (items_of (cut_into_runs heads chars)) (read_text heads chars rest read)),
   )
 
 -- ---- files that are loaded
@@ -174,18 +174,18 @@ pub only_loaded : (file : List ℕ) (r : Result (List Item) Refusal) → OneText
 only_loaded file (Ok loaded) one is items f = one loaded items file is f
 only_loaded file (Err e) one is items f = tt
 
-pub only_formatted : (file rest : List ℕ) (r : Result (List Item) Refusal) → OneText → file ≡ tag ++ rest
-    → IfOk r (λ items. IsFormatted items (tag ++ rest)) → (items : List Item) → IsFileOf items file
+pub only_formatted : (file rest : List ℕ) (r : Result (List Item) Refusal) → OneText → file ≡ text_tag ++ rest
+    → IfOk r (λ items. IsFormatted items (text_tag ++ rest)) → (items : List Item) → IsFileOf items file
     → IfOk r (λ loaded. loaded ≡ items)
 only_formatted file rest r one e is = only_loaded file r one (there r is)
   where
-    there : (x : Result (List Item) Refusal) → IfOk x (λ items. IsFormatted items (tag ++ rest))
+    there : (x : Result (List Item) Refusal) → IfOk x (λ items. IsFormatted items (text_tag ++ rest))
         → IfOk x (λ items. IsFileOf items file)
     there (Ok loaded) f = inl (subst (IsFormatted loaded) (sym e) f)
     there (Err x) f = tt
 
 -- a plain file is refused exactly where it is too long
-pub plain_refused : (file : List ℕ) (r : Result (List Item) Refusal) → take 4 file ≢ tag
+pub plain_refused : (file : List ℕ) (r : Result (List Item) Refusal) → take 4 file ≢ text_tag
     → IsErrOf r BadFile ↔ (MAX_STORED < length (plain_bytes file)) → IsErrOf r BadFile ↔ IsNoFile file
 plain_refused file r untagged long = (
   λ e items f.
@@ -211,7 +211,7 @@ plain_refused file r untagged long = (
 module _ (told : LooksAreDetermined) (maximal : RunsAreMaximal) where
   -- what is read at the front of bytes is told by them
   read_told : (heads : List Head) (chars : List ℕ) (others : List Head) (other_chars rest : List ℕ)
-      (a b : List ℕ) → IsRead heads chars a → IsRead others other_chars b → b ≡ a ++ rest
+      (a b : List ℕ) → IsFormattedBody heads chars a → IsFormattedBody others other_chars b → b ≡ a ++ rest
       → (heads ≡ others) × (chars ≡ other_chars) × (rest ≡ [])
   read_told heads chars others other_chars rest a b r s e =
       let r_total : List ℕ = number_spelling w32 (length chars) ++ (chars ++ rest) in
@@ -253,23 +253,23 @@ module _ (told : LooksAreDetermined) (maximal : RunsAreMaximal) where
           (sym (all ∙ append-nil heads), both.0, both.1)
       go (h ∷ todo) all back len = absurd (omega (arith, ap length all, length-append heads (h ∷ todo), len))
 
-  pub formatted_told : (a b : List Item) (rest : List ℕ) → HasFile a → HasFile b
+  pub formatted_told : (a b : List Item) (rest : List ℕ) → HasFormattedFile a → HasFormattedFile b
       → formatted b ≡ formatted a ++ rest → (a ≡ b) × (rest ≡ [])
   formatted_told a b rest a_text b_text e =
       let a_read : List ℕ = read_spelling (heads_of a) (bytes_of a) in
       let b_read : List ℕ = read_spelling (heads_of b) (bytes_of b) in
-      let tagged : tag ++ b_read ≡ tag ++ (a_read ++ rest) =
+      let tagged : text_tag ++ b_read ≡ text_tag ++ (a_read ++ rest) =
       sym (formatted_is b) ∙ e ∙ ap (λ (l : List ℕ). l ++ rest) (formatted_is a)
-      ∙ append_assoc tag a_read rest in
+      ∙ append_assoc text_tag a_read rest in
       let t =
       read_told (heads_of a) (bytes_of a) (heads_of b) (bytes_of b) rest a_read b_read (text_read maximal a a_text)
-      (text_read maximal b b_text) (append_cancel_left tag b_read (a_read ++ rest) tagged) in (
-        sym (text_again maximal a) ∙ ap (λ (hs : List Head). items_of (cut hs (bytes_of a))) t.0
-            ∙ ap (λ (cs : List ℕ). items_of (cut (heads_of b) cs)) t.1 ∙ text_again maximal b,
+      (text_read maximal b b_text) (append_cancel_left text_tag b_read (a_read ++ rest) tagged) in (
+        sym (text_again maximal a) ∙ ap (λ (hs : List Head). items_of (cut_into_runs hs (bytes_of a))) t.0
+            ∙ ap (λ (cs : List ℕ). items_of (cut_into_runs (heads_of b) cs)) t.1 ∙ text_again maximal b,
         t.2,
       )
 
-  pub one_text_shares : (a b : List Item) → HasFile a → HasFile b → formatted a ≡ formatted b → a ≡ b
+  pub one_text_shares : (a b : List Item) → HasFormattedFile a → HasFormattedFile b → formatted a ≡ formatted b → a ≡ b
   one_text_shares a b a_text b_text e =
       (formatted_told a b [] a_text b_text (sym e ∙ sym (append-nil (formatted a)))).0
 

@@ -12,8 +12,8 @@ use Rattle.operations.specs.Spelling.{looks_spelling}
 use Rattle.text_file.specs.declared.TheConstants.{MAX_STORED}
 
 -- what a formatted file begins with
-abbrev pub tag : List ℕ
-tag = codes "OTF1"
+abbrev pub text_tag : List ℕ
+text_tag = codes "OTF1"
 
 -- a run: its looks, and how many characters it has
 abbrev pub run_spelling : Stretch → List ℕ
@@ -22,11 +22,11 @@ run_spelling r = looks_spelling r.looks ++ number_spelling w32 (length r.bytes)
 -- the formatted file: the tag, how many runs there are, the runs, how many characters there are, the characters
 unfoldable pub formatted : List Item → List ℕ
 formatted items =
-    tag ++ number_spelling w32 (length (maximal_runs items)) ++ flat_map run_spelling (maximal_runs items)
+    text_tag ++ number_spelling w32 (length (maximal_runs items)) ++ flat_map run_spelling (maximal_runs items)
     ++ number_spelling w32 (length items) ++ map (λ c. c.0) items
 
 -- a text that has a file: at most 2^20 characters, each in looks that there are
-pub record HasFile (items : List Item) : Type 0 where
+pub record HasFormattedFile (items : List Item) : Type 0 where
   pub few : length items ≤ MAX_STORED
   pub looks : AllByRecursion (λ c. IsLooks c.1) items
 
@@ -49,12 +49,12 @@ plain_bytes (a ∷ b ∷ rest) =
 
 -- the formatted file of these characters
 pub record IsFormatted (items : List Item) (file : List ℕ) : Type 0 where
-  pub text : HasFile items
+  pub text : HasFormattedFile items
   pub spelled : file ≡ formatted items
 
 -- a plain file, which doesn't begin with the tag, of these characters, in the default looks
 pub record IsPlain (items : List Item) (file : List ℕ) : Type 0 where
-  pub untagged : take 4 file ≢ tag
+  pub untagged : take 4 file ≢ text_tag
   pub few : length (plain_bytes file) ≤ MAX_STORED
   pub spelled : items ≡ plain_items (plain_bytes file)
 
@@ -71,10 +71,10 @@ abbrev pub OneText : Type 0
 OneText = (a b : List Item) (file : List ℕ) → IsFileOf a file → IsFileOf b file → a ≡ b
 
 -- no two texts share a formatted file
-abbrev pub NoneIsShared : Type 0
-NoneIsShared = (a b : List Item) → HasFile a → HasFile b → formatted a ≡ formatted b → a ≡ b
+abbrev pub NoFileIsShared : Type 0
+NoFileIsShared = (a b : List Item) → HasFormattedFile a → HasFormattedFile b → formatted a ≡ formatted b → a ≡ b
 
 -- no formatted file begins another one
-abbrev pub NoneBeginsAnother : Type 0
-NoneBeginsAnother =
-    (a b : List Item) (rest : List ℕ) → HasFile a → HasFile b → formatted b ≡ formatted a ++ rest → rest ≡ []
+abbrev pub NoFileBeginsAnother : Type 0
+NoFileBeginsAnother =
+    (a b : List Item) (rest : List ℕ) → HasFormattedFile a → HasFormattedFile b → formatted b ≡ formatted a ++ rest → rest ≡ []

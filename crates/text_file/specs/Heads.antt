@@ -32,9 +32,9 @@ total_of [] = 0
 total_of (h ∷ heads) = h.len + total_of heads
 
 -- the characters, cut into the runs
-abbrev pub cut : List Head → List ℕ → List Stretch
-cut [] chars = []
-cut (h ∷ heads) chars = record { looks = h.looks; bytes = take h.len chars } ∷ cut heads (drop h.len chars)
+abbrev pub cut_into_runs : List Head → List ℕ → List Stretch
+cut_into_runs [] chars = []
+cut_into_runs (h ∷ heads) chars = record { looks = h.looks; bytes = take h.len chars } ∷ cut_into_runs heads (drop h.len chars)
 
 -- the bytes are the spelling of these runs, which have so many characters
 pub record AreSpelled (heads : List Head) (chars bytes : List ℕ) : Type 0 where
@@ -43,7 +43,7 @@ pub record AreSpelled (heads : List Head) (chars bytes : List ℕ) : Type 0 wher
   pub spelled : bytes ≡ flat_map head_spelling heads
 
 -- what stands after the tag: how many runs there are, these runs, how many characters there are, these characters
-pub record IsRead (heads : List Head) (chars bytes : List ℕ) : Type 0 where
+pub record IsFormattedBody (heads : List Head) (chars bytes : List ℕ) : Type 0 where
   pub valid : AreHeads None heads
   pub total : total_of heads ≡ length chars
   pub few : length chars ≤ MAX_STORED

@@ -5,8 +5,8 @@ ghost use Rattle.std.specs.List.{flat_map};
 ghost use Rattle.looks.specs.Refusal.{RefusedForMemoryAlone};
 ghost use Rattle.char_files.specs.Stretch.{Item, items_of};
 ghost use Rattle.byte_fields.specs.Fields.{number_spelling};
-ghost use Rattle.text_file.specs.Files.{tag, plain_bytes, IsFormatted, IsPlain, IsFileOf, IsNoFile};
-ghost use Rattle.text_file.specs.Heads.{head_spelling, IsHead, AreHeads, total_of, cut, AreSpelled, IsRead};
+ghost use Rattle.text_file.specs.Files.{text_tag, plain_bytes, IsFormatted, IsPlain, IsFileOf, IsNoFile};
+ghost use Rattle.text_file.specs.Heads.{head_spelling, IsHead, AreHeads, total_of, cut_into_runs, AreSpelled, IsFormattedBody};
 ghost use Rattle.text_file.specs.declared.loading.Head.{Head};
 
 use crate::MAX_STORED;
@@ -104,9 +104,9 @@ fn heads_at(count: u32, bytes: &[u8]) -> Option<(u64, &[u8])>
 
 // The parts of a formatted file, of which these bytes stand after the tag.
 fn parts_of(bytes: &[u8]) -> Option<Parts<'_>>
-    ensures some { IfSome result (λ p. (heads : List Head) × IsRead heads p.chars.now bytes.now
+    ensures some { IfSome result (λ p. (heads : List Head) × IsFormattedBody heads p.chars.now bytes.now
         × AreSpelled heads p.chars.now p.heads.now) }
-    ensures none { IfNone result ((heads : List Head) (chars : List ℕ) → IsRead heads chars bytes.now → ⊥) }
+    ensures none { IfNone result ((heads : List Head) (chars : List ℕ) → IsFormattedBody heads chars bytes.now → ⊥) }
 {
     operations::lemma_one_spelling();
     let (count, rest) = u32_at(bytes)?;
@@ -127,7 +127,7 @@ fn text_of(alloc: Global, heads: &[u8], chars: &[u8]) -> Result<Buffer, Refusal>
     requires spelled { (runs : List Head) × AreSpelled runs chars.now heads.now }
     requires few { length chars.now ≤ MAX_STORED }
     ensures ok { IfOk result (λ text. (runs : List Head) → AreSpelled runs chars.now heads.now
-        → text ≡ items_of (cut runs chars.now)) }
+        → text ≡ items_of (cut_into_runs runs chars.now)) }
     ensures errors { RefusedForMemoryAlone result }
 {
     operations::lemma_one_spelling();
@@ -145,9 +145,9 @@ fn text_of(alloc: Global, heads: &[u8], chars: &[u8]) -> Result<Buffer, Refusal>
 
 // The text of a formatted file, of which these bytes stand after the tag.
 fn load_formatted(alloc: Global, bytes: &[u8]) -> Result<Buffer, Refusal>
-    ensures ok { IfOk result (λ items. IsFormatted items (tag ++ bytes.now)) }
+    ensures ok { IfOk result (λ items. IsFormatted items (text_tag ++ bytes.now)) }
     ensures refused { IsErrOf result Refusal.BadFile
-        ↔ ((items : List Item) → IsFormatted items (tag ++ bytes.now) → ⊥) }
+        ↔ ((items : List Item) → IsFormatted items (text_tag ++ bytes.now) → ⊥) }
     ensures errors { IfErr result (λ e. (e ≡ Refusal.BadFile) ⊎ (e ≡ Refusal.OutOfMemory)) }
 {
     char_files::lemma_runs_are_maximal();
@@ -159,7 +159,7 @@ fn load_formatted(alloc: Global, bytes: &[u8]) -> Result<Buffer, Refusal>
 
 // The text of a plain file.
 fn load_plain(alloc: Global, bytes: &[u8]) -> Result<Buffer, Refusal>
-    requires { take 4 bytes.now ≢ tag }
+    requires { take 4 bytes.now ≢ text_tag }
     ensures ok { IfOk result (λ items. IsPlain items bytes.now) }
     ensures refused { IsErrOf result Refusal.BadFile ↔ (MAX_STORED < length (plain_bytes bytes.now)) }
     ensures errors { IfErr result (λ e. (e ≡ Refusal.BadFile) ⊎ (e ≡ Refusal.OutOfMemory)) }
@@ -172,7 +172,7 @@ fn load_plain(alloc: Global, bytes: &[u8]) -> Result<Buffer, Refusal>
 
 // What stands after the tag, where the file begins with it.
 fn rest_of_tag(bytes: &[u8]) -> Option<&[u8]>
-    ensures { MatchOption result (take 4 bytes.now ≢ tag) (λ rest. bytes.now ≡ tag ++ rest.now) }
+    ensures { MatchOption result (take 4 bytes.now ≢ text_tag) (λ rest. bytes.now ≡ text_tag ++ rest.now) }
 {
     bytes.strip_prefix(b"OTF1")
 }

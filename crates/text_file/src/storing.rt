@@ -6,7 +6,7 @@ ghost use Rattle.looks.specs.Looks.{IsLooks};
 ghost use Rattle.looks.specs.Refusal.{RefusedForMemoryAlone};
 ghost use Rattle.char_files.specs.Stretch.{items_of};
 ghost use Rattle.byte_fields.specs.Fields.{number_spelling};
-ghost use Rattle.text_file.specs.Files.{run_spelling, formatted, HasFile, IsFileOf};
+ghost use Rattle.text_file.specs.Files.{run_spelling, formatted, HasFormattedFile, IsFileOf};
 
 use crate::MAX_STORED;
 use crate::filling::push_char;
@@ -20,7 +20,7 @@ use std::alloc::{AllocError, Global};
 fn copy_of<S: Source>(alloc: Global, source: &S) -> Result<Buffer, Refusal>
     requires { length (S.items source.now) ≤ MAX_STORED }
     ensures ok { IfOk result (λ text. text ≡ S.items source.now) }
-    ensures text { IfOk result (λ text. HasFile text) }
+    ensures text { IfOk result (λ text. HasFormattedFile text) }
     ensures errors { RefusedForMemoryAlone result }
 {
     let mut text = Buffer::new(alloc);

@@ -7,7 +7,8 @@ use Rattle.std.proofs.lemmas.List.{length-take, take_all}
 use Rattle.char_files.specs.declared.character.Char.{Char}
 use Rattle.line_drawing.specs.declared.drawing.TheConstants.{LINE_END}
 use Rattle.line_drawing.specs.Rows.{blanks, cells_of, sign_of}
-use Rattle.text_frames.specs.Reading.{GivesNext, after_line, bytes_of, counted, line_before}
+use Rattle.text_frames.specs.Reading.{GivesNext, after_line, counted, line_before}
+use Rattle.char_files.specs.Chars.{char_bytes}
 use Rattle.text_frames.proofs.Lines.{before-end, before-other}
 
 -- counts are added up
@@ -46,11 +47,11 @@ cut_filled (suc w) m (x ∷ xs) le =
 -- A line is read as far as this walk has come, from all that was left at its begin on: these cells are drawn, and this is
 -- the position.
 pub record ReadsLine (width beg before : ℕ) (all walk : List Char) (cells : List ℕ) (end reads : ℕ) : Type 0 where
-  pub drawn : take width (cells ++ map sign_of (line_before (bytes_of walk)))
-      ≡ take width (map sign_of (line_before (bytes_of all)))
+  pub drawn : take width (cells ++ map sign_of (line_before (char_bytes walk)))
+      ≡ take width (map sign_of (line_before (char_bytes all)))
   pub within : length cells ≤ width
-  pub at : end + length (line_before (bytes_of walk)) ≡ beg + length (line_before (bytes_of all))
-  pub rest : after_line (line_before (bytes_of walk)) walk ≡ after_line (line_before (bytes_of all)) all
+  pub at : end + length (line_before (char_bytes walk)) ≡ beg + length (line_before (char_bytes all))
+  pub rest : after_line (line_before (char_bytes walk)) walk ≡ after_line (line_before (char_bytes all)) all
   pub room : end + length walk ≡ beg + length all
   pub few : length walk ≤ length all
   pub counts : reads ≡ counted (before + (length all - length walk))
@@ -75,12 +76,12 @@ step_on : (width beg before : ℕ) (all : List Char) (c : Char) (chars : List Ch
     → reads' ≡ counted (reads + (suc (length chars) - length chars))
     → ReadsLine width beg before all chars (take width (cells ++ sign_of c.byte ∷ [])) (end + 1) reads'
 step_on width beg before all c chars cells end reads reads' differs was counts =
-    let on : line_before (bytes_of (c ∷ chars)) ≡ c.byte ∷ line_before (bytes_of chars) =
-    before-other (bytes_of chars) c.byte differs in
-    let line : List ℕ = line_before (bytes_of chars) in
+    let on : line_before (char_bytes (c ∷ chars)) ≡ c.byte ∷ line_before (char_bytes chars) =
+    before-other (char_bytes chars) c.byte differs in
+    let line : List ℕ = line_before (char_bytes chars) in
     let few : suc (length chars) ≤ length all = was.few in
     let room : end + suc (length chars) ≡ beg + length all = was.room in
-    let at : end + length (line_before (bytes_of (c ∷ chars))) ≡ beg + length (line_before (bytes_of all)) = was.at in
+    let at : end + length (line_before (char_bytes (c ∷ chars))) ≡ beg + length (line_before (char_bytes all)) = was.at in
     let sum : (length all - suc (length chars)) + (suc (length chars) - length chars) ≡ length all - length chars =
     omega (arith, few) in
     record {
@@ -126,20 +127,20 @@ line_goes_on width beg before all (c ∷ chars) left cells end reads reads' byte
 
 -- the line is read
 pub record IsRead (width beg before : ℕ) (all left : List Char) (cells : List ℕ) (end reads : ℕ) : Type 0 where
-  pub at : end ≡ beg + length (line_before (bytes_of all))
-  pub drawn : cells ++ blanks (width - length cells) ≡ cells_of width (line_before (bytes_of all))
-  pub rest : left ≡ after_line (line_before (bytes_of all)) all
+  pub at : end ≡ beg + length (line_before (char_bytes all))
+  pub drawn : cells ++ blanks (width - length cells) ≡ cells_of width (line_before (char_bytes all))
+  pub rest : left ≡ after_line (line_before (char_bytes all)) all
   pub counts : reads ≡ counted (before + (length all - length left))
 
 read_at_end : (width beg before : ℕ) (all walk left : List Char) (cells : List ℕ) (end reads reads' : ℕ)
-    → ReadsLine width beg before all walk cells end reads → line_before (bytes_of walk) ≡ []
+    → ReadsLine width beg before all walk cells end reads → line_before (char_bytes walk) ≡ []
     → left ≡ drop 1 walk → length left ≤ length walk → reads' ≡ counted (reads + (length walk - length left))
     → IsRead width beg before all left cells end reads'
 read_at_end width beg before all walk left cells end reads reads' was none is less counts =
     let few : length walk ≤ length all = was.few in
-    let at : end + length (line_before (bytes_of walk)) ≡ beg + length (line_before (bytes_of all)) = was.at in
+    let at : end + length (line_before (char_bytes walk)) ≡ beg + length (line_before (char_bytes all)) = was.at in
     let within : length cells ≤ width = was.within in
-    let line : List ℕ = line_before (bytes_of all) in
+    let line : List ℕ = line_before (char_bytes all) in
     let cut : cells ≡ take width (map sign_of line) =
     sym (take_all width cells within)
     ∙ ap (take width) (sym (append-nil cells))
@@ -167,7 +168,7 @@ line_ends width beg before all (c ∷ chars) left cells end reads reads' was (ne
     elim (cases_eq c.byte LINE_END) [
       | inl ends ↦
           read_at_end width beg before all (c ∷ chars) left cells end reads reads' was
-          (before-end (bytes_of chars) c.byte ends) is (omega (arith, ap length is)) counts
+          (before-end (char_bytes chars) c.byte ends) is (omega (arith, ap length is)) counts
       | inr differs ↦
           let h : (c.byte == LINE_END) ≡ false = ne_eqb c.byte LINE_END differs in
           let some : None ≡ Some c.byte =

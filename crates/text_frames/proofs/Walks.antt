@@ -9,7 +9,8 @@ use Rattle.line_drawing.specs.Rows.{Row, rows_from}
 use Rattle.line_drawing.proofs.Cells.{cells-length}
 use Rattle.line_drawing.proofs.Lines.{some_line, one_more}
 use Rattle.text_frames.specs.Frames.{last_row}
-use Rattle.text_frames.specs.Reading.{after_line, bytes_of, counted, line_before, no_row, row_before}
+use Rattle.text_frames.specs.Reading.{after_line, counted, line_before, no_row, row_before}
+use Rattle.char_files.specs.Chars.{char_bytes}
 use Rattle.text_frames.proofs.Lines.{beg-past, beg-within, is_last, line_is, more_after, next_beg, next_left, rows_before}
 use Rattle.text_frames.proofs.OneLine.{counted_on}
 
@@ -25,8 +26,8 @@ before-few (b ∷ bytes) =
 -- So many rows are drawn, and so far the walk has come that began here.
 pub record DrawsRows (all : List Char) (width from before count : ℕ) (rows : List Row) (walk : List Char)
     (beg reads : ℕ) : Type 0 where
-  pub drawn : rows ++ rows_before width beg (bytes_of walk) (count - length rows)
-      ≡ rows_before width from (drop from (bytes_of all)) count
+  pub drawn : rows ++ rows_before width beg (char_bytes walk) (count - length rows)
+      ≡ rows_before width from (drop from (char_bytes all)) count
   pub few : length rows ≤ count
   pub after : from ≤ beg
   pub left : beg + length walk ≡ length all
@@ -40,8 +41,8 @@ rows_begin all width from before count walk is le left =
     let all_left : count - 0 ≡ count = omega arith in
     record {
       drawn =
-          ap (λ (n : ℕ). rows_before width from (bytes_of walk) n) all_left
-          ∙ ap (λ (l : List Char). rows_before width from (bytes_of l) count) left
+          ap (λ (n : ℕ). rows_before width from (char_bytes walk) n) all_left
+          ∙ ap (λ (l : List Char). rows_before width from (char_bytes l) count) left
           ∙ ap (λ (l : List ℕ). rows_before width from l count) (sym (drop-map (λ (c : Char). c.byte) from all));
       few = omega arith;
       after = omega arith;
@@ -51,23 +52,23 @@ rows_begin all width from before count walk is le left =
     }
 
 drawn_more : (width beg : ℕ) (rows : List Row) (row : Row) (walk walk' : List Char) (count beg' : ℕ)
-    → length rows < count → row ≡ row_before width beg (bytes_of walk)
-    → walk' ≡ after_line (line_before (bytes_of walk)) walk
-    → beg' ≡ min (suc (beg + length (line_before (bytes_of walk)))) (beg + length walk)
-    → (rows ++ row ∷ []) ++ rows_before width beg' (bytes_of walk') (count - length (rows ++ row ∷ []))
-    ≡ rows ++ rows_before width beg (bytes_of walk) (count - length rows)
+    → length rows < count → row ≡ row_before width beg (char_bytes walk)
+    → walk' ≡ after_line (line_before (char_bytes walk)) walk
+    → beg' ≡ min (suc (beg + length (line_before (char_bytes walk)))) (beg + length walk)
+    → (rows ++ row ∷ []) ++ rows_before width beg' (char_bytes walk') (count - length (rows ++ row ∷ []))
+    ≡ rows ++ rows_before width beg (char_bytes walk) (count - length rows)
 drawn_more width beg rows row walk walk' count beg' lt is left next =
     let m : ℕ = count - (length rows + 1) in
     let here : count - length (rows ++ row ∷ []) ≡ m = omega (arith, length_push rows row) in
     let one : suc m ≡ count - length rows = omega (arith, lt) in
-    let line : List ℕ = line_before (bytes_of walk) in
-    let bytes : List ℕ = bytes_of walk in
-    let rest : bytes_of walk' ≡ after_line line bytes =
-    ap bytes_of left ∙ sym (drop-map (λ (c : Char). c.byte) (suc (length line)) walk) in
+    let line : List ℕ = line_before (char_bytes walk) in
+    let bytes : List ℕ = char_bytes walk in
+    let rest : char_bytes walk' ≡ after_line line bytes =
+    ap char_bytes left ∙ sym (drop-map (λ (c : Char). c.byte) (suc (length line)) walk) in
     let beg-is : beg' ≡ min (suc (beg + length line)) (beg + length bytes) =
     next ∙ ap (λ (n : ℕ). min (suc (beg + length line)) (beg + n)) (sym (length-map walk (λ (c : Char). c.byte))) in
-    append_assoc rows (row ∷ []) (rows_before width beg' (bytes_of walk') (count - length (rows ++ row ∷ [])))
-    ∙ ap (λ (n : ℕ). rows ++ row ∷ rows_before width beg' (bytes_of walk') n) here
+    append_assoc rows (row ∷ []) (rows_before width beg' (char_bytes walk') (count - length (rows ++ row ∷ [])))
+    ∙ ap (λ (n : ℕ). rows ++ row ∷ rows_before width beg' (char_bytes walk') n) here
     ∙ ap (λ (l : List ℕ). rows ++ row ∷ rows_before width beg' l m) rest
     ∙ ap (λ (n : ℕ). rows ++ row ∷ rows_before width n (after_line line bytes) m) beg-is
     ∙ ap (λ (r : Row). rows ++ r ∷ rows_before width (min (suc (beg + length line)) (beg + length bytes))
@@ -76,15 +77,15 @@ drawn_more width beg rows row walk walk' count beg' lt is left next =
 
 pub rows_more : (all : List Char) (width from before count : ℕ) (rows : List Row) (walk walk' : List Char)
     (beg beg' reads reads' : ℕ) (row : Row) → DrawsRows all width from before count rows walk beg reads
-    → length rows < count → row ≡ row_before width beg (bytes_of walk)
-    → walk' ≡ after_line (line_before (bytes_of walk)) walk
+    → length rows < count → row ≡ row_before width beg (char_bytes walk)
+    → walk' ≡ after_line (line_before (char_bytes walk)) walk
     → reads' ≡ counted (reads + (length walk - length walk'))
     → beg' ≡ min (min (row.end + 1) (2 ^ 64 - 1)) (length all) → length all < 2 ^ 64
     → DrawsRows all width from before count (rows ++ row ∷ []) walk' beg' reads'
 rows_more all width from before count rows walk walk' beg beg' reads reads' row was lt is rest counts next fits =
-    let line : List ℕ = line_before (bytes_of walk) in
+    let line : List ℕ = line_before (char_bytes walk) in
     let few : length line ≤ length walk =
-    omega (arith, before-few (bytes_of walk), length-map walk (λ (c : Char). c.byte)) in
+    omega (arith, before-few (char_bytes walk), length-map walk (λ (c : Char). c.byte)) in
     let left : beg + length walk ≡ length all = was.left in
     let after : from ≤ beg = was.after in
     let end : row.end ≡ beg + length line = ap (λ (r : Row). r.end) is in
@@ -111,11 +112,11 @@ rows_more all width from before count rows walk walk' beg beg' reads reads' row 
 -- all rows are drawn
 pub rows_drawn : (all : List Char) (width from before count : ℕ) (rows : List Row) (walk : List Char) (beg reads : ℕ)
     → DrawsRows all width from before count rows walk beg reads → count ≤ length rows
-    → rows ≡ rows_before width from (drop from (bytes_of all)) count
+    → rows ≡ rows_before width from (drop from (char_bytes all)) count
 rows_drawn all width from before count rows walk beg reads was all_drawn =
     let none : 0 ≡ count - length rows = omega (arith, all_drawn) in
     sym (append-nil rows)
-    ∙ ap (λ (n : ℕ). rows ++ rows_before width beg (bytes_of walk) n) none ∙ was.drawn
+    ∙ ap (λ (n : ℕ). rows ++ rows_before width beg (char_bytes walk) n) none ∙ was.drawn
 
 pub rows_counted : (all : List Char) (width from before count : ℕ) (rows : List Row) (walk : List Char) (beg reads : ℕ)
     → DrawsRows all width from before count rows walk beg reads → 0 < length rows
@@ -125,8 +126,8 @@ rows_counted all width from before count rows walk beg reads was some =
 
 -- A line is sought by its number: this many have begun, the last of them here.
 pub record SeeksLine (all : List Char) (before j : ℕ) (walk : List Char) (beg reads : ℕ) : Type 0 where
-  pub at : beg ≡ beg_of (bytes_of all) j
-  pub there : j < length (lines (bytes_of all))
+  pub at : beg ≡ beg_of (char_bytes all) j
+  pub there : j < length (lines (char_bytes all))
   pub left : walk ≡ drop beg all
   pub counts : reads ≡ counted (before + beg)
 
@@ -136,7 +137,7 @@ seek_begins all before walk is left =
     let none : before ≡ before + 0 = omega arith in
     record {
       at = omega arith;
-      there = some_line (bytes_of all);
+      there = some_line (char_bytes all);
       left = left;
       counts = is ∙ ap counted none;
     }
@@ -144,40 +145,40 @@ seek_begins all before walk is left =
 -- what a walk over the next line does, which ends here
 pub record Passes (all : List Char) (before j : ℕ) (walk walk' : List Char) (beg end reads reads' : ℕ) : Type 0 where
   pub was : SeeksLine all before j walk beg reads
-  pub is : end ≡ beg + length (line_before (bytes_of walk))
-  pub rest : walk' ≡ after_line (line_before (bytes_of walk)) walk
+  pub is : end ≡ beg + length (line_before (char_bytes walk))
+  pub rest : walk' ≡ after_line (line_before (char_bytes walk)) walk
   pub counts : reads' ≡ counted (reads + (length walk - length walk'))
 
 bytes_left : (all : List Char) (before j : ℕ) (walk : List Char) (beg reads : ℕ)
     → SeeksLine all before j walk beg reads
-    → bytes_of walk ≡ drop (beg_of (bytes_of all) j) (bytes_of all)
+    → char_bytes walk ≡ drop (beg_of (char_bytes all) j) (char_bytes all)
 bytes_left all before j walk beg reads was =
-    ap bytes_of was.left ∙ sym (drop-map (λ (c : Char). c.byte) beg all)
-    ∙ ap (λ (n : ℕ). drop n (bytes_of all)) was.at
+    ap char_bytes was.left ∙ sym (drop-map (λ (c : Char). c.byte) beg all)
+    ∙ ap (λ (n : ℕ). drop n (char_bytes all)) was.at
 
 end_passed : (all : List Char) (before j : ℕ) (walk walk' : List Char) (beg end reads reads' : ℕ)
-    → Passes all before j walk walk' beg end reads reads' → end ≡ end_of (bytes_of all) j
+    → Passes all before j walk walk' beg end reads reads' → end ≡ end_of (char_bytes all) j
 end_passed all before j walk walk' beg end reads reads' p =
-    let line : length (line_before (bytes_of walk)) ≡ length (line_before (drop (beg_of (bytes_of all) j) (bytes_of all))) =
+    let line : length (line_before (char_bytes walk)) ≡ length (line_before (drop (beg_of (char_bytes all) j) (char_bytes all))) =
     ap (λ (l : List ℕ). length (line_before l)) (bytes_left all before j walk beg reads p.was) in
-    let at : beg ≡ beg_of (bytes_of all) j = p.was.at in
-    let is : end ≡ beg + length (line_before (bytes_of walk)) = p.is in
-    omega (arith, is, at, line, ap length (line_is (bytes_of all) j))
+    let at : beg ≡ beg_of (char_bytes all) j = p.was.at in
+    let is : end ≡ beg + length (line_before (char_bytes walk)) = p.is in
+    omega (arith, is, at, line, ap length (line_is (char_bytes all) j))
 
 left_passed : (all : List Char) (before j : ℕ) (walk walk' : List Char) (beg end reads reads' : ℕ)
-    → Passes all before j walk walk' beg end reads reads' → walk' ≡ drop (beg_of (bytes_of all) (suc j)) all
+    → Passes all before j walk walk' beg end reads reads' → walk' ≡ drop (beg_of (char_bytes all) (suc j)) all
 left_passed all before j walk walk' beg end reads reads' p =
     p.rest
     ∙ ap (λ (l : List ℕ). after_line (line_before l) walk) (bytes_left all before j walk beg reads p.was)
-    ∙ ap (λ (l : List Char). after_line (line_before (drop (beg_of (bytes_of all) j) (bytes_of all))) l)
+    ∙ ap (λ (l : List Char). after_line (line_before (drop (beg_of (char_bytes all) j) (char_bytes all))) l)
     (p.was.left ∙ ap (λ (n : ℕ). drop n all) p.was.at)
-    ∙ next_left (bytes_of all) all j (sym (length-map all (λ (c : Char). c.byte)))
+    ∙ next_left (char_bytes all) all j (sym (length-map all (λ (c : Char). c.byte)))
 
 counts_passed : (all : List Char) (before j : ℕ) (walk walk' : List Char) (beg end reads reads' : ℕ)
     → Passes all before j walk walk' beg end reads reads'
-    → reads' ≡ counted (before + beg_of (bytes_of all) (suc j))
+    → reads' ≡ counted (before + beg_of (char_bytes all) (suc j))
 counts_passed all before j walk walk' beg end reads reads' p =
-    let bytes : List ℕ = bytes_of all in
+    let bytes : List ℕ = char_bytes all in
     let at : beg ≡ beg_of bytes j = p.was.at in
     let long : length walk ≡ length all - beg = ap length p.was.left ∙ length-drop beg all in
     let long' : length walk' ≡ length all - beg_of bytes (suc j) =
@@ -196,7 +197,7 @@ pub seeks_on : (all : List Char) (before j : ℕ) (walk walk' : List Char) (beg 
     → Passes all before j walk walk' beg end reads reads' → end < length all
     → SeeksLine all before (j + 1) walk' (end + 1) reads'
 seeks_on all before j walk walk' beg end reads reads' p lt =
-    let bytes : List ℕ = bytes_of all in
+    let bytes : List ℕ = char_bytes all in
     let same : length bytes ≡ length all = length-map all (λ (c : Char). c.byte) in
     let is : end ≡ end_of bytes j = end_passed all before j walk walk' beg end reads reads' p in
     let at : beg_of bytes (suc j) ≡ end + 1 = omega (arith, next_beg bytes j, is, same, lt) in
@@ -214,10 +215,10 @@ seeks_on all before j walk walk' beg end reads reads' p lt =
 -- this line is the last
 pub last_found : (all : List Char) (before j number : ℕ) (walk walk' : List Char) (beg end reads reads' : ℕ)
     → Passes all before j walk walk' beg end reads reads' → length all ≤ end → j < number
-    → (beg ≡ beg_of (bytes_of all) (min number (ends_in (bytes_of all))))
-    × (reads' ≡ counted (before + beg_of (bytes_of all) number))
+    → (beg ≡ beg_of (char_bytes all) (min number (ends_in (char_bytes all))))
+    × (reads' ≡ counted (before + beg_of (char_bytes all) number))
 last_found all before j number walk walk' beg end reads reads' p le lt =
-    let bytes : List ℕ = bytes_of all in
+    let bytes : List ℕ = char_bytes all in
     let same : length bytes ≡ length all = length-map all (λ (c : Char). c.byte) in
     let is : end ≡ end_of bytes j = end_passed all before j walk walk' beg end reads reads' p in
     let last : j ≡ ends_in bytes = is_last bytes j p.was.there (omega (arith, is, same, le)) in
@@ -233,10 +234,10 @@ last_found all before j number walk walk' beg end reads reads' p le lt =
 -- all lines before are passed
 pub line_found : (all : List Char) (before number j : ℕ) (walk : List Char) (beg reads : ℕ) → number ≡ j
     → SeeksLine all before j walk beg reads
-    → (beg ≡ beg_of (bytes_of all) (min number (ends_in (bytes_of all))))
-    × (reads ≡ counted (before + beg_of (bytes_of all) number))
+    → (beg ≡ beg_of (char_bytes all) (min number (ends_in (char_bytes all))))
+    × (reads ≡ counted (before + beg_of (char_bytes all) number))
 line_found all before number j walk beg reads e was =
-    let bytes : List ℕ = bytes_of all in
+    let bytes : List ℕ = char_bytes all in
     let there : j < length (lines bytes) = was.there in
     let here : j ≡ min number (ends_in bytes) = omega (arith, e, there, one_more bytes) in (
       was.at ∙ ap (beg_of bytes) here,

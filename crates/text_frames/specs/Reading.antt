@@ -21,10 +21,6 @@ abbrev pub left_of : Option (List Char) → List Char
 left_of None = []
 left_of (Some left) = left
 
--- the bytes of these characters
-abbrev pub bytes_of : List Char → List ℕ
-bytes_of chars = map (λ c. c.byte) chars
-
 -- what a walk over these characters gives next of their line, and what it then has left; nothing where the line ends
 abbrev pub GivesNext : List Char → Option ℕ → List Char → Type 0
 GivesNext [] next left = (next ≡ None) × (left ≡ [])

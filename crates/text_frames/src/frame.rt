@@ -9,7 +9,7 @@ ghost use Rattle.taken_text.specs.Noted.{SameChar};
 ghost use Rattle.texts.specs.Laws.{KeepsTheOrder};
 ghost use Rattle.texts.specs.Text.{IsAnchor, IsText};
 ghost use Rattle.texts.specs.TextState.{TextState, shown_of};
-ghost use Rattle.machine.specs.Windows.{bytes_shown, line_anchor, position_in, row_in};
+ghost use Rattle.machine.specs.Windows.{bytes_shown, line_anchor, position_in, row_from_anchor};
 ghost use Rattle.text_frames.specs.Frames.{AreRows, IsDrawn, ReadsOnce, drawing_reads, is_quiet_for, last_row, leaves_rows, replaces};
 ghost use Rattle.text_frames.specs.Reading.{counted};
 
@@ -283,7 +283,7 @@ impl Frame {
         requires wide { length cells.old ≡ self.now.width }
         ensures kept { IfSome (slice_get self.now.rows i) (λ r. cells.new ≡ r.cells) }
         ensures shown { (t : TextState) → IsDrawn self.now t
-            → cells.new ≡ (row_in t self.now.anchor self.now.width i).cells }
+            → cells.new ≡ (row_from_anchor t self.now.anchor self.now.width i).cells }
     {
         let row = &self.rows[i];
         cells.copy_from_slice(row.cells.as_slice());

@@ -1,6 +1,7 @@
 ghost use Rattle.std.specs.Prelude.{◌≡◌, ◌+◌, ◌-◌, ◌^◌, ◌<◌, ◌≤◌, ◌∷◌, [], ◌++◌, length, take};
 ghost use Rattle.line_drawing.specs.Rows.{blanks, sign_of};
-ghost use Rattle.text_frames.specs.Reading.{after_line, bytes_of, counted, line_before, row_before};
+ghost use Rattle.text_frames.specs.Reading.{after_line, counted, line_before, row_before}
+ghost use Rattle.char_files.specs.Chars.{char_bytes};
 
 use crate::reading::CountingReader;
 use arrayvec::ArrayVec;
@@ -50,8 +51,8 @@ fn fill(cells: &mut ArrayVec<u8, MAX_WIDTH>, width: usize)
 pub(crate) fn read_row(text: &mut CountingReader<'_>, beg: u64, width: usize) -> DrawnRow
     requires wide { width ≤ MAX_WIDTH }
     requires in_text { beg + length text.old.left < 2 ^ 64 }
-    ensures row { result ≡ row_before width beg (bytes_of text.old.left) }
-    ensures rest { text.new.left ≡ after_line (line_before (bytes_of text.old.left)) text.old.left }
+    ensures row { result ≡ row_before width beg (char_bytes text.old.left) }
+    ensures rest { text.new.left ≡ after_line (line_before (char_bytes text.old.left)) text.old.left }
     ensures text { text.new.text ≡ text.old.text }
     ensures reads { text.new.reads ≡ counted (text.old.reads + (length text.old.left - length text.new.left)) }
 {

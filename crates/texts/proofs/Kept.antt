@@ -11,7 +11,7 @@ use Rattle.texts.specs.Edit.{with_operation}
 use Rattle.texts.specs.Order.{order_after}
 use Rattle.texts.specs.Taking.{HasTaken, HasTakenAll}
 use Rattle.texts.specs.Text.{AreCharNames, IsText}
-use Rattle.texts.specs.TextState.{TextState, state_of}
+use Rattle.texts.specs.TextState.{TextState, text_state_of}
 use Rattle.texts.proofs.Taking.{taken_is_one}
 
 -- the items of a stretch are a stretch of the items
@@ -49,11 +49,11 @@ kept_with text ops room names op own =
 -- what a replica is seen as has taken operations in, where its operations are those more
 pub grown_by_more : (text site : ℕ) (ops ops' : List Operation) (chars chars' : List Char) (room : List Operation)
     (stretch : List Item) (names : List Range) (asked asked' : ℕ) (more : List Operation) (t : TextState)
-    → state_of text site ops chars room stretch names asked ≡ t → ops' ≡ ops ++ more → asked' ≡ asked
-    → IsText (state_of text site ops' chars' room stretch names asked')
-    → HasTakenAll t more (state_of text site ops' chars' room stretch names asked')
+    → text_state_of text site ops chars room stretch names asked ≡ t → ops' ≡ ops ++ more → asked' ≡ asked
+    → IsText (text_state_of text site ops' chars' room stretch names asked')
+    → HasTakenAll t more (text_state_of text site ops' chars' room stretch names asked')
 grown_by_more text site ops ops' chars chars' room stretch names asked asked' more t seen grown same is =
-    let new : TextState = state_of text site ops' chars' room stretch names asked' in
+    let new : TextState = text_state_of text site ops' chars' room stretch names asked' in
     record {
       is = is;
       grown = subst (λ (u : TextState). new ≡ record u { operations = u.operations ++ more; order = chars' }) seen
@@ -62,9 +62,9 @@ grown_by_more text site ops ops' chars chars' room stretch names asked asked' mo
 
 pub grown_by_one : (text site : ℕ) (ops ops' : List Operation) (chars chars' : List Char) (room : List Operation)
     (stretch : List Item) (names : List Range) (asked asked' : ℕ) (op : Operation) (t : TextState)
-    → state_of text site ops chars room stretch names asked ≡ t → ops' ≡ ops ++ op ∷ [] → asked' ≡ asked
-    → IsText (state_of text site ops' chars' room stretch names asked')
-    → HasTaken t op (state_of text site ops' chars' room stretch names asked')
+    → text_state_of text site ops chars room stretch names asked ≡ t → ops' ≡ ops ++ op ∷ [] → asked' ≡ asked
+    → IsText (text_state_of text site ops' chars' room stretch names asked')
+    → HasTaken t op (text_state_of text site ops' chars' room stretch names asked')
 grown_by_one text site ops ops' chars chars' room stretch names asked asked' op =
     grown_by_more text site ops ops' chars chars' room stretch names asked asked' (op ∷ [])
 

@@ -24,7 +24,8 @@ use Rattle.waiting_room.specs.Room.{is_behind}
 use Rattle.texts.specs.declared.TheConstants.{MAX_SEQ}
 use Rattle.texts.specs.Edit.{names_shown, own_op, stretch_named, with_operation}
 use Rattle.texts.specs.Laws.{NamesStretch}
-use Rattle.texts.specs.Order.{chars_of, order_after, insert_at}
+use Rattle.texts.specs.Order.{order_after, with_inserted}
+use Rattle.taken_text.specs.Rows.{chars_from}
 use Rattle.texts.specs.Outcome.{is_scattered, passes_file, refusal_for}
 use Rattle.texts.specs.Own.{IsWhyNot, SendsOne}
 use Rattle.texts.specs.Taking.{HasTaken}
@@ -76,11 +77,11 @@ same_change sel looks looks' names names' a b =
 
 -- a run makes the text longer by its bytes
 length-chars_of : (site at : ℕ) (looks : Looks) (bytes : List ℕ)
-    → length (chars_of site at looks bytes) ≡ length bytes
+    → length (chars_from site at looks bytes) ≡ length bytes
 length-chars_of site at looks [] = refl
 length-chars_of site at looks (b ∷ bytes) = omega (arith, length-chars_of site (at + 1) looks bytes)
 
-length-insert_at : (xs run : List Char) (n : ℕ) → length (insert_at xs n run) ≡ length xs + length run
+length-insert_at : (xs run : List Char) (n : ℕ) → length (with_inserted xs n run) ≡ length xs + length run
 length-insert_at xs run n =
     let whole = length-append (take n xs ++ run) (drop n xs) in
     let front = length-append (take n xs) run in
@@ -90,14 +91,14 @@ length-insert_at xs run n =
 
 pub longer : (t : TextState) (op : Operation) (pos at : ℕ) (looks : Looks) (bytes : List ℕ)
     (result : Result (Unit {0}) Refusal) (new : TextState) (sent sent' : List (List ℕ))
-    → shown_of (with_operation t op) ≡ insert_at (shown_of t) pos (chars_of t.site at looks bytes)
+    → shown_of (with_operation t op) ≡ with_inserted (shown_of t) pos (chars_from t.site at looks bytes)
     → SendsOne t op result new sent sent'
     → OnOk result (length (shown_of new) ≡ length (shown_of t) + length bytes)
 longer t op pos at looks bytes (Ok done) new sent sent' shown (allowed, is, told) =
-    let shows : shown_of new ≡ insert_at (shown_of t) pos (chars_of t.site at looks bytes) = ap shown_of is ∙ shown in
-    let long : length (shown_of new) ≡ length (insert_at (shown_of t) pos (chars_of t.site at looks bytes)) =
+    let shows : shown_of new ≡ with_inserted (shown_of t) pos (chars_from t.site at looks bytes) = ap shown_of is ∙ shown in
+    let long : length (shown_of new) ≡ length (with_inserted (shown_of t) pos (chars_from t.site at looks bytes)) =
     ap (length {A = Char}) shows in
-    omega (arith, long, length-insert_at (shown_of t) (chars_of t.site at looks bytes) pos, length-chars_of t.site at looks bytes)
+    omega (arith, long, length-insert_at (shown_of t) (chars_from t.site at looks bytes) pos, length-chars_of t.site at looks bytes)
 longer t op pos at looks bytes (Err why) new sent sent' shown s = tt
 
 -- a stretch that isn't empty has a name

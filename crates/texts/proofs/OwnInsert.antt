@@ -23,7 +23,8 @@ use Rattle.tree_order.specs.Tree.{HasByte, IsChar}
 use Rattle.set_laws.specs.Fronts.{file_len}
 use Rattle.texts.specs.Edit.{anchor_before, own_insert, with_operation}
 use Rattle.texts.specs.Laws.{OwnInsertIsPlain, shown_with_run}
-use Rattle.texts.specs.Order.{chars_of, count_to, insert_at}
+use Rattle.texts.specs.Order.{count_to, with_inserted}
+use Rattle.taken_text.specs.Rows.{chars_from}
 use Rattle.texts.specs.Text.{IsAnchor, IsText}
 use Rattle.texts.specs.TextState.{TextState, shown_of}
 use Rattle.tree_order.proofs.Latest.{after_cause}
@@ -38,13 +39,13 @@ use Rattle.texts.proofs.RunChars.{names_in_run, names_of_chars, run_is_chars}
 
 -- what holds of each character of both holds of each where a run was put in
 All-insert_at : (P : Char → Type 0) (order run : List Char) (n : ℕ) → All P order → All P run
-    → All P (insert_at order n run)
+    → All P (with_inserted order n run)
 All-insert_at P order run n old new =
     All-append P (take n order ++ run) (drop n order)
     (All-append P (take n order) run (All-take P n order old) new) (All-drop P n order old)
 
 names_of_put : (order run : List Char) (n : ℕ) (names : List CharName) → map (λ c. c.name) run ≡ names
-    → map (λ c. c.name) (insert_at order n run) ≡ insert_at (map (λ c. c.name) order) n names
+    → map (λ c. c.name) (with_inserted order n run) ≡ with_inserted (map (λ c. c.name) order) n names
 names_of_put order run n names e = simp (map-append, take-map, drop-map, e)
 
 module _ (t : TextState) (pos : ℕ) (looks : Looks) (bytes : List ℕ) (is : IsText t)
@@ -65,7 +66,7 @@ module _ (t : TextState) (pos : ℕ) (looks : Looks) (bytes : List ℕ) (is : Is
   at = file_len ops t.site
 
   abbrev run : List Char
-  run = chars_of t.site at looks bytes
+  run = chars_from t.site at looks bytes
 
   -- the cause is the root or a character
   after : IsJustAfter (map (λ s. s.name) (shown_of t)) cause pos
@@ -79,7 +80,7 @@ module _ (t : TextState) (pos : ℕ) (looks : Looks) (bytes : List ℕ) (is : Is
   step = own_step t (insert cause at looks bytes) is refl (old_if_mentioned ops cause at looks bytes old)
 
   -- its run stands directly after its cause
-  order : IsOrder with_own (map (λ c. c.name) (insert_at t.order (count_to t.order cause) run))
+  order : IsOrder with_own (map (λ c. c.name) (with_inserted t.order (count_to t.order cause) run))
   order =
       let names : List CharName = map (λ (c : Char). c.name) t.order in
       let k = count_to t.order cause in
@@ -118,7 +119,7 @@ module _ (t : TextState) (pos : ℕ) (looks : Looks) (bytes : List ℕ) (is : Is
       omega (arith, inserts.1)
   sets_none c char selects (inr changes) = absurd changes
 
-  chars : AreChars with_own (insert_at t.order (count_to t.order cause) run)
+  chars : AreChars with_own (with_inserted t.order (count_to t.order cause) run)
   chars = record {
     order = order;
     bytes = All-insert_at (λ c. HasByte with_own c.name c.byte) t.order run (count_to t.order cause)
@@ -140,12 +141,12 @@ module _ (t : TextState) (pos : ℕ) (looks : Looks) (bytes : List ℕ) (is : Is
   shown =
       let was = shows_the_definition t is in
       let plain = plain_edit ops own cause (shown_of t) pos step.one step.latest refl was after in
-      let is_plain : IsShown with_own (insert_at (shown_of t) pos run) = subst
-      (λ (chars : List Char). IsShown with_own (insert_at (shown_of t) pos chars))
+      let is_plain : IsShown with_own (with_inserted (shown_of t) pos run) = subst
+      (λ (chars : List Char). IsShown with_own (with_inserted (shown_of t) pos chars))
       (run_is_chars t.site looks cause at bytes) plain in
       let shows = shows_one_text with_own step.one.larger in
       shows.only (shown_of (with_operation t own)) (shows_the_definition (with_operation t own) text)
-      ∙ sym (shows.only (insert_at (shown_of t) pos run) is_plain)
+      ∙ sym (shows.only (with_inserted (shown_of t) pos run) is_plain)
 
 -- an own Insert is an edit of a plain list
 pub insert_is_plain : OwnInsertIsPlain

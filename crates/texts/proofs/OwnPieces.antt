@@ -10,7 +10,8 @@ use Rattle.operations.specs.Operation.{Operation}
 use Rattle.set_laws.specs.Fronts.{file_len}
 use Rattle.texts.specs.Edit.{after, inserts, insertion, own_insert, pieces_of, shown_with, with_operation}
 use Rattle.texts.specs.Laws.{IsPlainEdit, IsPlainPart}
-use Rattle.texts.specs.Order.{chars_from, chars_of, insert_at}
+use Rattle.texts.specs.Order.{item_chars, with_inserted}
+use Rattle.taken_text.specs.Rows.{chars_from}
 use Rattle.texts.specs.Text.{IsText}
 use Rattle.texts.specs.TextState.{TextState, shown_of}
 use Rattle.set_laws.proofs.Counting.{counted_on}
@@ -34,7 +35,7 @@ module _ (t : TextState) (pos : ℕ) (p : Stretch) (is : IsText t) (in_text : po
   at = file_len t.operations t.site
 
   abbrev run : List Char
-  run = chars_of t.site at p.looks p.bytes
+  run = chars_from t.site at p.looks p.bytes
 
   plain : IsPlainEdit t pos p.looks p.bytes
   plain = insert_is_plain t pos p.looks p.bytes is in_text
@@ -57,19 +58,19 @@ module _ (t : TextState) (pos : ℕ) (p : Stretch) (is : IsText t) (in_text : po
       → ShowsWith t pos (items_of_run p ++ more) u
   with_first more u shows = record { text = shows.text; shown = is_shown } where
     later : ℕ → List Char
-    later from = chars_from t.site from more
+    later from = item_chars t.site from more
 
     was : List Char
-    was = insert_at (shown_of t) pos run
+    was = with_inserted (shown_of t) pos run
 
     is_shown : shown_of u ≡ shown_with t pos (items_of_run p ++ more)
     is_shown =
         shows.shown
-        ∙ ap (λ (xs : List Char). insert_at xs (pos + length p.bytes) (later (file_len new.operations t.site))) plain.shown
-        ∙ ap (λ (n : ℕ). insert_at was (pos + length p.bytes) (later n)) file_grows
-        ∙ ap (λ (n : ℕ). insert_at was (pos + n) (later (at + length p.bytes))) (sym long)
+        ∙ ap (λ (xs : List Char). with_inserted xs (pos + length p.bytes) (later (file_len new.operations t.site))) plain.shown
+        ∙ ap (λ (n : ℕ). with_inserted was (pos + length p.bytes) (later n)) file_grows
+        ∙ ap (λ (n : ℕ). with_inserted was (pos + n) (later (at + length p.bytes))) (sym long)
         ∙ put_after (shown_of t) pos run (later (at + length p.bytes)) in_text
-        ∙ ap (insert_at (shown_of t) pos) (sym (chars_from_run t.site at p.looks p.bytes more))
+        ∙ ap (with_inserted (shown_of t) pos) (sym (chars_from_run t.site at p.looks p.bytes more))
 
 -- the first pieces of several
 pub shows_pieces : (pieces : List Stretch) (k : ℕ) (t : TextState) (pos : ℕ) → IsText t → pos ≤ length (shown_of t)

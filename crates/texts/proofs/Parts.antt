@@ -5,7 +5,7 @@ use Rattle.std.proofs.lemmas.List.{drop-append-le, length-drop, length-take-le, 
 use Rattle.std.proofs.lemmas.Grind.{get_or_default_zero}
 use Rattle.std.proofs.lemmas.Slice.{between_to_end}
 use Rattle.std.proofs.Math.Seq.{drop-append_seam}
-use Rattle.texts.specs.Parts.{AreEnds, beg_of, parts}
+use Rattle.texts.specs.Parts.{AreEnds, part_beg, parts}
 
 -- there are as many parts as ends
 pub length-parts : (bytes ends : List ℕ) (beg : ℕ) → length (parts bytes beg ends) ≡ length ends
@@ -40,7 +40,7 @@ part_at bytes (end ∷ ends) beg (suc i) within = part_at bytes ends end i (omeg
 
 -- a part that is read, of these: its positions are within the bytes, and it stands between them
 pub read_part : (bytes ends : List ℕ) (seen : List (List ℕ)) (i beg end : ℕ) → AreEnds 0 ends (length bytes)
-    → parts bytes 0 ends ≡ seen → i < length seen → beg ≡ beg_of ends i → end ≡ get_or ends i end
+    → parts bytes 0 ends ≡ seen → i < length seen → beg ≡ part_beg ends i → end ≡ get_or ends i end
     → (beg ≤ end) × (end ≤ length bytes) × (slice_get seen i ≡ Some (slice_range bytes beg end))
 read_part bytes ends seen i beg end are view has begins ends_at =
     let within : i < length ends = omega (arith, has, ap length view, length-parts bytes ends 0) in
@@ -108,11 +108,11 @@ part_more bytes more ends are =
 
 -- without the last end, and without the bytes from where its part begins, there are the other parts
 pub part_less : (bytes ends : List ℕ) (last : ℕ) → AreEnds 0 (ends ++ last ∷ []) (length bytes)
-    → let before = take (beg_of ends (length ends)) bytes in
+    → let before = take (part_beg ends (length ends)) bytes in
     AreEnds 0 ends (length before)
-    × (parts bytes 0 (ends ++ last ∷ []) ≡ parts before 0 ends ++ slice_range bytes (beg_of ends (length ends)) last ∷ [])
+    × (parts bytes 0 (ends ++ last ∷ []) ≡ parts before 0 ends ++ slice_range bytes (part_beg ends (length ends)) last ∷ [])
 part_less bytes ends last are =
-    let beg = beg_of ends (length ends) in
+    let beg = part_beg ends (length ends) in
     let before = take beg bytes in
     let (others, within) = ends_before ends last 0 (length bytes) are in
     let they : AreEnds 0 ends (length before) = subst (AreEnds 0 ends) (sym (length-take-le beg bytes within)) others in

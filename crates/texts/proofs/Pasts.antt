@@ -17,8 +17,8 @@ use Rattle.set_laws.specs.Verdict.{HasVerdict, IsNew, ready}
 use Rattle.waiting_room.specs.Judged.{verdict_of}
 use Rattle.waiting_room.specs.declared.judging.Verdict.{Verdict}
 use Rattle.waiting_room.specs.declared.judging.Verdict.TheVariants.{Wait, Misfit, LowStamp, Ready}
-use Rattle.texts.specs.Fronts.{front_in, is_beyond, up_to}
-use Rattle.texts.specs.Laws.{AreAlike, StoodAt, ThePastIsTheTextOfThen}
+use Rattle.texts.specs.Fronts.{front_in, is_beyond, up_to_fronts}
+use Rattle.texts.specs.Laws.{AreTextsAlike, StoodAt, ThePastIsTheTextOfThen}
 use Rattle.texts.specs.Past.{HasSomeOf, IsDue, IsPastOf, ends, keeps, leaves_out}
 use Rattle.texts.specs.Taking.{HasTaken, IsJudged}
 use Rattle.texts.specs.Text.{IsText}
@@ -46,17 +46,17 @@ isnt_so fronts op past = not_from_true _ (lt-ltb (front_in fronts op.site) op.se
 
 -- of the operations up to the fronts are those of the list whose seqs are no greater, and no others
 in_up_to : (fronts : List Front) (ops : List Operation) (op : Operation) → Contains ops op
-    → op.seq ≤ front_in fronts op.site → Contains (up_to fronts ops) op
+    → op.seq ≤ front_in fronts op.site → Contains (up_to_fronts fronts ops) op
 in_up_to fronts ops op held most = kept_if_it_passes (is_up_to fronts) ops op held (is_so fronts op most)
 
-from_up_to : (fronts : List Front) (ops : List Operation) → IsPartOf (up_to fronts ops) ops
+from_up_to : (fronts : List Front) (ops : List Operation) → IsPartOf (up_to_fronts fronts ops) ops
 from_up_to fronts ops = there_before_filter (is_up_to fronts) ops
 
-no_further : (fronts : List Front) (ops : List Operation) (op : Operation) → Contains (up_to fronts ops) op
+no_further : (fronts : List Front) (ops : List Operation) (op : Operation) → Contains (up_to_fronts fronts ops) op
     → op.seq ≤ front_in fronts op.site
 no_further fronts ops op held =
     let so : is_up_to fronts op ≡ true =
-    All-contains (λ (x : Operation). is_up_to fronts x ≡ true) (up_to fronts ops) op
+    All-contains (λ (x : Operation). is_up_to fronts x ≡ true) (up_to_fronts fronts ops) op
     (filter_passes (is_up_to fronts) ops) held in
     ltb-false (front_in fronts op.site) op.seq (not-true (is_beyond fronts op) so)
 
@@ -119,7 +119,7 @@ finished {t} {now} {fronts} {i} u past = record {
   text = u.past.text;
   site = u.past.site;
   in_order = subst (λ (ops : List Operation). HasSomeOf ops now.operations) (take_all i t.operations past) u.past.in_order;
-  closure = subst (λ (ops : List Operation). IsGreatestGoodPart (up_to fronts ops) now.operations)
+  closure = subst (λ (ops : List Operation). IsGreatestGoodPart (up_to_fronts fronts ops) now.operations)
       (take_all i t.operations past) u.past.closure;
   waiting = u.past.waiting;
   last_stretch = u.past.last_stretch;
@@ -137,7 +137,7 @@ module _ {t now : TextState} {fronts : List Front} {i : ℕ} (u : IsPastTo t fro
 
   -- those of the first ones that are up to the fronts
   abbrev so_far : List Operation
-  so_far = up_to fronts (take i t.operations)
+  so_far = up_to_fronts fronts (take i t.operations)
 
   here : Contains ops op
   here = (i, slice_get_within ops i op at, get_or_from_slice_get ops i op op at)
@@ -245,7 +245,7 @@ module _ {t now : TextState} {fronts : List Front} {i : ℕ} (u : IsPastTo t fro
       ∙ ap (λ (o : Operation). take i ops ++ o ∷ []) (get_or_from_slice_get ops i op op at)
 
   -- what is taken in is the greatest good part of one operation more
-  stays : IsGreatestGoodPart (up_to fronts (take (i + 1) ops)) now.operations → IsPastTo t fronts (i + 1) now
+  stays : IsGreatestGoodPart (up_to_fronts fronts (take (i + 1) ops)) now.operations → IsPastTo t fronts (i + 1) now
   stays closure = record {
     is = u.is;
     once = u.once;
@@ -262,7 +262,7 @@ module _ {t now : TextState} {fronts : List Front} {i : ℕ} (u : IsPastTo t fro
     };
   }
 
-  with_this : op.seq ≤ front_in fronts op.site → up_to fronts (take (i + 1) ops) ≡ so_far ++ op ∷ []
+  with_this : op.seq ≤ front_in fronts op.site → up_to_fronts fronts (take (i + 1) ops) ≡ so_far ++ op ∷ []
   with_this most = next_passes (is_up_to fronts) ops i op at (is_so fronts op most)
 
   -- one that is beyond the fronts is left out
@@ -379,13 +379,13 @@ past_is_then t was p fronts is stood past =
     is.identified in
     let told : HasToTheFront was.operations t.operations =
     has_to_the_front was.operations t.operations stood.is.good known in
-    let back : IsPartOf (up_to fronts t.operations) was.operations = λ op held.
+    let back : IsPartOf (up_to_fronts fronts t.operations) was.operations = λ op held.
     let there : Contains t.operations op = from_up_to fronts t.operations op held in
     let most = no_further fronts t.operations op held in
     let most' = up_to_front t.operations op there in
     let front = stood.reach op.site in
     (told op there).1 (omega arith) in
-    let to : IsPartOf was.operations (up_to fronts t.operations) = λ op held.
+    let to : IsPartOf was.operations (up_to_fronts fronts t.operations) = λ op held.
     let there : Contains t.operations op = stood.part op held in
     let most = (told op there).0 held in
     let front = stood.reach op.site in
@@ -396,13 +396,13 @@ past_is_then t was p fronts is stood past =
     ) in
     operations_tell p was past.is stood.is same
 
-up_to_part : (fronts : List Front) (a b : List Operation) → IsPartOf a b → IsPartOf (up_to fronts a) (up_to fronts b)
+up_to_part : (fronts : List Front) (a b : List Operation) → IsPartOf a b → IsPartOf (up_to_fronts fronts a) (up_to_fronts fronts b)
 up_to_part fronts a b part op held =
     in_up_to fronts b op (part op (from_up_to fronts a op held)) (no_further fronts a op held)
 
 -- of texts that have taken in the same operations the pasts at one place are alike
 pub same_pasts : (t u p q : TextState) (fronts : List Front) → AreSameSet t.operations u.operations
-    → IsPastOf t fronts p → IsPastOf u fronts q → AreAlike p q
+    → IsPastOf t fronts p → IsPastOf u fronts q → AreTextsAlike p q
 same_pasts t u p q fronts same past past' =
     let to : IsPartOf p.operations q.operations =
     past'.closure.greatest p.operations

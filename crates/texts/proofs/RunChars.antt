@@ -11,7 +11,7 @@ use Rattle.char_files.specs.declared.name.Anchor.{Anchor}
 use Rattle.operations.specs.NameSet.{IsIn, names_of}
 use Rattle.operations.specs.Operation.{insert}
 use Rattle.tree_order.specs.Sequential.{char_by}
-use Rattle.texts.specs.Order.{chars_of}
+use Rattle.taken_text.specs.Rows.{chars_from}
 
 module _ (site : ℕ) (looks : Looks) where
   -- the names from an offset on
@@ -23,7 +23,7 @@ module _ (site : ℕ) (looks : Looks) where
   made off byte = record { name = record { site = site; off = off }; byte = byte; looks = looks }
 
   pub names_of_chars : (at : ℕ) (bytes : List ℕ)
-      → map (λ c. c.name) (chars_of site at looks bytes) ≡ names_from at (length bytes)
+      → map (λ c. c.name) (chars_from site at looks bytes) ≡ names_from at (length bytes)
   names_of_chars at [] = refl
   names_of_chars at (b ∷ bytes) =
       ap (λ (names : List CharName). record { site = site; off = at } ∷ names) (names_of_chars (at + 1) bytes)
@@ -32,7 +32,7 @@ module _ (site : ℕ) (looks : Looks) where
     -- those from an offset on have the bytes from there on
     chars_from : (k off : ℕ) (bytes : List ℕ) → off ≡ at + k → drop k all ≡ bytes
         → map (char_by (insert cause at looks all)) (names_from off (length bytes))
-        ≡ chars_of site off looks bytes
+        ≡ chars_from site off looks bytes
     chars_from k off [] is rest = refl
     chars_from k off (b ∷ bytes) is rest =
         let within : k < length all = omega (arith, ap (length {A = ℕ}) rest, length-drop k all) in
@@ -47,7 +47,7 @@ module _ (site : ℕ) (looks : Looks) where
         ∙ ap (λ (cs : List Char). made off b ∷ cs) others
 
     pub run_is_chars :
-        map (char_by (insert cause at looks all)) (names_from at (length all)) ≡ chars_of site at looks all
+        map (char_by (insert cause at looks all)) (names_from at (length all)) ≡ chars_from site at looks all
     run_is_chars = chars_from 0 at all (omega arith) refl
 
     -- each name is in the run

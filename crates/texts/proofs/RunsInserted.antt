@@ -12,7 +12,8 @@ use Rattle.char_files.specs.Stretch.{Item, Stretch, items_of, items_of_run}
 use Rattle.char_files.specs.declared.character.Char.{Char}
 use Rattle.operations.specs.declared.kind.TheConstants.{MAX_INSERT}
 use Rattle.texts.specs.Edit.{parts_from, parts_of, pieces_of}
-use Rattle.texts.specs.Order.{chars_from, chars_of, insert_at}
+use Rattle.texts.specs.Order.{item_chars, with_inserted}
+use Rattle.taken_text.specs.Rows.{chars_from}
 use Rattle.char_files.proofs.MaximalRuns.{maximal_items}
 
 -- ---- the parts of a run have its characters
@@ -58,49 +59,49 @@ items_of_pieces items = items_of_all_parts (maximal_runs items) ∙ maximal_item
 -- ---- characters of runs, one after the other in the site's file
 
 pub length-chars_of : (site at : ℕ) (looks : Looks) (bytes : List ℕ)
-    → length (chars_of site at looks bytes) ≡ length bytes
+    → length (chars_from site at looks bytes) ≡ length bytes
 length-chars_of site at looks [] = refl
 length-chars_of site at looks (b ∷ bytes) = ap suc (length-chars_of site (at + 1) looks bytes)
 
 pub chars_from_run : (site at : ℕ) (looks : Looks) (bytes : List ℕ) (more : List Item)
-    → chars_from site at (items_of_run (record { looks = looks; bytes = bytes }) ++ more)
-    ≡ chars_of site at looks bytes ++ chars_from site (at + length bytes) more
+    → item_chars site at (items_of_run (record { looks = looks; bytes = bytes }) ++ more)
+    ≡ chars_from site at looks bytes ++ item_chars site (at + length bytes) more
 chars_from_run site at looks [] more =
     let same : at ≡ at + 0 = omega arith in
-    ap (λ (n : ℕ). chars_from site n more) same
+    ap (λ (n : ℕ). item_chars site n more) same
 chars_from_run site at looks (b ∷ bytes) more =
     let same : at + 1 + length bytes ≡ at + suc (length bytes) = omega arith in
     ap (λ (cs : List Char). record { name = record { site = site; off = at }; byte = b; looks = looks } ∷ cs)
     (chars_from_run site (at + 1) looks bytes more
-    ∙ ap (λ (n : ℕ). chars_of site (at + 1) looks bytes ++ chars_from site n more) same)
+    ∙ ap (λ (n : ℕ). chars_from site (at + 1) looks bytes ++ item_chars site n more) same)
 
 -- ---- runs put in
 
-pub put_none : (xs : List Char) (pos : ℕ) → insert_at xs pos [] ≡ xs
+pub put_none : (xs : List Char) (pos : ℕ) → with_inserted xs pos [] ≡ xs
 put_none xs pos =
     ap (λ (front : List Char). front ++ drop pos xs) (append-nil (take pos xs)) ∙ take-append-drop pos xs
 
 pub length-insert_at : (xs : List Char) (pos : ℕ) (run : List Char) → pos ≤ length xs
-    → length (insert_at xs pos run) ≡ length xs + length run
+    → length (with_inserted xs pos run) ≡ length xs + length run
 length-insert_at xs pos run within =
     let front : length (take pos xs) ≡ pos = length-take-le pos xs within in
     let back : length (drop pos xs) + pos ≡ length xs = omega (arith, length-drop pos xs) in
-    let parts : length (insert_at xs pos run) ≡ length (take pos xs) + length run + length (drop pos xs) =
+    let parts : length (with_inserted xs pos run) ≡ length (take pos xs) + length run + length (drop pos xs) =
     length-append (take pos xs ++ run) (drop pos xs)
     ∙ ap (λ (n : ℕ). n + length (drop pos xs)) (length-append (take pos xs) run) in
     omega arith
 
 -- what is put at the end of what was put
 pub put_after : (xs : List Char) (pos : ℕ) (run more : List Char) → pos ≤ length xs
-    → insert_at (insert_at xs pos run) (pos + length run) more ≡ insert_at xs pos (run ++ more)
+    → with_inserted (with_inserted xs pos run) (pos + length run) more ≡ with_inserted xs pos (run ++ more)
 put_after xs pos run more within =
     let front : List Char = take pos xs in
     let back : List Char = drop pos xs in
     let long : length (front ++ run) ≡ pos + length run =
     length-append front run ∙ ap (λ (n : ℕ). n + length run) (length-take-le pos xs within) in
-    let cut : insert_at ((front ++ run) ++ back) (length (front ++ run)) more ≡ ((front ++ run) ++ more) ++ back =
+    let cut : with_inserted ((front ++ run) ++ back) (length (front ++ run)) more ≡ ((front ++ run) ++ more) ++ back =
     ap (λ (ys : List Char). (ys ++ more) ++ drop (length (front ++ run)) ((front ++ run) ++ back))
     (take-append_seam (front ++ run) back)
     ∙ ap (λ (ys : List Char). ((front ++ run) ++ more) ++ ys) (drop-append_seam (front ++ run) back) in
-    ap (λ (n : ℕ). insert_at ((front ++ run) ++ back) n more) (sym long) ∙ cut
+    ap (λ (n : ℕ). with_inserted ((front ++ run) ++ back) n more) (sym long) ∙ cut
     ∙ ap (λ (ys : List Char). ys ++ back) (append_assoc front run more)

@@ -16,7 +16,7 @@ use Rattle.operations.specs.Operation.{Operation, OpKind, insert, delete, restor
 use Rattle.operations.specs.declared.kind.TheConstants.{MAX_INSERT}
 use Rattle.set_laws.specs.Fronts.{front_of, greatest_stamp, file_len}
 use Rattle.tree_order.specs.Shown.{is_visible}
-use Rattle.texts.specs.Order.{chars_from, cut, dress, is_named, order_after, insert_at, with_selected}
+use Rattle.texts.specs.Order.{item_chars, cut, dress, is_named, order_after, with_inserted, with_selected}
 use Rattle.texts.specs.TextState.{TextState, shown_of}
 
 -- What an edit asks: to put characters after the first pos shown; to take those from beg to end out of what is
@@ -140,7 +140,7 @@ plan t (recalling pos) = inserts t pos (pieces_of t.last_stretch)
 
 -- what is shown with these characters of the site's after the first pos
 abbrev pub shown_with : TextState → ℕ → List Item → List Char
-shown_with t pos items = insert_at (shown_of t) pos (chars_from t.site (file_len t.operations t.site) items)
+shown_with t pos items = with_inserted (shown_of t) pos (item_chars t.site (file_len t.operations t.site) items)
 
 -- what is shown with those that were cut last beside those that are shown, each at its place among all
 abbrev pub shown_again : TextState → List Char

@@ -17,5 +17,5 @@ abbrev pub beyond : List Front → List Operation → List Operation
 beyond fronts ops = filter (λ op. is_beyond fronts op) ops
 
 -- the operations up to the fronts, in their order
-abbrev pub up_to : List Front → List Operation → List Operation
-up_to fronts ops = filter (λ op. not (is_beyond fronts op)) ops
+abbrev pub up_to_fronts : List Front → List Operation → List Operation
+up_to_fronts fronts ops = filter (λ op. not (is_beyond fronts op)) ops

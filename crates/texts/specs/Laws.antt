@@ -21,7 +21,8 @@ use Rattle.texts.specs.Edit.{shown_after, stretch_named, with_operation}
 use Rattle.texts.specs.Fronts.{front_in}
 use Rattle.texts.specs.Merge.{IsUnionOf, Merges}
 use Rattle.texts.specs.Named.{EditsByNames, are_here, shown_by_names}
-use Rattle.texts.specs.Order.{chars_of, cut, dress, is_named, insert_at, with_looks}
+use Rattle.texts.specs.Order.{cut, dress, is_named, with_inserted, with_looks}
+use Rattle.taken_text.specs.Rows.{chars_from}
 use Rattle.texts.specs.Past.{IsPastOf}
 use Rattle.texts.specs.Text.{AreCharNames, IsText}
 use Rattle.texts.specs.TextState.{TextState, shown_items, shown_of}
@@ -29,7 +30,7 @@ use Rattle.texts.specs.declared.by_names.ByNames.{ByNames}
 use Rattle.texts.specs.declared.front.Front.{Front}
 
 -- the same characters in one order, with the same bytes and looks, and the same of them shown
-pub record AreAlike (t u : TextState) : Type 0 where
+pub record AreTextsAlike (t u : TextState) : Type 0 where
   pub order : t.order ≡ u.order
   pub shown : shown_of t ≡ shown_of u
 
@@ -40,7 +41,7 @@ ShowsTheDefinition = (t : TextState) → IsText t → IsShown t.operations (show
 -- two texts that have taken in the same operations, in whatever order, are alike
 abbrev pub OperationsDetermineTheText : Type 0
 OperationsDetermineTheText = (t u : TextState) → IsText t → IsText u → AreSameSet t.operations u.operations
-    → AreAlike t u
+    → AreTextsAlike t u
 
 -- the characters of t stand in u in the order in which they stand in t
 abbrev pub KeepsTheOrder : TextState → TextState → Type 0
@@ -61,12 +62,12 @@ ChangesLead = (asked : ℕ) (ops : List Operation) (changes : List Change) (now 
 -- two texts of equal fronts are alike, if no identity is used twice
 abbrev pub FrontsDetermineTheText : Type 0
 FrontsDetermineTheText = (t u : TextState) → IsText t → IsText u → AreIdentified (t.operations ++ u.operations)
-    → HaveEqualFronts t.operations u.operations → AreAlike t u
+    → HaveEqualFronts t.operations u.operations → AreTextsAlike t u
 
 -- what is shown with a run of the site's after the first pos characters
 abbrev pub shown_with_run : TextState → ℕ → Looks → List ℕ → List Char
 shown_with_run t pos looks bytes =
-    insert_at (shown_of t) pos (chars_of t.site (file_len t.operations t.site) looks bytes)
+    with_inserted (shown_of t) pos (chars_from t.site (file_len t.operations t.site) looks bytes)
 
 -- an own Insert is new and ready; the text after it is what its operations define, and it shows its run where
 -- it was typed
@@ -167,7 +168,7 @@ pub record StoodAt (fronts : List Front) (t was : TextState) : Type 0 where
 -- the past of a text up to fronts is alike with the text that stood there
 abbrev pub ThePastIsTheTextOfThen : Type 0
 ThePastIsTheTextOfThen = (t was p : TextState) (fronts : List Front) → IsText t → StoodAt fronts t was
-    → IsPastOf t fronts p → AreAlike p was
+    → IsPastOf t fronts p → AreTextsAlike p was
 
 -- an edit by names that was done shows what it is to show: those that it names are hidden, or shown, and all others are as they
 -- were; what the site cut last stays that

@@ -10,29 +10,23 @@ use Rattle.char_files.specs.declared.name.Anchor.{Anchor}
 use Rattle.char_files.specs.declared.name.Anchor.TheVariants.{Root, At}
 use Rattle.operations.specs.NameSet.{Range, range_contains}
 use Rattle.operations.specs.Operation.{Operation, OpKind, insert, delete, restore, change_looks}
+use Rattle.taken_text.specs.Rows.{chars_from}
 use Rattle.tree_order.specs.Shown.{up_to}
 
 -- the first n, the run, the rest
-abbrev pub insert_at : {X : Type 0} → List X → ℕ → List X → List X
-insert_at xs n run = take n xs ++ run ++ drop n xs
+abbrev pub with_inserted : {X : Type 0} → List X → ℕ → List X → List X
+with_inserted xs n run = take n xs ++ run ++ drop n xs
 
 -- how many characters of the list are the anchor or stand before it; the root stands before all
 abbrev pub count_to : List Char → Anchor → ℕ
 count_to order Root = 0
 count_to order (At name) = length (up_to name (map (λ c. c.name) order))
 
--- the characters of an Insert, after at bytes of the site's file
-abbrev pub chars_of : (site at : ℕ) (looks : Looks) (bytes : List ℕ) → List Char
-chars_of site at looks [] = []
-chars_of site at looks (b ∷ bs) =
-    record { name = record { site = site; off = at }; byte = b; looks = looks }
-    ∷ chars_of site (at + 1) looks bs
-
 -- characters of any looks, after at bytes of the site's file
-abbrev pub chars_from : (site at : ℕ) → List Item → List Char
-chars_from site at [] = []
-chars_from site at (i ∷ items) =
-    record { name = record { site = site; off = at }; byte = i.0; looks = i.1 } ∷ chars_from site (at + 1) items
+abbrev pub item_chars : (site at : ℕ) → List Item → List Char
+item_chars site at [] = []
+item_chars site at (i ∷ items) =
+    record { name = record { site = site; off = at }; byte = i.0; looks = i.1 } ∷ item_chars site (at + 1) items
 
 -- the old looks, with those that are selected replaced
 abbrev pub with_selected : Selection → Looks → Looks → Looks
@@ -68,7 +62,7 @@ dress sel looks chars beg end =
 -- anything; a ChangeLooks gives looks to those that it names
 abbrev pub order_by : OpKind → ℕ → List Char → List Char
 order_by (insert cause at looks bytes) site order =
-    insert_at order (count_to order cause) (chars_of site at looks bytes)
+    with_inserted order (count_to order cause) (chars_from site at looks bytes)
 order_by (delete names) site order = order
 order_by (restore names) site order = order
 order_by (change_looks sel looks names) site order = map (with_looks sel looks names) order

@@ -12,5 +12,5 @@ AreEnds beg [] len = beg ≡ len
 AreEnds beg (end ∷ ends) len = (beg ≤ end) × AreEnds end ends len
 
 -- where the part of this index begins, of parts that end there: the first one at 0
-abbrev pub beg_of : List ℕ → ℕ → ℕ
-beg_of ends index = slice_index (0 ∷ ends) index
+abbrev pub part_beg : List ℕ → ℕ → ℕ
+part_beg ends index = slice_index (0 ∷ ends) index

@@ -3,7 +3,7 @@ use Rattle.std.specs.Prelude.{◌≡◌, ◌≤◌, List, [], ◌∷◌}
 use Rattle.operations.specs.Operation.{Operation}
 use Rattle.set_laws.specs.Closure.{IsGreatestGoodPart}
 use Rattle.set_laws.specs.Verdict.{HasVerdict, ready}
-use Rattle.texts.specs.Fronts.{front_in, up_to}
+use Rattle.texts.specs.Fronts.{front_in, up_to_fronts}
 use Rattle.texts.specs.Text.{IsText}
 use Rattle.texts.specs.TextState.{TextState}
 use Rattle.texts.specs.declared.front.Front.{Front}
@@ -21,7 +21,7 @@ pub record IsPastOf (t : TextState) (fronts : List Front) (p : TextState) : Type
   pub text : p.text ≡ t.text
   pub site : p.site ≡ t.site
   pub in_order : HasSomeOf t.operations p.operations
-  pub closure : IsGreatestGoodPart (up_to fronts t.operations) p.operations
+  pub closure : IsGreatestGoodPart (up_to_fronts fronts t.operations) p.operations
   pub waiting : p.waiting_room ≡ []
   pub last_stretch : p.last_stretch ≡ []
   pub last_set : p.last_set ≡ []

@@ -9,8 +9,8 @@ use Rattle.set_laws.specs.Sets.{KeepsCauses}
 use Rattle.texts.specs.declared.TheConstants.{MAX_KEPT}
 
 -- what a site's file begins with
-abbrev pub tag : List ℕ
-tag = codes "OTS1"
+abbrev pub site_tag : List ℕ
+site_tag = codes "OTS1"
 
 -- a message, after its length
 abbrev pub entry_spelling : Operation → List ℕ
@@ -19,7 +19,7 @@ entry_spelling op = number_spelling w16 (length (spelling op)) ++ spelling op
 -- the file: the tag, the text, the site, how many messages there are, the messages
 unfoldable pub site_bytes : (text site : ℕ) → List Operation → List ℕ
 site_bytes text site ops =
-    tag ++ number_spelling w16 text ++ number_spelling w16 site ++ number_spelling w32 (length ops)
+    site_tag ++ number_spelling w16 text ++ number_spelling w16 site ++ number_spelling w32 (length ops)
     ++ flat_map entry_spelling ops
 
 -- the number of a text or a site

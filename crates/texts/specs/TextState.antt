@@ -22,9 +22,9 @@ pub record TextState : Type 0 where
 
 -- a text of these operations and characters, with these that wait, and this cut last, of which so many
 -- operations were told
-abbrev pub state_of : (text site : ℕ) → List Operation → List Char → List Operation → List Item → List Range
+abbrev pub text_state_of : (text site : ℕ) → List Operation → List Char → List Operation → List Item → List Range
     → ℕ → TextState
-state_of text site operations order room stretch set asked = record {
+text_state_of text site operations order room stretch set asked = record {
   text = text;
   site = site;
   operations = operations;
@@ -37,7 +37,7 @@ state_of text site operations order room stretch set asked = record {
 
 -- a text that nothing has changed
 abbrev pub empty_text : (text site : ℕ) → TextState
-empty_text text site = state_of text site [] [] [] [] [] 0
+empty_text text site = text_state_of text site [] [] [] [] [] 0
 
 -- what is shown: the visible ones of all characters, in their order
 abbrev pub shown_of : TextState → List Char

@@ -2,7 +2,7 @@ ghost use Rattle.std.specs.Prelude.{◌≡◌, ◌≢◌, ℕ, ◌<◌, ◌≤�
 ghost use Rattle.std.specs.Prelude.{IsTrue, OnErr, OnOk, slice_range};
 ghost use Rattle.looks.specs.Refusal.{RefusedForMemoryAlone};
 ghost use Rattle.operations.specs.Spelling.{spelling};
-ghost use Rattle.texts.specs.Parts.{beg_of};
+ghost use Rattle.texts.specs.Parts.{part_beg};
 
 use looks::Refusal;
 use operations::{Op, encode};
@@ -31,7 +31,7 @@ impl Model for Outbox {
 // Where the part of this index begins: where the one before it ends.
 fn beg_of(ends: &[usize], index: usize) -> usize
     requires { index ≤ length ends.now }
-    ensures { result ≡ beg_of ends.now index }
+    ensures { result ≡ part_beg ends.now index }
 {
     if index == 0 { 0 } else { ends[index - 1] }
 }

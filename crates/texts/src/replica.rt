@@ -47,11 +47,11 @@ pub struct Replica {
 impl Model for Replica {
     ghost use Rattle.std.specs.Prelude.{◌≡◌, All};
     ghost use Rattle.texts.specs.Text.{AreCharNames};
-    ghost use Rattle.texts.specs.TextState.{TextState, state_of};
+    ghost use Rattle.texts.specs.TextState.{TextState, text_state_of};
 
     ghost Value = { TextState };
 
-    ghost view = { λ r. state_of r.text r.site r.taken.operations r.taken.chars r.room
+    ghost view = { λ r. text_state_of r.text r.site r.taken.operations r.taken.chars r.room
         r.stretch r.set r.taken.asked };
 
     ghost invariant = { λ r. All (λ op. op.text ≡ r.text) r.taken.operations

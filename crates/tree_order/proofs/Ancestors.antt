@@ -9,14 +9,14 @@ use Rattle.char_files.specs.declared.name.Anchor.{Anchor}
 use Rattle.char_files.specs.declared.name.Anchor.TheVariants.{Root, At}
 use Rattle.operations.specs.Operation.{Operation, Inserts, key_of}
 use Rattle.tree_order.specs.Good.{Good}
-use Rattle.tree_order.specs.Tree.{IsInsertOf, IsPath, Leads, parent_by}
+use Rattle.tree_order.specs.Tree.{IsInsertOf, IsPath, LeadsDown, parent_by}
 use Rattle.tree_order.proofs.Files.{before, hangs}
 use Rattle.tree_order.proofs.Paths.{LastStep, last_step}
 use Rattle.tree_order.proofs.Tree.{one_insert}
 
 -- a path that goes by d leads to d, and on from it
 pub Leads-split : (ops : List Operation) (a b : Anchor) (p : List CharName) (d : CharName) (q : List CharName)
-    → Leads ops a (p ++ d ∷ q) b → Leads ops a (p ++ d ∷ []) (At d) × Leads ops (At d) q b
+    → LeadsDown ops a (p ++ d ∷ q) b → LeadsDown ops a (p ++ d ∷ []) (At d) × LeadsDown ops (At d) q b
 Leads-split ops a b [] d q h = ((h.0, refl), h.1)
 Leads-split ops a b (c ∷ p) d q h =
     let (to, on) = Leads-split ops (At c) b p d q h.1 in
@@ -63,7 +63,7 @@ step_up ops good c d j k p q hung =
 
 -- and so the Insert of each character that one hangs below
 pub insert_up_to : (ops : List Operation) → Good ops → (path : List CharName) (c d : CharName)
-    (j k : Operation) → Leads ops (At c) path (At d) → IsInsertOf ops c j → IsInsertOf ops d k → IsUpTo j k
+    (j k : Operation) → LeadsDown ops (At c) path (At d) → IsInsertOf ops c j → IsInsertOf ops d k → IsUpTo j k
 insert_up_to ops good [] c d j k h p q =
     let both : At c ≡ At d = h in
     let same : c ≡ d = cc in

@@ -14,7 +14,7 @@ use Rattle.char_files.specs.declared.name.Anchor.TheVariants.{Root, At}
 use Rattle.operations.specs.Operation.{Operation, Inserts, key_of}
 use Rattle.tree_order.specs.Insertion.{IsOneMore, IsGap, EndsAt, BeginsNotAbove, IsAbove, IsNotAbove, run_of}
 use Rattle.tree_order.specs.Insertion.{RunGoesIntoGap}
-use Rattle.tree_order.specs.Tree.{IsChar, IsInsertOf, IsParent, IsPath, Leads}
+use Rattle.tree_order.specs.Tree.{IsChar, IsInsertOf, IsParent, IsPath, LeadsDown}
 use Rattle.tree_order.specs.Order.{Before, IsOrder}
 use Rattle.tree_order.proofs.Before.{Before-asymmetric, Before-irreflexive, Before-transitive}
 use Rattle.tree_order.proofs.Before.{trail_from_Before}
@@ -32,7 +32,7 @@ use Rattle.tree_order.proofs.Trails.{Trail}
 use Rattle.tree_order.proofs.Tree.{has_path, one_insert}
 
 -- a child stands after its parent
-before_child : (ops : List Operation) (c d : CharName) (path : List CharName) → Leads ops Root path (At c)
+before_child : (ops : List Operation) (c d : CharName) (path : List CharName) → LeadsDown ops Root path (At c)
     → IsParent ops d (At c) → Before ops c d
 before_child ops c d path up hung =
     let on : IsPath ops d (path ++ d ∷ []) =
@@ -148,8 +148,8 @@ module _ (ops : List Operation) (i : Operation) (one : IsOneMore ops i)
 
   -- a path to the cause goes before those of the characters after it
   cause_before : (a : Anchor) → EndsAt preceding a → (b : CharName) → Contains following b → (q : List CharName)
-      → Leads (ops ++ i ∷ []) Root q (At b)
-      → (path : List CharName) × Leads (ops ++ i ∷ []) Root path a × Trail (ops ++ i ∷ []) path q
+      → LeadsDown (ops ++ i ∷ []) Root q (At b)
+      → (path : List CharName) × LeadsDown (ops ++ i ∷ []) Root path a × Trail (ops ++ i ∷ []) path q
   cause_before Root none b h [] uq = let both : Root ≡ At b = uq in absurd cc
   cause_before Root none b h (d ∷ q) uq = ([], refl, tt)
   cause_before (At c) (front, e) b h q uq =
@@ -224,7 +224,7 @@ module _ (ops : List Operation) (i : Operation) (one : IsOneMore ops i) where
       ]
 
   rest_sorted : (front : List CharName) (r : CharName) (rest following : List CharName) (b : Anchor)
-      → AllPairs (Before (ops ++ i ∷ [])) (front ++ r ∷ following) → Leads (ops ++ i ∷ []) (At r) rest b
+      → AllPairs (Before (ops ++ i ∷ [])) (front ++ r ∷ following) → LeadsDown (ops ++ i ∷ []) (At r) rest b
       → ((x : CharName) → Contains (r ∷ rest) x → Inserts i x)
       → ((x : CharName) → Contains following x → IsChar ops x)
       → AllPairs (Before (ops ++ i ∷ [])) (front ++ (r ∷ rest) ++ following)
@@ -258,7 +258,7 @@ module _ (ops : List Operation) (i : Operation) (one : IsOneMore ops i) where
 run_sorted : (ops : List Operation) (i : Operation) (one : IsOneMore ops i)
     (preceding skipped following : List CharName) → IsOrder ops (preceding ++ skipped ++ following)
     → (gap : IsGap ops i preceding skipped following) → (run : List CharName) (b : Anchor)
-    → Leads (ops ++ i ∷ []) gap.cause run b → ((x : CharName) → Contains run x → Inserts i x)
+    → LeadsDown (ops ++ i ∷ []) gap.cause run b → ((x : CharName) → Contains run x → Inserts i x)
     → AllPairs (Before (ops ++ i ∷ [])) (preceding ++ skipped ++ run ++ following)
 run_sorted ops i one preceding skipped following is gap [] b lead new =
     let all : List Operation = ops ++ i ∷ [] in

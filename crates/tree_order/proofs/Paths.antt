@@ -4,17 +4,17 @@ use Rattle.char_files.specs.CharName.{CharName}
 use Rattle.char_files.specs.declared.name.Anchor.{Anchor}
 use Rattle.char_files.specs.declared.name.Anchor.TheVariants.{At}
 use Rattle.operations.specs.Operation.{Operation}
-use Rattle.tree_order.specs.Tree.{IsParent, Leads}
+use Rattle.tree_order.specs.Tree.{IsParent, LeadsDown}
 
 -- a way on from where a path ends
-pub Leads-append : (ops : List Operation) (a b c : Anchor) (p q : List CharName) → Leads ops a p b
-    → Leads ops b q c → Leads ops a (p ++ q) c
-Leads-append ops a b c [] q h k = subst (λ (x : Anchor). Leads ops x q c) (sym h) k
+pub Leads-append : (ops : List Operation) (a b c : Anchor) (p q : List CharName) → LeadsDown ops a p b
+    → LeadsDown ops b q c → LeadsDown ops a (p ++ q) c
+Leads-append ops a b c [] q h k = subst (λ (x : Anchor). LeadsDown ops x q c) (sym h) k
 Leads-append ops a b c (d ∷ p) q h k = (h.0, Leads-append ops (At d) b c p q h.1 k)
 
 -- a path ends at one anchor
-pub Leads-end : (ops : List Operation) (a b c : Anchor) (path : List CharName) → Leads ops a path b
-    → Leads ops a path c → b ≡ c
+pub Leads-end : (ops : List Operation) (a b c : Anchor) (path : List CharName) → LeadsDown ops a path b
+    → LeadsDown ops a path c → b ≡ c
 Leads-end ops a b c [] h k = sym h ∙ k
 Leads-end ops a b c (d ∷ path) h k = Leads-end ops (At d) b c path h.1 k.1
 
@@ -24,13 +24,13 @@ pub record LastStep (ops : List Operation) (a : Anchor) (path : List CharName) (
   pub last : CharName
   pub x : Anchor
   pub is : path ≡ front ++ last ∷ []
-  pub leads : Leads ops a front x
+  pub leads : LeadsDown ops a front x
   pub hangs : IsParent ops last x
   pub ends : At last ≡ b
 
 -- a path that isn't empty has a last step
 pub last_step : (ops : List Operation) (a b : Anchor) (c : CharName) (path : List CharName)
-    → Leads ops a (c ∷ path) b → LastStep ops a (c ∷ path) b
+    → LeadsDown ops a (c ∷ path) b → LastStep ops a (c ∷ path) b
 last_step ops a b c [] h = record {
   front = [];
   last = c;

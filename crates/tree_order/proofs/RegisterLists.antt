@@ -20,7 +20,7 @@ use Rattle.tree_order.specs.Registers.{Atom, HasRegisters, AreAtoms, atom_looks,
 use Rattle.tree_order.specs.Registers.{atom_by, atom_after}
 use Rattle.tree_order.specs.RegisterLaws.{FollowRegisters, Named, shown_of_atoms, without_bytes, ShowsAtoms}
 use Rattle.tree_order.specs.RegisterLaws.{OffersItsValues}
-use Rattle.tree_order.specs.RegisterLaws.{HasOneAtoms, InsertsNone, KeepsTheOrder, ShowsByOffers, AtomsAfter}
+use Rattle.tree_order.specs.RegisterLaws.{HasOneAtoms, InsertsNone, MovesNoChar, ShowsByOffers, AtomsAfter}
 use Rattle.tree_order.proofs.Before.{has_order, IsOrder-from_sorted, sorted_from_IsOrder}
 use Rattle.tree_order.proofs.Offers.{registers_after}
 use Rattle.tree_order.proofs.OneText.{one_order, one_looks}
@@ -209,7 +209,7 @@ module _ (ops : List Operation) (op : Operation) (good : Good (ops ++ op ∷ [])
     | inr e ↦ absurd (none c (subst (λ (o : Operation). Inserts o c) (sym e) is.inserts))
   ]
 
-  pub keeps_the_order : KeepsTheOrder ops op
+  pub keeps_the_order : MovesNoChar ops op
   keeps_the_order order is =
       IsOrder-from_sorted (ops ++ op ∷ []) good order
       (λ c. (

@@ -9,7 +9,7 @@ use Rattle.char_files.specs.declared.name.Anchor.TheVariants.{At}
 use Rattle.operations.specs.NameSet.{Range, IsIn, names_of}
 use Rattle.operations.specs.Operation.{Operation, OpKind, insert, Inserts, InsertsBy}
 use Rattle.tree_order.specs.Insertion.{run_by, run_of, HasCauseBy, IsInsertAt}
-use Rattle.tree_order.specs.Tree.{Leads, parent_by}
+use Rattle.tree_order.specs.Tree.{LeadsDown, parent_by}
 use Rattle.operations.proofs.WithName.{same_name}
 
 -- the names of a range are those that are in it
@@ -61,7 +61,7 @@ names_lead : (ops : List Operation) (i : Operation) (cause : Anchor) (at : ℕ) 
     → Contains ops i → i.kind ≡ insert cause at looks bytes → (n off : ℕ) (a : Anchor) → at ≤ off
     → off + n ≤ at + length bytes
     → a ≡ parent_by (insert cause at looks bytes) (record { site = i.site; off = off })
-    → (b : Anchor) × Leads ops a (names_of (record { site = i.site; at = off; len = n })) b
+    → (b : Anchor) × LeadsDown ops a (names_of (record { site = i.site; at = off; len = n })) b
 names_lead ops i cause at looks bytes held is zero off a from to hung = (a, refl)
 names_lead ops i cause at looks bytes held is (suc n) off a from to hung =
     let c : CharName = record { site = i.site; off = off } in
@@ -74,7 +74,7 @@ names_lead ops i cause at looks bytes held is (suc n) off a from to hung =
     (b, ((i, record { held = held; inserts = inserts }, on), rest))
 
 run_leads_by : (ops : List Operation) (i : Operation) (kind : OpKind) (cause : Anchor) → Contains ops i
-    → i.kind ≡ kind → HasCauseBy kind cause → (b : Anchor) × Leads ops cause (run_by i.site kind) b
+    → i.kind ≡ kind → HasCauseBy kind cause → (b : Anchor) × LeadsDown ops cause (run_by i.site kind) b
 run_leads_by ops i (insert above at looks bytes) cause held is same =
     let start : eqb at at ≡ true = eq-eqb at at refl in
     names_lead ops i above at looks bytes held is (length bytes) at cause (omega arith) (omega arith)
@@ -83,5 +83,5 @@ run_leads_by ops i kind cause held is same = absurd same
 
 -- the run leads down from the cause
 pub run_leads : (ops : List Operation) (i : Operation) (cause : Anchor) → Contains ops i → IsInsertAt i cause
-    → (b : Anchor) × Leads ops cause (run_of i) b
+    → (b : Anchor) × LeadsDown ops cause (run_of i) b
 run_leads ops i cause held at = run_leads_by ops i i.kind cause held refl at

@@ -8,7 +8,7 @@ use Rattle.char_files.specs.declared.name.Anchor.{Anchor}
 use Rattle.char_files.specs.declared.name.Anchor.TheVariants.{Root, At}
 use Rattle.operations.specs.Operation.{Operation, Inserts, key_of}
 use Rattle.tree_order.specs.Insertion.{IsOneMore}
-use Rattle.tree_order.specs.Tree.{IsChar, IsInsertOf, IsParent, IsPath, Leads}
+use Rattle.tree_order.specs.Tree.{IsChar, IsInsertOf, IsParent, IsPath, LeadsDown}
 use Rattle.tree_order.specs.Order.{Before, TurnsBefore}
 use Rattle.tree_order.proofs.Ancestors.{Leads-split, Contains-path, IsUpTo, insert_up_to, below_up_to}
 use Rattle.tree_order.proofs.Before.{trail_from_Before}
@@ -21,7 +21,7 @@ use Rattle.tree_order.proofs.Tree.{one_insert}
 
 -- a path that goes on is that of a descendant, or of the same character
 here_or_below : (ops : List Operation) (d y : CharName) (common rest : List CharName)
-    → IsPath ops d (common ++ d ∷ []) → IsPath ops y (common ++ d ∷ rest) → Leads ops (At d) rest (At y)
+    → IsPath ops d (common ++ d ∷ []) → IsPath ops y (common ++ d ∷ rest) → LeadsDown ops (At d) rest (At y)
     → (d ≡ y) ⊎ Before ops d y
 here_or_below ops d y common [] up uq on =
     let both : At d ≡ At y = on in
@@ -103,7 +103,7 @@ module _ (ops : List Operation) (i : Operation) (one : IsOneMore ops i) (r : Cha
       below_up_to i j m greater (insert_up_to all one.larger rest c b j m from_c at_c at_b)
 
   pub above_between : (cause : Anchor) (front : List CharName) (b : CharName) (m : Operation) → IsChar ops b
-      → IsInsertOf (ops ++ i ∷ []) b m → Leads (ops ++ i ∷ []) Root front cause
+      → IsInsertOf (ops ++ i ∷ []) b m → LeadsDown (ops ++ i ∷ []) Root front cause
       → IsParent (ops ++ i ∷ []) r cause → (q : List CharName) → IsPath (ops ++ i ∷ []) b q
       → Trail (ops ++ i ∷ []) front q → Before (ops ++ i ∷ []) b r → is_below (key_of i) (key_of m) ≡ true
   above_between cause front b m is at_b up hung q uq earlier before =

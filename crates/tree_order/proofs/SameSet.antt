@@ -16,7 +16,7 @@ use Rattle.char_files.specs.declared.name.Anchor.{Anchor}
 use Rattle.char_files.specs.declared.name.Anchor.TheVariants.{At}
 use Rattle.operations.specs.Operation.{Operation, appended_len, Begins, key_of}
 use Rattle.tree_order.specs.Good.{Good, appended_len_at, file_before}
-use Rattle.tree_order.specs.Tree.{IsChar, IsInsertOf, IsParent, IsProperPrefix, Leads, HasByte}
+use Rattle.tree_order.specs.Tree.{IsChar, IsInsertOf, IsParent, IsProperPrefix, LeadsDown, HasByte}
 use Rattle.tree_order.specs.Order.{Before, HasGreaterKey, TurnsBefore, IsOrder}
 use Rattle.tree_order.specs.Looks.{IsLastToSet, HasLooks}
 use Rattle.tree_order.specs.Shown.{IsShown, deletes_by, restores_by, hides, is_visible}
@@ -41,8 +41,8 @@ pub parent : (a b : List Operation) → Within a b → (c : CharName) (x : Ancho
     → IsParent b c x
 parent a b to c x (i, is, e) = (i, insert_of a b to c i is, e)
 
-pub leads : (a b : List Operation) → Within a b → (x y : Anchor) (path : List CharName) → Leads a x path y
-    → Leads b x path y
+pub leads : (a b : List Operation) → Within a b → (x y : Anchor) (path : List CharName) → LeadsDown a x path y
+    → LeadsDown b x path y
 leads a b to x y [] e = e
 leads a b to x y (c ∷ path) (hung, rest) = (parent a b to c x hung, leads a b to (At c) y path rest)
 

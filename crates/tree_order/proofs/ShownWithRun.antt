@@ -13,7 +13,7 @@ use Rattle.char_files.specs.declared.character.Char.{Char}
 use Rattle.char_files.specs.declared.name.Anchor.{Anchor}
 use Rattle.operations.specs.Operation.{Operation}
 use Rattle.tree_order.specs.Insertion.{IsOneMore, IsInsertAt, run_of}
-use Rattle.tree_order.specs.Sequential.{ShownGainsRun, char_by, chars_of_run}
+use Rattle.tree_order.specs.Sequential.{ShownGainsRun, char_by, inserted_chars}
 use Rattle.tree_order.specs.Tree.{HasByte}
 use Rattle.tree_order.specs.Looks.{HasLooks}
 use Rattle.tree_order.specs.Shown.{is_visible}
@@ -61,24 +61,24 @@ module _ (ops : List Operation) (i : Operation) (one : IsOneMore ops i) where
       looks_as_before ops i one cause at _ (j, is) _ (looks k d lt)
 
   -- the new ones
-  new_bytes : All (HasOwnByte (ops ++ i ∷ [])) (chars_of_run i)
+  new_bytes : All (HasOwnByte (ops ++ i ∷ [])) (inserted_chars i)
   new_bytes =
       All-map (HasOwnByte (ops ++ i ∷ []))
       (char_by i.kind) (run_of i)
       (λ k d lt. (i, new_insert ops i one _ ((run_inserts i _).0 (Contains-get_or (run_of i) k d lt)), refl))
 
-  new_chars_looks : All (HasOwnLooks (ops ++ i ∷ [])) (chars_of_run i)
+  new_chars_looks : All (HasOwnLooks (ops ++ i ∷ [])) (inserted_chars i)
   new_chars_looks =
       All-map (HasOwnLooks (ops ++ i ∷ []))
       (char_by i.kind) (run_of i)
       (λ k d lt. new_looks ops i one _ ((run_inserts i _).0 (Contains-get_or (run_of i) k d lt)))
 
   -- old characters around the new ones
-  with_run : (P : Char → Type 0) (shown : List Char) (n : ℕ) → All P shown → All P (chars_of_run i)
-      → All P (take n shown ++ chars_of_run i ++ drop n shown)
+  with_run : (P : Char → Type 0) (shown : List Char) (n : ℕ) → All P shown → All P (inserted_chars i)
+      → All P (take n shown ++ inserted_chars i ++ drop n shown)
   with_run P shown n old new =
-      All-append P (take n shown ++ chars_of_run i) (drop n shown)
-      (All-append P (take n shown) (chars_of_run i) (All-take P n shown old) new) (All-drop P n shown old)
+      All-append P (take n shown ++ inserted_chars i) (drop n shown)
+      (All-append P (take n shown) (inserted_chars i) (All-take P n shown old) new) (All-drop P n shown old)
 
   -- what is visible of the order with the run
   visible_with_run : (cause : Anchor) → IsInsertAt i cause → (front after : List CharName)
@@ -97,17 +97,17 @@ module _ (ops : List Operation) (i : Operation) (one : IsOneMore ops i) where
 -- the names of the first n characters shown, and of the rest
 names_with_run : (i : Operation) (shown : List Char) (n : ℕ) (front rest : List CharName)
     → map (λ (s : Char). s.name) shown ≡ front ++ rest → length front ≡ n
-    → map (λ (s : Char). s.name) (take n shown ++ chars_of_run i ++ drop n shown) ≡ front ++ run_of i ++ rest
+    → map (λ (s : Char). s.name) (take n shown ++ inserted_chars i ++ drop n shown) ≡ front ++ run_of i ++ rest
 names_with_run i shown n front rest e len =
     let name : Char → CharName = λ (s : Char). s.name in
     let first : map name (take n shown) ≡ front =
     sym (take-map name n shown) ∙ ap (take n) e ∙ take_at front rest n len in
     let last : map name (drop n shown) ≡ rest =
     sym (drop-map name n shown) ∙ ap (drop n) e ∙ drop_at front rest n len in
-    map-append name (take n shown ++ chars_of_run i) (drop n shown)
+    map-append name (take n shown ++ inserted_chars i) (drop n shown)
     ∙ ap (λ (xs : List CharName). xs ++ map name (drop n shown))
-    (map-append name (take n shown) (chars_of_run i))
-    ∙ ap (λ (xs : List CharName). xs ++ map name (chars_of_run i) ++ map name (drop n shown)) first
+    (map-append name (take n shown) (inserted_chars i))
+    ∙ ap (λ (xs : List CharName). xs ++ map name (inserted_chars i) ++ map name (drop n shown)) first
     ∙ ap (λ (xs : List CharName). front ++ xs ++ map name (drop n shown)) (names_of_chars i (run_of i))
     ∙ ap (λ (xs : List CharName). front ++ run_of i ++ xs) last
 

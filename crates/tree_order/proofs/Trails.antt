@@ -10,7 +10,7 @@ use Rattle.char_files.specs.declared.name.Anchor.{Anchor}
 use Rattle.char_files.specs.declared.name.Anchor.TheVariants.{At}
 use Rattle.operations.specs.Operation.{Operation, key_of}
 use Rattle.tree_order.specs.Good.{Good}
-use Rattle.tree_order.specs.Tree.{IsProperPrefix, Leads}
+use Rattle.tree_order.specs.Tree.{IsProperPrefix, LeadsDown}
 use Rattle.tree_order.specs.Order.{HasGreaterKey, TurnsBefore}
 use Rattle.operations.proofs.WithName.{same_name}
 use Rattle.tree_order.proofs.Tree.{one_insert, siblings_differ}
@@ -121,14 +121,14 @@ Trail-transitive ops good (c ∷ p) (d ∷ q) (e ∷ r) (inr (apart, more)) (inr
 
 -- of two lists that lead down from one anchor one goes first, unless they are equal
 pub cases_leads : (ops : List Operation) → Good ops → (a b b' : Anchor) (p q : List CharName)
-    → Leads ops a p b → Leads ops a q b' → (p ≡ q) ⊎ (Trail ops p q ⊎ Trail ops q p)
+    → LeadsDown ops a p b → LeadsDown ops a q b' → (p ≡ q) ⊎ (Trail ops p q ⊎ Trail ops q p)
 cases_leads ops good a b b' [] [] h k = inl refl
 cases_leads ops good a b b' [] (d ∷ q) h k = inr (inl tt)
 cases_leads ops good a b b' (c ∷ p) [] h k = inr (inr tt)
 cases_leads ops good a b b' (c ∷ p) (d ∷ q) (up, h) (uq, k) =
     elim (cases_name c d) [
       | inl same ↦ elim (cases_leads ops good (At c) b b' p q h
-          (subst (λ (x : CharName). Leads ops (At x) q b') (sym same) k)) [
+          (subst (λ (x : CharName). LeadsDown ops (At x) q b') (sym same) k)) [
             | inl e ↦ inl cc
             | inr t ↦ elim t [ inl t' ↦ inr (inl (inl (same, t'))) | inr t' ↦ inr (inr (inl (sym same, t'))) ]
           ]

@@ -12,7 +12,7 @@ use Rattle.char_files.specs.declared.name.Anchor.{Anchor}
 use Rattle.char_files.specs.declared.name.Anchor.TheVariants.{Root, At}
 use Rattle.operations.specs.Operation.{Operation, key_of}
 use Rattle.tree_order.specs.Good.{Good, file_before}
-use Rattle.tree_order.specs.Tree.{IsChar, IsInsertOf, IsParent, IsPath, Leads, parent_by}
+use Rattle.tree_order.specs.Tree.{IsChar, IsInsertOf, IsParent, IsPath, LeadsDown, parent_by}
 use Rattle.tree_order.specs.Order.{HasGreaterKey}
 use Rattle.tree_order.specs.Laws.{KeysDiffer}
 use Rattle.operations.proofs.WithName.{same_name}
@@ -159,7 +159,7 @@ HasPath ops c = (path : List CharName) × IsPath ops c path
 
 -- the path of the parent and one step
 next_path : (ops : List Operation) (c : CharName) (a : Anchor) (path : List CharName)
-    → Leads ops Root path a → IsParent ops c a → HasPath ops c
+    → LeadsDown ops Root path a → IsParent ops c a → HasPath ops c
 next_path ops c a path leads hung =
     (path ++ c ∷ [], Leads-append ops Root a (At c) path (c ∷ []) leads (hung, refl))
 
@@ -179,12 +179,12 @@ paths_within ops good n below (suc k) c i is stamp off =
             let m = good.mentions i named.0 is.held named.2 in
             let smaller : m.0.stamp < i.stamp = good.stamps i m.0 is.held m.1 (inr (named.0, named.2, m.2)) in
             let up = below named.0 m.0 (record { held = m.1; inserts = m.2 }) (omega arith) in
-            next_path ops c a up.0 (subst (Leads ops Root up.0) (sym named.1) up.1) hung
+            next_path ops c a up.0 (subst (LeadsDown ops Root up.0) (sym named.1) up.1) hung
       ]
       | inr next ↦
           let nearer : c.off - 1 < k = omega (arith, next.past) in
           let up = paths_within ops good n below k (before c) i next.former stamp nearer in
-          next_path ops c a up.0 (subst (Leads ops Root up.0) (sym next.is) up.1) hung
+          next_path ops c a up.0 (subst (LeadsDown ops Root up.0) (sym next.is) up.1) hung
     ]
 
 -- by the stamp of its Insert each character has a path
@@ -201,7 +201,7 @@ has_path ops good c (i, is) = paths_below ops good (suc i.stamp) c i is (omega a
 
 -- from the root there is one way to an anchor: the last steps are one, and so on from the end
 one_way : (ops : List Operation) → Good ops → (n : ℕ) (a : Anchor) (p q : List CharName) → length p ≤ n
-    → Leads ops Root p a → Leads ops Root q a → p ≡ q
+    → LeadsDown ops Root p a → LeadsDown ops Root q a → p ≡ q
 one_way ops good n a [] [] few up uq = refl
 one_way ops good n a [] (d ∷ q) few up uq =
     let s : LastStep ops Root (d ∷ q) a = last_step ops Root a d q uq in
@@ -221,7 +221,7 @@ one_way ops good (suc n) a (c ∷ p) (d ∷ q) few up uq =
     let x : s.x ≡ t.x = one_parent ops good s.last s.x t.x s.hangs hung in
     let shorter : length s.front ≤ n = omega (arith, ap length s.is, length-append s.front (s.last ∷ [])) in
     let front : s.front ≡ t.front =
-    one_way ops good n s.x s.front t.front shorter s.leads (subst (Leads ops Root t.front) (sym x)
+    one_way ops good n s.x s.front t.front shorter s.leads (subst (LeadsDown ops Root t.front) (sym x)
     t.leads) in
     s.is ∙ ap (λ (xs : List CharName). xs ++ s.last ∷ []) front ∙ ap (λ (e : CharName). t.front ++ e ∷ [])
     last ∙ sym t.is

@@ -14,7 +14,7 @@ use Rattle.operations.specs.Operation.{Operation, OpKind, insert, delete, restor
 use Rattle.operations.specs.Operation.{InsertsBy}
 use Rattle.operations.specs.Spelling.{HasSpelling, IsKind}
 use Rattle.tree_order.specs.Good.{Good}
-use Rattle.tree_order.specs.Tree.{IsChar, IsInsertOf, IsPath, IsProperPrefix, Leads, parent_by}
+use Rattle.tree_order.specs.Tree.{IsChar, IsInsertOf, IsPath, IsProperPrefix, LeadsDown, parent_by}
 use Rattle.tree_order.specs.Order.{HasGreaterKey, TurnsBefore, Before}
 use Rattle.tree_order.proofs.Before.{trail_from_Before}
 use Rattle.tree_order.proofs.Files.{before, hangs}
@@ -151,7 +151,7 @@ names_differ c d e same = subst (λ (x : CharName). (c.site == x.site && c.off =
     → ⊥) same (λ h. grind (arith, nat_tests)) e
 
 -- a path has characters alone
-pub All-path : (ops : List Operation) (a b : Anchor) (path : List CharName) → Leads ops a path b
+pub All-path : (ops : List Operation) (a b : Anchor) (path : List CharName) → LeadsDown ops a path b
     → All (IsChar ops) path
 All-path ops a b [] h = All-nil (IsChar ops)
 All-path ops a b (c ∷ path) h = All-cons (IsChar ops) c path (h.0.0, h.0.1) (All-path ops (At c) b path h.1)

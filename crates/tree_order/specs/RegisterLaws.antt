@@ -45,8 +45,8 @@ abbrev pub InsertsNone : Operation → Type 0
 InsertsNone op = (c : CharName) → Inserts op c → ⊥
 
 -- one operation more that inserts nothing moves no character
-abbrev pub KeepsTheOrder : List Operation → Operation → Type 0
-KeepsTheOrder ops op = (order : List CharName) → IsOrder ops order → IsOrder (ops ++ op ∷ []) order
+abbrev pub MovesNoChar : List Operation → Operation → Type 0
+MovesNoChar ops op = (order : List CharName) → IsOrder ops order → IsOrder (ops ++ op ∷ []) order
 
 -- one operation more shows the character by its old registers, offered the operation's values under its key
 pub record ShowsByOffers (ops : List Operation) (op : Operation) (k : Atom) : Type 0 where

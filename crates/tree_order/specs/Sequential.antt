@@ -18,8 +18,8 @@ abbrev pub char_by : OpKind → CharName → Char
 char_by kind c = record { name = c; byte = byte_by kind c; looks = looks_by kind }
 
 -- the characters of the operation's run
-abbrev pub chars_of_run : Operation → List Char
-chars_of_run op = map (char_by op.kind) (run_of op)
+abbrev pub inserted_chars : Operation → List Char
+inserted_chars op = map (char_by op.kind) (run_of op)
 
 -- one Insert more shows its run after what is visible before its gap, and all else as it was
 abbrev pub ShownGainsRun : Type 0
@@ -27,7 +27,7 @@ ShownGainsRun =
     (ops : List Operation) (i : Operation) (before skipped after : List CharName) (shown : List Char) (n : ℕ)
     → IsOneMore ops i → IsOrder ops (before ++ skipped ++ after) → IsGap ops i before skipped after
     → IsShown ops shown → n ≡ count_by (is_visible ops) (before ++ skipped)
-    → IsShown (ops ++ i ∷ []) (take n shown ++ chars_of_run i ++ drop n shown)
+    → IsShown (ops ++ i ∷ []) (take n shown ++ inserted_chars i ++ drop n shown)
 
 -- the operation is stamped above all of these
 abbrev pub IsLatest : List Operation → Operation → Type 0
@@ -52,7 +52,7 @@ abbrev pub LatestIsShownAtPlace : Type 0
 LatestIsShownAtPlace =
     (ops : List Operation) (i : Operation) (cause : Anchor) (shown : List Char) (n : ℕ)
     → IsOneMore ops i → IsLatest ops i → IsInsertAt i cause → IsShown ops shown → IsPlace ops cause n
-    → IsShown (ops ++ i ∷ []) (take n shown ++ chars_of_run i ++ drop n shown)
+    → IsShown (ops ++ i ∷ []) (take n shown ++ inserted_chars i ++ drop n shown)
 
 -- an anchor that is shown has as its place the index after it in what is shown
 abbrev pub PlaceIsAfter : Type 0
@@ -66,7 +66,7 @@ LatestIsPlainEdit =
     (ops : List Operation) (i : Operation) (cause : Anchor) (shown : List Char) (n : ℕ)
     → IsOneMore ops i → IsLatest ops i → IsInsertAt i cause
     → IsShown ops shown → IsJustAfter (map (λ s. s.name) shown) cause n
-    → IsShown (ops ++ i ∷ []) (take n shown ++ chars_of_run i ++ drop n shown)
+    → IsShown (ops ++ i ∷ []) (take n shown ++ inserted_chars i ++ drop n shown)
 
 -- the names up to the anchor, and with it; none for the root
 abbrev pub up_to_anchor : List CharName → Anchor → List CharName

@@ -38,13 +38,13 @@ abbrev pub HasByte : List Operation → CharName → ℕ → Type 0
 HasByte ops c byte = (i : Operation) × IsInsertOf ops c i × (byte ≡ byte_by i.kind c)
 
 -- from one anchor down to another, by characters that hang each on the one before
-abbrev pub Leads : List Operation → Anchor → List CharName → Anchor → Type 0
-Leads ops a [] b = a ≡ b
-Leads ops a (c ∷ path) b = IsParent ops c a × Leads ops (At c) path b
+abbrev pub LeadsDown : List Operation → Anchor → List CharName → Anchor → Type 0
+LeadsDown ops a [] b = a ≡ b
+LeadsDown ops a (c ∷ path) b = IsParent ops c a × LeadsDown ops (At c) path b
 
 -- the characters from a child of the root down to c
 abbrev pub IsPath : List Operation → CharName → List CharName → Type 0
-IsPath ops c path = Leads ops Root path (At c)
+IsPath ops c path = LeadsDown ops Root path (At c)
 
 -- p is a proper prefix of q
 abbrev pub IsProperPrefix : List CharName → List CharName → Type 0

@@ -26,13 +26,9 @@ use Rattle.vialshoal_c.specs.declared.outputs.LooksRun.{LooksRun}
 use Rattle.vialshoal_c.specs.declared.outputs.Place.{Place}
 use Rattle.vialshoal_c.specs.declared.outputs.TextChange.{TextChange}
 
--- the bytes of some characters
-abbrev pub bytes_of : List Char → List ℕ
-bytes_of chars = map (λ c. c.byte) chars
-
--- their names, as C sees them
-abbrev pub names_of : List Char → List c_name.CharName
-names_of chars = map (λ c. record { site = c.name.site; offset = c.name.off }) chars
+-- the names of some characters, as C sees them
+abbrev pub c_names : List Char → List c_name.CharName
+c_names chars = map (λ c. record { site = c.name.site; offset = c.name.off }) chars
 
 -- this of the characters shown from beg to end is put there, if they are in the text
 abbrev pub PutsShown : {X : Type 0} → (List Char → List X) → TextState → (beg end : ℕ) → (old : List X) → (number need : ℕ)
@@ -65,8 +61,8 @@ TellsRun t pos before run old number need new =
 
 -- How many shown characters a named one is or has before it, and whether it is shown itself; or it isn't here, and
 -- nothing is written.
-abbrev pub Finds : TextState → CharName → (number : ℕ) → (old new : Place) → Type 0
-Finds t name number old new =
+abbrev pub FindsPlace : TextState → CharName → (number : ℕ) → (old new : Place) → Type 0
+FindsPlace t name number old new =
     ((number ≡ 0) × IsAnchor t.operations (At name) × IsPlace t.operations (At name) new.pos
     × (IsTrue new.is_shown ↔ (anchor_before (shown_of t) new.pos ≡ At name)))
     ⊎ ((number ≡ NO_NAME) × (IsAnchor t.operations (At name) → ⊥) × (new ≡ old))
@@ -74,7 +70,7 @@ Finds t name number old new =
 -- the same of these numbers, if they are a name's
 abbrev pub FindsName : TextState → (site offset number : ℕ) → (old new : Place) → Type 0
 FindsName t site offset number old new =
-    MatchBool (nat_lt 0 site && nat_lt offset MAX_FILE) (Finds t (record { site = site; off = offset }) number old new)
+    MatchBool (nat_lt 0 site && nat_lt offset MAX_FILE) (FindsPlace t (record { site = site; off = offset }) number old new)
     ((number ≡ NO_NUMBER) × (new ≡ old))
 
 -- the front of this site, if the number is a site's

@@ -25,9 +25,9 @@ BeginsText text site number new =
     ((number ≡ 0) × (new ≡ Some (session_of (empty_text text site)))) ⊎ ((number ≡ number_of OutOfMemory) × (new ≡ None))
 
 -- An empty handle begins a text, if the numbers are those of one; one that is open stays so.
-abbrev pub Begins : Option SessionState → (text site number : ℕ) → Option SessionState → Type 0
-Begins (Some s) text site number new = (number ≡ ALREADY_OPEN) × (new ≡ Some s)
-Begins None text site number new =
+abbrev pub BeginsHandle : Option SessionState → (text site number : ℕ) → Option SessionState → Type 0
+BeginsHandle (Some s) text site number new = (number ≡ ALREADY_OPEN) × (new ≡ Some s)
+BeginsHandle None text site number new =
     MatchBool (nat_lt 0 text && nat_lt 0 site) (BeginsText text site number new) ((number ≡ NO_NUMBER) × (new ≡ None))
 
 -- the number that says what an edit answered
@@ -49,8 +49,8 @@ Edited s e number sent new =
     × (number ≡ number_of_edit answer) × (sent ≡ sent_by answer) × (new.told ≡ s.told)
 
 -- the same where the edit's positions lie in the text; elsewhere nothing is done
-abbrev pub Edits : SessionState → Edit → (number sent : ℕ) → SessionState → Type 0
-Edits s e number sent new =
+abbrev pub EditsSession : SessionState → Edit → (number sent : ℕ) → SessionState → Type 0
+EditsSession s e number sent new =
     MatchBool (is_in_text s.text e) (Edited s e number sent new) (IsMisused OUT_OF_TEXT s number new × (sent ≡ 0))
 
 -- this, where these bytes aren't too many for any text, and the place is one in this text; elsewhere nothing is done
@@ -61,8 +61,8 @@ IfTheyFit s pos bytes number sent new does =
     (IsMisused TOO_LONG s number new × (sent ≡ 0))
 
 -- these bytes are put in so, in these looks
-abbrev pub Inserts : SessionState → (pos : ℕ) → (bytes : List ℕ) → Looks → (number sent : ℕ) → SessionState → Type 0
-Inserts s pos bytes looks number sent new =
+abbrev pub InsertsRun : SessionState → (pos : ℕ) → (bytes : List ℕ) → Looks → (number sent : ℕ) → SessionState → Type 0
+InsertsRun s pos bytes looks number sent new =
     IfTheyFit s pos bytes number sent new (Edited s (insertion pos (map (λ b. (b, looks)) bytes)) number sent new)
 
 -- text and messages stay as they are, for want of memory
@@ -92,16 +92,16 @@ InsertsBytes s pos bytes looks number sent new =
     IfTheyFit s pos bytes number sent new (Numbered (λ answer. AnswersBytes s pos bytes looks answer new) number sent)
 
 -- this font and this colour are those of looks
-abbrev pub HasLooks : (font : List ℕ) → (colour : ℕ) → Type 0
-HasLooks font colour = IsFontName font × (colour ≤ MAX_COLOUR)
+abbrev pub AreFontAndColour : (font : List ℕ) → (colour : ℕ) → Type 0
+AreFontAndColour font colour = IsFontName font × (colour ≤ MAX_COLOUR)
 
 -- the same of the looks of this font, colour and offset, if they are looks
 abbrev pub InsertsInLooks : SessionState → (pos : ℕ) → (bytes font : List ℕ) → (colour : ℕ) → (offset : ℤ) → (number sent : ℕ)
     → SessionState → Type 0
 InsertsInLooks s pos bytes font colour offset number sent new =
-    (HasLooks font colour
+    (AreFontAndColour font colour
     × InsertsBytes s pos bytes (record { font = font; colour = colour; offset = offset }) number sent new)
-    ⊎ ((HasLooks font colour → ⊥) × IsMisused NO_NUMBER s number new × (sent ≡ 0))
+    ⊎ ((AreFontAndColour font colour → ⊥) × IsMisused NO_NUMBER s number new × (sent ≡ 0))
 
 -- the looks that are selected of these, and the default ones elsewhere
 abbrev pub asked_looks : Selection → (font : List ℕ) → (colour : ℕ) → (offset : ℤ) → Looks
@@ -120,5 +120,5 @@ abbrev pub Dresses : SessionState → (beg end bits : ℕ) → (font : List ℕ)
     → SessionState → Type 0
 Dresses s beg end bits font colour offset number sent new =
     ((sel : Selection) × (bits_of sel ≡ bits) × (0 < bits) × AreLooks sel font colour
-    × Edits s (looks_change beg end sel (asked_looks sel font colour offset)) number sent new)
+    × EditsSession s (looks_change beg end sel (asked_looks sel font colour offset)) number sent new)
     ⊎ ((AreLooksOf bits font colour → ⊥) × IsMisused NO_NUMBER s number new × (sent ≡ 0))

@@ -39,8 +39,8 @@ abbrev pub no_taking : Taking
 no_taking = record { kind = 0; drained = 0; dropped = 0; stopped = false }
 
 -- the text takes this message, whether memory is there or not, and answers it
-abbrev pub TakesIn : SessionState → (message : List ℕ) → (number : ℕ) → Taking → SessionState → Type 0
-TakesIn s message number taking new =
+abbrev pub SessionTakesIn : SessionState → (message : List ℕ) → (number : ℕ) → Taking → SessionState → Type 0
+SessionTakesIn s message number taking new =
     (answer : Result Took Refusal)
     × (Takes s.text message answer new.text ⊎ TakesShort s.text message answer new.text)
     × (number ≡ number_of_taking answer) × (taking ≡ taking_of answer) × KeepsTheRest s new
@@ -52,15 +52,15 @@ number_of_unpacking (Err (Untouched why)) = number_of why
 number_of_unpacking (Err (Partial done why)) = number_of why
 
 -- it was refused after so many of its operations
-abbrev pub refused_after : (done : ℕ) → Unpacking
-refused_after done = record { taken = 0; known = 0; waiting = 0; done = done; stopped = false }
+abbrev pub unpacking_refused_after : (done : ℕ) → Unpacking
+unpacking_refused_after done = record { taken = 0; known = 0; waiting = 0; done = done; stopped = false }
 
 -- and the rest of that answer
 abbrev pub unpacking_of : Result Unpacked UnpackRefusal → Unpacking
 unpacking_of (Ok c) =
     record { taken = c.taken; known = c.known; waiting = c.waiting; done = 0; stopped = c.stopped }
-unpacking_of (Err (Untouched why)) = refused_after 0
-unpacking_of (Err (Partial done why)) = refused_after done
+unpacking_of (Err (Untouched why)) = unpacking_refused_after 0
+unpacking_of (Err (Partial done why)) = unpacking_refused_after done
 
 -- the text unpacks this chunk, whether memory is there or not, and answers it
 abbrev pub UnpacksIn : SessionState → (chunk : List ℕ) → (number : ℕ) → Unpacking → SessionState → Type 0
@@ -75,8 +75,8 @@ Settles s number drained dropped stopped new =
     (number ≡ 0) × Drains s.text drained dropped stopped new.text × KeepsTheRest s new
 
 -- what waits is forgotten
-abbrev pub Forgets : SessionState → (number count : ℕ) → SessionState → Type 0
-Forgets s number count new =
+abbrev pub ForgetsWaiting : SessionState → (number count : ℕ) → SessionState → Type 0
+ForgetsWaiting s number count new =
     (number ≡ 0) × (count ≡ length s.text.waiting_room) × (new.text ≡ with_room s.text []) × KeepsTheRest s new
 
 -- the number that says what a merge answered

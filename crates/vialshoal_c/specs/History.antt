@@ -21,15 +21,15 @@ abbrev pub is_front : SiteFront → Bool
 is_front front = nat_lt 0 front.site
 
 -- a front, as a replica takes it
-abbrev pub front_of : SiteFront → Front
-front_of front = record { site = front.site; seq = front.seq }
+abbrev pub replica_front : SiteFront → Front
+replica_front front = record { site = front.site; seq = front.seq }
 
 abbrev pub fronts_of : List SiteFront → List Front
-fronts_of fronts = map front_of fronts
+fronts_of fronts = map replica_front fronts
 
 -- a front as a replica takes it, if it is one
 abbrev pub front_given : SiteFront → Option Front
-front_given front = if is_front front then Some (front_of front) else None
+front_given front = if is_front front then Some (replica_front front) else None
 
 -- no operation is beyond the fronts that was taken in at the one place or later, and before the other place
 abbrev pub NoneIsBeyond : List Operation → List Front → (from before : ℕ) → Type 0

@@ -20,15 +20,15 @@ abbrev pub is_range : CharNames → Bool
 is_range names = nat_lt 0 names.site && (nat_lt 0 names.len && nat_le (names.offset + names.len) MAX_FILE)
 
 -- the names, as a replica takes them
-abbrev pub range_of : CharNames → Range
-range_of names = record { site = names.site; at = names.offset; len = names.len }
+abbrev pub replica_range : CharNames → Range
+replica_range names = record { site = names.site; at = names.offset; len = names.len }
 
-abbrev pub ranges_of : List CharNames → List Range
-ranges_of names = map range_of names
+abbrev pub replica_ranges : List CharNames → List Range
+replica_ranges names = map replica_range names
 
 -- names as a replica takes them, if they are names
-abbrev pub range_in : CharNames → Option Range
-range_in names = if is_range names then Some (range_of names) else None
+abbrev pub checked_range : CharNames → Option Range
+checked_range names = if is_range names then Some (replica_range names) else None
 
 -- whether these are names of characters: their site's file has them
 abbrev pub is_here : TextState → CharNames → Bool
@@ -37,7 +37,7 @@ is_here t names = is_range names && nat_le (names.offset + names.len) (file_len 
 -- the text does this edit by names and answers it, and its message comes after those that are kept
 abbrev pub AnswersNames : SessionState → ByNames → List CharNames → Result ℕ EditRefusal → SessionState → Type 0
 AnswersNames s what names answer new =
-    AnswersHanded names s (λ answer text sent. EditsByNamesSending s.text what (ranges_of names) answer text s.sent sent) answer
+    AnswersHanded names s (λ answer text sent. EditsByNamesSending s.text what (replica_ranges names) answer text s.sent sent) answer
     new
 
 -- the same as numbers
@@ -45,8 +45,8 @@ abbrev pub NamesEdited : SessionState → ByNames → List CharNames → (number
 NamesEdited s what names number sent new = Numbered (λ answer. AnswersNames s what names answer new) number sent
 
 -- The same where all of them are names, and names of characters that were taken in; elsewhere nothing is done.
-abbrev pub EditsNames : SessionState → ByNames → List CharNames → (number sent : ℕ) → SessionState → Type 0
-EditsNames s what names number sent new =
+abbrev pub EditsSessionNames : SessionState → ByNames → List CharNames → (number sent : ℕ) → SessionState → Type 0
+EditsSessionNames s what names number sent new =
     MatchBool (list_all is_range names)
     (MatchBool (list_all (is_here s.text) names) (NamesEdited s what names number sent new)
     (IsMisused NO_NAME s number new × (sent ≡ 0)))

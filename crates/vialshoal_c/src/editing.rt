@@ -8,8 +8,8 @@ ghost use Rattle.looks.specs.declared.colour.TheConstants.{MAX_COLOUR};
 ghost use Rattle.texts.specs.Edit.{deletion, is_range_in, looks_change, recalling, restoration};
 ghost use Rattle.texts.specs.Order.{with_selected};
 ghost use Rattle.texts.specs.TextState.{shown_of};
-ghost use Rattle.vialshoal_c.specs.Editing.{AreLooks, Dresses, Edits, Inserts, asked_looks, number_of_edit};
-ghost use Rattle.vialshoal_c.specs.Editing.{AnswersBytes, HasLooks, InsertsBytes, InsertsInLooks, sent_by};
+ghost use Rattle.vialshoal_c.specs.Editing.{AreLooks, Dresses, EditsSession, InsertsRun, asked_looks, number_of_edit};
+ghost use Rattle.vialshoal_c.specs.Editing.{AnswersBytes, AreFontAndColour, InsertsBytes, InsertsInLooks, sent_by};
 
 use crate::numbers::{NO_NUMBER, OUT_OF_TEXT, TOO_LONG};
 use crate::session::Session;
@@ -80,7 +80,7 @@ fn are_few(bytes: &[u8]) -> bool
 // The looks of this font, colour and offset, or `None` where they are none.
 fn looks_of(font: &[u8], colour: u8, offset: i8) -> Option<Looks>
     ensures some { IfSome result (λ looks. looks ≡ record { font = font.now; colour = colour; offset = offset }) }
-    ensures valid { IsSome result ↔ HasLooks font.now colour }
+    ensures valid { IsSome result ↔ AreFontAndColour font.now colour }
 {
     Some(Looks {
         font: FontName::new(font)?,
@@ -120,7 +120,7 @@ impl Session {
 
     /// Puts bytes in default looks after the first `pos` characters.
     pub(crate) fn insert(&mut self, pos: u64, bytes: &[u8]) -> Edited
-        ensures { Inserts self.old pos bytes.now plain_looks result.number result.sent self.new }
+        ensures { InsertsRun self.old pos bytes.now plain_looks result.number result.sent self.new }
     {
         if !are_few(bytes) {
             return Edited::misused(TOO_LONG);
@@ -182,7 +182,7 @@ impl Session {
 
     /// Takes the characters from `beg` to `end` out of what is shown.
     pub(crate) fn delete(&mut self, beg: u64, end: u64) -> Edited
-        ensures { Edits self.old (deletion beg end) result.number result.sent self.new }
+        ensures { EditsSession self.old (deletion beg end) result.number result.sent self.new }
     {
         if !self.has_range(beg, end) {
             return Edited::misused(OUT_OF_TEXT);
@@ -192,7 +192,7 @@ impl Session {
 
     // Gives the characters from `beg` to `end` the looks that are selected.
     fn dress(&mut self, beg: u64, end: u64, sel: Sel, looks: &Looks) -> Edited
-        ensures { Edits self.old (looks_change beg end sel looks.now) result.number result.sent self.new }
+        ensures { EditsSession self.old (looks_change beg end sel looks.now) result.number result.sent self.new }
     {
         if !self.has_range(beg, end) {
             return Edited::misused(OUT_OF_TEXT);
@@ -226,14 +226,14 @@ impl Session {
 
     /// Shows again what was cut last by positions.
     pub(crate) fn restore(&mut self) -> Edited
-        ensures { Edits self.old restoration result.number result.sent self.new }
+        ensures { EditsSession self.old restoration result.number result.sent self.new }
     {
         Edited::of(self.replica.restore(&mut self.outbox))
     }
 
     /// Puts a copy of what was cut last by positions after the first `pos` characters.
     pub(crate) fn recall(&mut self, pos: u64) -> Edited
-        ensures { Edits self.old (recalling pos) result.number result.sent self.new }
+        ensures { EditsSession self.old (recalling pos) result.number result.sent self.new }
     {
         if !self.has_position(pos) {
             return Edited::misused(OUT_OF_TEXT);

@@ -4,13 +4,14 @@ ghost use Rattle.std.specs.Prelude.{◌≡◌, [], None, MatchOption, length, �
 ghost use Rattle.looks.specs.Looks.{plain_looks};
 ghost use Rattle.texts.specs.Edit.{deletion, recalling, restoration};
 ghost use Rattle.texts.specs.TextState.{shown_of};
-ghost use Rattle.vialshoal_c.specs.Asking.{FindsName, PutsMessage, PutsShown, TellsChanges, TellsFront, bytes_of};
-ghost use Rattle.vialshoal_c.specs.Asking.{PutsSites, TellsRun, names_of};
-ghost use Rattle.vialshoal_c.specs.Editing.{Begins, BeginsText, Dresses, Edits, Inserts, InsertsInLooks};
-ghost use Rattle.vialshoal_c.specs.Feeding.{Forgets, MergesHandle, Settles, TakesIn, UnpacksIn};
+ghost use Rattle.vialshoal_c.specs.Asking.{FindsName, PutsMessage, PutsShown, TellsChanges, TellsFront}
+ghost use Rattle.char_files.specs.Chars.{char_bytes};
+ghost use Rattle.vialshoal_c.specs.Asking.{PutsSites, TellsRun, c_names};
+ghost use Rattle.vialshoal_c.specs.Editing.{BeginsHandle, BeginsText, Dresses, EditsSession, InsertsInLooks, InsertsRun};
+ghost use Rattle.vialshoal_c.specs.Feeding.{ForgetsWaiting, MergesHandle, SessionTakesIn, Settles, UnpacksIn};
 ghost use Rattle.vialshoal_c.specs.History.{PutsChunks, TellsSince};
 ghost use Rattle.vialshoal_c.specs.Keeping.{Opens, OpensFile, PutsFile, PutsText};
-ghost use Rattle.vialshoal_c.specs.Naming.{EditsNames};
+ghost use Rattle.vialshoal_c.specs.Naming.{EditsSessionNames};
 ghost use Rattle.vialshoal_c.specs.Opened.{OnOpen, Reads};
 
 use crate::handle::Handle;
@@ -41,7 +42,7 @@ fn begin(alloc: Global, handle: &mut Handle, text: TextNo, site: SiteNo) -> u32
 /// Begins a text in an empty handle.
 #[unsafe(no_mangle)]
 pub extern "C" fn vialshoal_new(alloc: Global, handle: &mut Handle, text: u16, site: u16) -> u32
-    ensures { Begins handle.old.value text site result handle.new.value }
+    ensures { BeginsHandle handle.old.value text site result handle.new.value }
 {
     if let Some(session) = handle.open(alloc) {
         handle.close(alloc, session);
@@ -170,7 +171,7 @@ pub extern "C" fn vialshoal_insert(
     sent: &mut u32,
 ) -> u32
     ensures { OnOpen handle.old.value handle.new.value result (sent.new ≡ 0)
-        (λ s new. Inserts s pos bytes.now plain_looks result sent.new new) }
+        (λ s new. InsertsRun s pos bytes.now plain_looks result sent.new new) }
 {
     *sent = 0;
     let Some(mut session) = handle.open(alloc) else {
@@ -217,7 +218,7 @@ pub extern "C" fn vialshoal_delete(
     sent: &mut u32,
 ) -> u32
     ensures { OnOpen handle.old.value handle.new.value result (sent.new ≡ 0)
-        (λ s new. Edits s (deletion beg end) result sent.new new) }
+        (λ s new. EditsSession s (deletion beg end) result sent.new new) }
 {
     *sent = 0;
     let Some(mut session) = handle.open(alloc) else {
@@ -259,7 +260,7 @@ pub extern "C" fn vialshoal_change_looks(
 #[unsafe(no_mangle)]
 pub extern "C" fn vialshoal_restore(alloc: Global, handle: &mut Handle, sent: &mut u32) -> u32
     ensures { OnOpen handle.old.value handle.new.value result (sent.new ≡ 0)
-        (λ s new. Edits s restoration result sent.new new) }
+        (λ s new. EditsSession s restoration result sent.new new) }
 {
     *sent = 0;
     let Some(mut session) = handle.open(alloc) else {
@@ -280,7 +281,7 @@ pub extern "C" fn vialshoal_recall(
     sent: &mut u32,
 ) -> u32
     ensures { OnOpen handle.old.value handle.new.value result (sent.new ≡ 0)
-        (λ s new. Edits s (recalling pos) result sent.new new) }
+        (λ s new. EditsSession s (recalling pos) result sent.new new) }
 {
     *sent = 0;
     let Some(mut session) = handle.open(alloc) else {
@@ -301,7 +302,7 @@ fn edit_names(
     sent: &mut u32,
 ) -> u32
     ensures { OnOpen handle.old.value handle.new.value result (sent.new ≡ 0)
-        (λ s new. EditsNames s what names.now result sent.new new) }
+        (λ s new. EditsSessionNames s what names.now result sent.new new) }
 {
     *sent = 0;
     let Some(mut session) = handle.open(alloc) else {
@@ -322,7 +323,7 @@ pub extern "C" fn vialshoal_delete_names(
     sent: &mut u32,
 ) -> u32
     ensures { OnOpen handle.old.value handle.new.value result (sent.new ≡ 0)
-        (λ s new. EditsNames s ByNames.Delete names.now result sent.new new) }
+        (λ s new. EditsSessionNames s ByNames.Delete names.now result sent.new new) }
 {
     edit_names(alloc, handle, ByNames::Delete, names, sent)
 }
@@ -336,7 +337,7 @@ pub extern "C" fn vialshoal_restore_names(
     sent: &mut u32,
 ) -> u32
     ensures { OnOpen handle.old.value handle.new.value result (sent.new ≡ 0)
-        (λ s new. EditsNames s ByNames.Restore names.now result sent.new new) }
+        (λ s new. EditsSessionNames s ByNames.Restore names.now result sent.new new) }
 {
     edit_names(alloc, handle, ByNames::Restore, names, sent)
 }
@@ -350,7 +351,7 @@ pub extern "C" fn vialshoal_take(
     taking: &mut Taking,
 ) -> u32
     ensures { OnOpen handle.old.value handle.new.value result (taking.new ≡ taking.old)
-        (λ s new. TakesIn s message.now result taking.new new) }
+        (λ s new. SessionTakesIn s message.now result taking.new new) }
 {
     let Some(mut session) = handle.open(alloc) else {
         return NOT_OPEN;
@@ -403,7 +404,7 @@ pub extern "C" fn vialshoal_settle(
 #[unsafe(no_mangle)]
 pub extern "C" fn vialshoal_forget(alloc: Global, handle: &mut Handle, count: &mut u32) -> u32
     ensures { OnOpen handle.old.value handle.new.value result (count.new ≡ count.old)
-        (λ s new. Forgets s result count.new new) }
+        (λ s new. ForgetsWaiting s result count.new new) }
 {
     let Some(mut session) = handle.open(alloc) else {
         return NOT_OPEN;
@@ -479,7 +480,7 @@ pub extern "C" fn vialshoal_bytes(
     need: &mut u64,
 ) -> u32
     ensures { Reads handle.old.value handle.new.value result ((need.new ≡ 0) × (room.new ≡ room.old))
-        (λ s. PutsShown bytes_of s.text beg end room.old result need.new room.new) }
+        (λ s. PutsShown char_bytes s.text beg end room.old result need.new room.new) }
 {
     *need = 0;
     let Some(session) = handle.open(alloc) else {
@@ -526,7 +527,7 @@ pub extern "C" fn vialshoal_names(
     need: &mut u64,
 ) -> u32
     ensures { Reads handle.old.value handle.new.value result ((need.new ≡ 0) × (room.new ≡ room.old))
-        (λ s. PutsShown names_of s.text beg end room.old result need.new room.new) }
+        (λ s. PutsShown c_names s.text beg end room.old result need.new room.new) }
 {
     *need = 0;
     let Some(session) = handle.open(alloc) else {

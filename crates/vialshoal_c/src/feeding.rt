@@ -1,9 +1,9 @@
 //! What other sites made is taken into a session.
 
 ghost use Rattle.std.specs.Prelude.{◌≡◌, Ok, false};
-ghost use Rattle.vialshoal_c.specs.Feeding.{Forgets, MergesIn, Settles, TakesIn, UnpacksIn};
+ghost use Rattle.vialshoal_c.specs.Feeding.{ForgetsWaiting, MergesIn, SessionTakesIn, Settles, UnpacksIn};
 ghost use Rattle.vialshoal_c.specs.Feeding.{merged_by, number_of_merge, number_of_taking, number_of_unpacking};
-ghost use Rattle.vialshoal_c.specs.Feeding.{refused_after, taking_of, unpacking_of};
+ghost use Rattle.vialshoal_c.specs.Feeding.{taking_of, unpacking_of, unpacking_refused_after};
 
 use crate::numbers::{IS_REPEAT, IS_TAKEN, IS_WAITING};
 use crate::outputs::{Settling, Taking, Unpacking};
@@ -84,7 +84,7 @@ fn answer_of(answer: Result<Took, Refusal>) -> Answered
 
 // What a chunk did that was refused after so many of its operations.
 fn refused_after(done: u64) -> Unpacking
-    ensures { result ≡ refused_after done }
+    ensures { result ≡ unpacking_refused_after done }
 {
     Unpacking {
         taken: 0,
@@ -154,7 +154,7 @@ fn merge_of(answer: Result<u64, MergeRefusal>) -> Merged
 impl Session {
     /// Takes in a message of any site, or lets it wait.
     pub(crate) fn take(&mut self, message: &[u8]) -> Answered
-        ensures { TakesIn self.old message.now result.number result.taking self.new }
+        ensures { SessionTakesIn self.old message.now result.number result.taking self.new }
     {
         answer_of(self.replica.take(message))
     }
@@ -184,7 +184,7 @@ impl Session {
 
     /// Forgets what waits, and answers how much it was.
     pub(crate) fn forget(&mut self) -> u32
-        ensures { Forgets self.old 0 result self.new }
+        ensures { ForgetsWaiting self.old 0 result self.new }
     {
         self.replica.forget_waiting()
     }

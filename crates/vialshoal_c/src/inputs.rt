@@ -2,7 +2,7 @@
 
 ghost use Rattle.std.specs.Prelude.{◌≡◌};
 ghost use Rattle.vialshoal_c.specs.History.{front_given};
-ghost use Rattle.vialshoal_c.specs.Naming.{range_in};
+ghost use Rattle.vialshoal_c.specs.Naming.{checked_range};
 
 use char_files::{MAX_FILE, SiteNo};
 use operations::NameRange;
@@ -23,7 +23,7 @@ pub struct CharNames {
 impl CharNames {
     // These names as a replica takes them, or `None` where the numbers are those of no names.
     pub(crate) fn range(self) -> Option<NameRange>
-        ensures { result ≡ range_in self }
+        ensures { result ≡ checked_range self }
     {
         let site = SiteNo::new(self.site)?;
         if self.len == 0 || MAX_FILE < u64::from(self.offset) + u64::from(self.len) {

@@ -4,7 +4,7 @@ ghost use Rattle.std.specs.Prelude.{◌≡◌, ◌+◌, ◌++◌, ◌<◌, ◌�
 ghost use Rattle.std.specs.Prelude.{vec_capacity, vec_len};
 ghost use Rattle.std.specs.List.{list_all};
 ghost use Rattle.looks.specs.Refusal.{RefusedForMemoryAlone};
-ghost use Rattle.vialshoal_c.specs.Naming.{AnswersNames, EditsNames, is_here, is_range, ranges_of};
+ghost use Rattle.vialshoal_c.specs.Naming.{AnswersNames, EditsSessionNames, is_here, is_range, replica_ranges};
 
 use crate::editing::Edited;
 use crate::inputs::CharNames;
@@ -43,7 +43,7 @@ fn has_all(replica: &Replica, names: &[CharNames]) -> bool
 fn put(names: &[CharNames], ranges: &mut Vec<NameRange>)
     requires names { IsTrue (list_all is_range names.now) }
     requires room { vec_len ranges.old + length names.now ≤ vec_capacity ranges.old }
-    ensures { ranges.new.items ≡ ranges.old.items ++ ranges_of names.now }
+    ensures { ranges.new.items ≡ ranges.old.items ++ replica_ranges names.now }
 {
     for some in names {
         // They were checked.
@@ -57,7 +57,7 @@ fn put(names: &[CharNames], ranges: &mut Vec<NameRange>)
 // The names as a replica takes them. Refused `OutOfMemory` alone, and where there are names.
 fn ranges_of(alloc: Global, names: &[CharNames]) -> Result<Vec<NameRange>, Refusal>
     requires { IsTrue (list_all is_range names.now) }
-    ensures ok { IfOk result (λ ranges. ranges.items ≡ ranges_of names.now) }
+    ensures ok { IfOk result (λ ranges. ranges.items ≡ replica_ranges names.now) }
     ensures some { IfErr result (λ _. 0 < length names.now) }
     ensures errors { RefusedForMemoryAlone result }
 {
@@ -91,7 +91,7 @@ impl Session {
         what: ByNames,
         names: &[CharNames],
     ) -> Edited
-        ensures { EditsNames self.old what names.now result.number result.sent self.new }
+        ensures { EditsSessionNames self.old what names.now result.number result.sent self.new }
     {
         if !are_ranges(names) {
             return Edited::misused(NO_NUMBER);

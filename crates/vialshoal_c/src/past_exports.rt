@@ -2,7 +2,8 @@
 
 ghost use Rattle.std.specs.Prelude.{◌≡◌, None, MatchOption, length};
 ghost use Rattle.texts.specs.TextState.{shown_of};
-ghost use Rattle.vialshoal_c.specs.Asking.{FindsName, PutsShown, TellsRun, bytes_of, names_of};
+ghost use Rattle.vialshoal_c.specs.Asking.{FindsName, PutsShown, TellsRun, c_names}
+ghost use Rattle.char_files.specs.Chars.{char_bytes};
 ghost use Rattle.vialshoal_c.specs.History.{OpensPast};
 ghost use Rattle.vialshoal_c.specs.Opened.{Reads};
 
@@ -110,7 +111,7 @@ pub extern "C" fn vialshoal_past_bytes(
     need: &mut u64,
 ) -> u32
     ensures { Reads past.old.value past.new.value result ((need.new ≡ 0) × (room.new ≡ room.old))
-        (λ p. PutsShown bytes_of p beg end room.old result need.new room.new) }
+        (λ p. PutsShown char_bytes p beg end room.old result need.new room.new) }
 {
     *need = 0;
     let Some(text) = past.open(alloc) else {
@@ -157,7 +158,7 @@ pub extern "C" fn vialshoal_past_names(
     need: &mut u64,
 ) -> u32
     ensures { Reads past.old.value past.new.value result ((need.new ≡ 0) × (room.new ≡ room.old))
-        (λ p. PutsShown names_of p beg end room.old result need.new room.new) }
+        (λ p. PutsShown c_names p beg end room.old result need.new room.new) }
 {
     *need = 0;
     let Some(text) = past.open(alloc) else {

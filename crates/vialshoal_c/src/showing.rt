@@ -4,7 +4,8 @@ ghost use Rattle.std.specs.Prelude.{◌≡◌, ◌+◌, ◌++◌, ◌<◌, ◌�
 ghost use Rattle.taken_text.specs.Rows.{chars_of_rows};
 ghost use Rattle.texts.specs.Edit.{is_range_in};
 ghost use Rattle.texts.specs.TextState.{shown_of};
-ghost use Rattle.vialshoal_c.specs.Asking.{Finds, FindsName, IsRun, PutsShown, TellsRun, bytes_of, names_of};
+ghost use Rattle.vialshoal_c.specs.Asking.{FindsName, FindsPlace, IsRun, PutsShown, TellsRun, c_names}
+ghost use Rattle.char_files.specs.Chars.{char_bytes};
 
 use crate::asking::{Put, put_bytes};
 use crate::numbers::{NO_NAME, NO_NUMBER, OUT_OF_TEXT, TOO_SHORT};
@@ -32,7 +33,7 @@ fn put_at(room: &mut [u8], at: usize, bytes: &[u8])
 fn fill_with_bytes(rows: ShownRows<'_>, room: &mut [u8])
     requires { length (chars_of_rows rows) ≤ length room.old }
     ensures { room.new
-        ≡ bytes_of (chars_of_rows rows.entry) ++ drop (length (chars_of_rows rows.entry)) room.old }
+        ≡ char_bytes (chars_of_rows rows.entry) ++ drop (length (chars_of_rows rows.entry)) room.old }
 {
     let mut at = 0;
     for row in rows {
@@ -45,7 +46,7 @@ fn fill_with_bytes(rows: ShownRows<'_>, room: &mut [u8])
 // The names of characters alike.
 fn fill_with_names(chars: Shown<'_>, room: &mut [CharName])
     requires { length chars ≤ length room.old }
-    ensures { room.new ≡ names_of chars.entry ++ drop (length chars.entry) room.old }
+    ensures { room.new ≡ c_names chars.entry ++ drop (length chars.entry) room.old }
 {
     let mut at = 0;
     for char in chars {
@@ -59,7 +60,7 @@ fn fill_with_names(chars: Shown<'_>, room: &mut [CharName])
 
 /// Puts the bytes shown from `beg` to `end` into a room.
 pub(crate) fn put_shown_bytes(replica: &Replica, beg: u64, end: u64, room: &mut [u8]) -> Put
-    ensures { PutsShown bytes_of replica.now beg end room.old result.number result.need room.new }
+    ensures { PutsShown char_bytes replica.now beg end room.old result.number result.need room.new }
 {
     if !has_range(replica, beg, end) {
         return Put::none(OUT_OF_TEXT);
@@ -77,7 +78,7 @@ pub(crate) fn put_shown_bytes(replica: &Replica, beg: u64, end: u64, room: &mut 
 
 /// Puts the names of the characters shown from `beg` to `end` into a room.
 pub(crate) fn put_shown_names(replica: &Replica, beg: u64, end: u64, room: &mut [CharName]) -> Put
-    ensures { PutsShown names_of replica.now beg end room.old result.number result.need room.new }
+    ensures { PutsShown c_names replica.now beg end room.old result.number result.need room.new }
 {
     if !has_range(replica, beg, end) {
         return Put::none(OUT_OF_TEXT);
@@ -147,7 +148,7 @@ fn is_at(anchor: Anchor, name: Name) -> bool
 
 // Where a character is.
 fn find(replica: &Replica, name: Name, place: &mut Place) -> u32
-    ensures { Finds replica.now name result place.old place.new }
+    ensures { FindsPlace replica.now name result place.old place.new }
 {
     replica.lemma_is_text();
     let Some(pos) = replica.position(Anchor::At(name)) else {

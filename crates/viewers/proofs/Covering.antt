@@ -1,7 +1,7 @@
 -- Tracks that are covered.
 use Rattle.std.proofs.Common.{◌≡◌, ℕ, ◌<◌, ◌≤◌, ◌⊎◌, List, [], ◌∷◌, length, zero, suc, ◌+◌, ◌-◌, ◌*◌, true, leb-true, refl, ap, subst, sym, inl, inr, arith}
 use Rattle.viewers.specs.declared.seats.Seat.{Seat}
-use Rattle.viewers.specs.Tracks.{AreTall, Covers, rows, top, bottom, height_at, with_height, moved, can_open, holder, divided, cut, opened, closed}
+use Rattle.viewers.specs.Tracks.{AreTall, Covers, rows, top, bottom, height_at, with_height, moved, can_open, holder, divided, cut_row, opened, closed}
 use Rattle.std.specs.List.{insert, remove}
 use Rattle.viewers.proofs.Rows.{next_top, holder_there}
 
@@ -101,13 +101,13 @@ tall_insert (t ∷ rest) (suc i) s tall le = (tall.0, tall_insert rest i s tall.
 pub divided_covers : (height v i row : ℕ) (seats : List Seat) → Covers height seats → i < length seats
     → 4 ≤ height_at seats i → Covers height (divided seats v i row)
 divided_covers height v i row seats covers lt four = record {
-  tall = tall_insert (with_height seats i (cut seats i row - top seats i)) (i + 1) (record { number = v; height = bottom seats i - cut seats i row }) (tall_with seats i (cut seats i row - top seats i) covers.tall
+  tall = tall_insert (with_height seats i (cut_row seats i row - top seats i)) (i + 1) (record { number = v; height = bottom seats i - cut_row seats i row }) (tall_with seats i (cut_row seats i row - top seats i) covers.tall
       (omega (arith, four))) (omega (arith, four));
   whole = elim covers.whole [
     | inl e ↦ absurd (not_empty seats i lt e)
     | inr e ↦ inr (
-        let first = rows_with seats i (cut seats i row - top seats i) lt in
-        let more = rows_insert (with_height seats i (cut seats i row - top seats i)) (i + 1) (record { number = v; height = bottom seats i - cut seats i row }) in
+        let first = rows_with seats i (cut_row seats i row - top seats i) lt in
+        let more = rows_insert (with_height seats i (cut_row seats i row - top seats i)) (i + 1) (record { number = v; height = bottom seats i - cut_row seats i row }) in
         omega (arith, e, first, more, four))
   ];
 }

@@ -5,7 +5,7 @@ use Rattle.std.proofs.lemmas.Bool.{ltb-true}
 use Rattle.std.proofs.lemmas.Option.{slice_get_past, slice_get_read}
 use Rattle.std.specs.List.{refill, remove, slice_get, zip}
 use Rattle.std.specs.Prelude.{not, slice_set}
-use Rattle.viewers.specs.Viewers.{AreRising, content_of, index_of, numbers, times, with_entry, without}
+use Rattle.viewers.specs.Viewers.{AreRising, content_of, contents_without, index_of, numbers, times, with_entry}
 use Rattle.viewers.proofs.Numbers.{index_none, none_lower}
 
 module _ {C : Type 0} where
@@ -68,26 +68,26 @@ module _ {C : Type 0} where
       content_at_index ks cs v even ∙ slice_get_past cs (index_of ks v) (omega (arith, i, even))
 
   pub all_kept : (ks : List ℕ) (cs : List C) (v : ℕ) → times v ks ≡ 0
-      → without (zip ks cs) v ≡ zip ks cs
+      → contents_without (zip ks cs) v ≡ zip ks cs
   all_kept [] cs v none = refl
   all_kept (k ∷ ks) [] v none = refl
   all_kept (k ∷ ks) (c ∷ cs) v none = by_test (all_kept ks cs v) (eqb k v) none
     where
-      by_test : (times v ks ≡ 0 → without (zip ks cs) v ≡ zip ks cs) → (b : Bool) → cond b 1 0 + times v ks ≡ 0
-          → cond (not b) ((k, c) ∷ without (zip ks cs) v) (without (zip ks cs) v) ≡ (k, c) ∷ zip ks cs
+      by_test : (times v ks ≡ 0 → contents_without (zip ks cs) v ≡ zip ks cs) → (b : Bool) → cond b 1 0 + times v ks ≡ 0
+          → cond (not b) ((k, c) ∷ contents_without (zip ks cs) v) (contents_without (zip ks cs) v) ≡ (k, c) ∷ zip ks cs
       by_test more true none = absurd (omega (arith, none))
       by_test more false none = ap (λ l. (k, c) ∷ l) (more (omega (arith, none)))
 
   pub filter-zip : (from below v : ℕ) (ks : List ℕ) (cs : List C) → AreRising from ks below → length cs ≡ length ks
-      → without (zip ks cs) v ≡ zip (remove ks (index_of ks v)) (remove cs (index_of ks v))
+      → contents_without (zip ks cs) v ≡ zip (remove ks (index_of ks v)) (remove cs (index_of ks v))
   filter-zip from below v [] [] rising e = refl
   filter-zip from below v [] (c ∷ cs) rising e = absurd (omega (arith, e))
   filter-zip from below v (k ∷ ks) [] rising e = absurd (omega (arith, e))
   filter-zip from below v (k ∷ ks) (c ∷ cs) rising e =
       by_test (eqb k v) refl (filter-zip (suc k) below v ks cs rising.1 (omega (arith, e)))
     where
-      by_test : (b : Bool) → eqb k v ≡ b → without (zip ks cs) v ≡ zip (remove ks (index_of ks v)) (remove cs (index_of ks v))
-          → cond (not b) ((k, c) ∷ without (zip ks cs) v) (without (zip ks cs) v)
+      by_test : (b : Bool) → eqb k v ≡ b → contents_without (zip ks cs) v ≡ zip (remove ks (index_of ks v)) (remove cs (index_of ks v))
+          → cond (not b) ((k, c) ∷ contents_without (zip ks cs) v) (contents_without (zip ks cs) v)
           ≡ zip (remove (k ∷ ks) (cond b 0 (suc (index_of ks v)))) (remove (c ∷ cs) (cond b 0 (suc (index_of ks v))))
       by_test true is more =
           let same = eqb-true k v is in
@@ -142,7 +142,7 @@ module _ {C : Type 0} where
       ap (λ j. zip ks (slice_set cs j w)) is ∙ set-zip from below v w ks cs rising even
 
   pub removed_at : (from below v i : ℕ) (ks left : List ℕ) (cs rest : List C) → AreRising from ks below → length cs ≡ length ks
-      → i ≡ index_of ks v → left ≡ remove ks i → rest ≡ remove cs i → zip left rest ≡ without (zip ks cs) v
+      → i ≡ index_of ks v → left ≡ remove ks i → rest ≡ remove cs i → zip left rest ≡ contents_without (zip ks cs) v
   removed_at from below v i ks left cs rest rising even is first second =
       (λ t. zip (first t) (second t)) ∙ ap (λ j. zip (remove ks j) (remove cs j)) is
       ∙ sym (filter-zip from below v ks cs rising even)

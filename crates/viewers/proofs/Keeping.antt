@@ -8,7 +8,7 @@ use Rattle.std.proofs.lemmas.Bool.{lt-ltb}
 use Rattle.viewers.specs.declared.screen.Area.{Area}
 use Rattle.viewers.specs.declared.seats.Seat.{Seat}
 use Rattle.viewers.specs.Screen.{ScreenSeen, area_in, area_of, has, user_width}
-use Rattle.viewers.specs.Tracks.{bottom, closed, cut, divided, heir, height_at, moved, seat_index, seat_at, top, with_height}
+use Rattle.viewers.specs.Tracks.{bottom, closed, cut_row, divided, heir, height_at, moved, seat_index, seat_at, top, with_height}
 use Rattle.viewers.proofs.Rows.{next_top}
 
 -- the rows of a seat are before
@@ -136,9 +136,9 @@ border_found (s ∷ t ∷ rest) (suc i) a b w lt e first second =
 pub divided_found : (seats : List Seat) (v i row w : ℕ) → i < length seats → 4 ≤ height_at seats i → w ≢ v
     → w ≢ (seat_at seats i).number → found (divided seats v i row) w ≡ found seats w
 divided_found seats v i row w lt four other apart =
-    let new : Seat = record { number = v; height = bottom seats i - cut seats i row } in
-    let less = cut seats i row - top seats i in
-    let sum : less + (bottom seats i - cut seats i row) ≡ height_at seats i = omega (arith, four) in
+    let new : Seat = record { number = v; height = bottom seats i - cut_row seats i row } in
+    let less = cut_row seats i row - top seats i in
+    let sum : less + (bottom seats i - cut_row seats i row) ≡ height_at seats i = omega (arith, four) in
     ap (λ k. found (insert (with_height seats i less) k new) w) (add-one i)
     ∙ split_found seats i less new w lt sum other apart
 

@@ -5,7 +5,7 @@ use Rattle.std.proofs.lemmas.List.{length-map}
 use Rattle.std.specs.List.{insert, remove}
 use Rattle.viewers.specs.declared.seats.Seat.{Seat}
 use Rattle.viewers.specs.Screen.{has}
-use Rattle.viewers.specs.Tracks.{bottom, closed, cut, heir, height_at, holder, moved, opened, seat_index, seat_at, top, with_height}
+use Rattle.viewers.specs.Tracks.{bottom, closed, cut_row, heir, height_at, holder, moved, opened, seat_index, seat_at, top, with_height}
 use Rattle.viewers.specs.Viewers.{index_of, seated, times}
 use Rattle.viewers.proofs.Numbers.{index_found, index_there, one_if, times_with, times_without}
 
@@ -68,10 +68,10 @@ pub times_opened : (height : ℕ) (seats : List Seat) (v row w : ℕ)
 times_opened height [] v row w = omega arith
 times_opened height (s ∷ rest) v row w =
     let seats = s ∷ rest in let i = holder (s ∷ rest) row in
-    let first = with_height (s ∷ rest) i (cut (s ∷ rest) i row - top (s ∷ rest) i) in
-    let new : Seat = record { number = v; height = bottom (s ∷ rest) i - cut (s ∷ rest) i row } in
+    let first = with_height (s ∷ rest) i (cut_row (s ∷ rest) i row - top (s ∷ rest) i) in
+    let new : Seat = record { number = v; height = bottom (s ∷ rest) i - cut_row (s ∷ rest) i row } in
     ap (times w) (seated_insert first (i + 1) new) ∙ times_with (seated first) (i + 1) v w
-    ∙ ap (λ l. times w l + one_if v w) (seated_with_height (s ∷ rest) i (cut (s ∷ rest) i row - top (s ∷ rest) i))
+    ∙ ap (λ l. times w l + one_if v w) (seated_with_height (s ∷ rest) i (cut_row (s ∷ rest) i row - top (s ∷ rest) i))
 
 pub times_closed : (seats : List Seat) (i w : ℕ) → i < length seats
     → times w (seated (closed seats i)) + one_if (seat_at seats i).number w ≡ times w (seated seats)

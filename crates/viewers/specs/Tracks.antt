@@ -42,8 +42,8 @@ abbrev pub with_height : List Seat → ℕ → ℕ → List Seat
 with_height seats i h = slice_set seats i (record { number = (seat_at seats i).number; height = h })
 
 -- the first row of a viewer that opens at a row of the seat at i: each of the two keeps 2 rows
-abbrev pub cut : List Seat → ℕ → ℕ → ℕ
-cut seats i row = min (max row (top seats i + 2)) (bottom seats i - 2)
+abbrev pub cut_row : List Seat → ℕ → ℕ → ℕ
+cut_row seats i row = min (max row (top seats i + 2)) (bottom seats i - 2)
 
 -- the index of the tallest seat, the topmost of equals
 abbrev pub tallest : List Seat → ℕ
@@ -60,8 +60,8 @@ row_for seats None = top seats (tallest seats) + height_at seats (tallest seats)
 -- the seat at i keeps the rows before the cut, and viewer v takes those from there on
 abbrev pub divided : List Seat → ℕ → ℕ → ℕ → List Seat
 divided seats v i row =
-    insert (with_height seats i (cut seats i row - top seats i)) (i + 1)
-    (record { number = v; height = bottom seats i - cut seats i row })
+    insert (with_height seats i (cut_row seats i row - top seats i)) (i + 1)
+    (record { number = v; height = bottom seats i - cut_row seats i row })
 
 -- a track of this height after viewer v opened at a row: the first one takes all rows
 abbrev pub opened : ℕ → List Seat → ℕ → ℕ → List Seat

@@ -62,8 +62,8 @@ module _ {C : Type 0} where
   content_of (entry ∷ rest) v = if entry.0 == v then Some entry.1 else content_of rest v
 
   -- the contents without a viewer's
-  abbrev pub without : List (ℕ × C) → ℕ → List (ℕ × C)
-  without contents v = filter (λ entry. not (entry.0 == v)) contents
+  abbrev pub contents_without : List (ℕ × C) → ℕ → List (ℕ × C)
+  contents_without contents v = filter (λ entry. not (entry.0 == v)) contents
 
   -- the contents, with another for a viewer
   abbrev pub with_entry : List (ℕ × C) → ℕ → C → List (ℕ × C)
@@ -98,7 +98,7 @@ module _ {C : Type 0} where
   abbrev pub without_viewer : ViewersSeen C → ℕ → ViewersSeen C
   without_viewer s v = record s {
     tracks = after_closing s.tracks v;
-    contents = without s.contents v;
+    contents = contents_without s.contents v;
   }
 
   -- a screen after the top of a viewer moved to a row

@@ -16,8 +16,8 @@ use Rattle.waiting_room.specs.declared.room.Offered.TheVariants.{New, Same}
 use Rattle.waiting_room.specs.declared.room.TheConstants.{MAX_WAITING}
 
 -- none waits under the operation's identity, and there is a place
-abbrev pub HasRoomFor : List Operation → Operation → Type 0
-HasRoomFor room op = (¬ IsHeld room op.site op.seq) × (length room < MAX_WAITING)
+abbrev pub HasPlaceFor : List Operation → Operation → Type 0
+HasPlaceFor room op = (¬ IsHeld room op.site op.seq) × (length room < MAX_WAITING)
 
 -- What an offer answers, and the room afterwards: an equal operation waits; another one of this identity does; as
 -- many wait as there are places; else it waits as the last, where memory is there.
@@ -26,8 +26,8 @@ Offers room op (Ok Same) new = Contains room op × (new ≡ room)
 Offers room op (Err Conflict) new = IsInConflict room op × (new ≡ room)
 Offers room op (Err RoomFull) new =
     (¬ IsHeld room op.site op.seq) × (length room ≡ MAX_WAITING) × (new ≡ room)
-Offers room op (Ok New) new = HasRoomFor room op × (new ≡ room ++ op ∷ [])
-Offers room op (Err OutOfMemory) new = HasRoomFor room op × (new ≡ room)
+Offers room op (Ok New) new = HasPlaceFor room op × (new ≡ room ++ op ∷ [])
+Offers room op (Err OutOfMemory) new = HasPlaceFor room op × (new ≡ room)
 Offers room op (Err why) new = ⊥
 
 -- whether an equal operation waits, or another one of this identity; none where no such one does

@@ -8,7 +8,7 @@ ghost use Rattle.texts.specs.TextState.{empty_text};
 ghost use Rattle.packed.specs.Spelling.{packed};
 ghost use Rattle.packed.specs.Told.{told_on};
 ghost use Rattle.kept_file.specs.PackedFiles.{BeginsAsPackedFile, HasPackedFile, IsNoPackedFile, IsPackedFileOf};
-ghost use Rattle.kept_file.specs.PackedParts.{ArePacked, HasTakenFirst, IsFirst};
+ghost use Rattle.kept_file.specs.PackedParts.{ArePacked, HasTakenFirst, IsFirstPacked};
 
 use super::reading::rest_of_tag;
 use crate::MAX_PACKED;
@@ -29,10 +29,10 @@ fn take_first<'a>(
 ) -> Result<&'a [u8], Refusal>
     requires { replica.old.waiting_room ≡ [] }
     ensures ok { IfOk result (λ rest. (op : Operation)
-        × IsFirst history.old replica.old.text bytes.now op rest.now
+        × IsFirstPacked history.old replica.old.text bytes.now op rest.now
         × (history.new ≡ told_on history.old op) × HasTaken replica.old op replica.new) }
     ensures refused { IsErrOf result Refusal.BadFile → (op : Operation) (rest : List ℕ)
-        → IsFirst history.old replica.old.text bytes.now op rest → IsJudged replica.old op ready → ⊥ }
+        → IsFirstPacked history.old replica.old.text bytes.now op rest → IsJudged replica.old op ready → ⊥ }
     ensures errors { IfErr result (λ e. (e ≡ Refusal.BadFile) ⊎ (e ≡ Refusal.OutOfMemory)) }
 {
     match history.next(alloc, replica.text(), bytes) {
@@ -80,7 +80,7 @@ fn take_letters_or_first<'a>(
     ensures ok { IfOk result (λ x.
         HasTakenFirst replica.old history.old bytes.now x.0 x.1.now replica.new history.new) }
     ensures refused { IsErrOf result Refusal.BadFile → (op : Operation) (rest : List ℕ)
-        → IsFirst history.old replica.old.text bytes.now op rest → IsJudged replica.old op ready → ⊥ }
+        → IsFirstPacked history.old replica.old.text bytes.now op rest → IsJudged replica.old op ready → ⊥ }
     ensures errors { IfErr result (λ e. (e ≡ Refusal.BadFile) ⊎ (e ≡ Refusal.OutOfMemory)) }
 {
     match take_letters(replica, history, bytes) {
@@ -104,7 +104,7 @@ fn take_some<'a>(
     ensures ok { IfOk result (λ x.
         HasTakenFirst replica.old history.old bytes.now x.0 x.1.now replica.new history.new) }
     ensures refused { IsErrOf result Refusal.BadFile → (op : Operation) (rest : List ℕ)
-        → IsFirst history.old replica.old.text bytes.now op rest → IsJudged replica.old op ready → ⊥ }
+        → IsFirstPacked history.old replica.old.text bytes.now op rest → IsJudged replica.old op ready → ⊥ }
     ensures errors { IfErr result (λ e. (e ≡ Refusal.BadFile) ⊎ (e ≡ Refusal.OutOfMemory)) }
 {
     let taken = take_letters_or_first(replica, history, alloc, bytes)?;

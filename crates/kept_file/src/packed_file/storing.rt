@@ -4,7 +4,7 @@ ghost use Rattle.looks.specs.Refusal.{RefusedForMemoryAlone};
 ghost use Rattle.byte_fields.specs.Fields.{Appends, number_spelling};
 ghost use Rattle.operations.specs.Spelling.{HasSpelling};
 ghost use Rattle.packed.specs.Spelling.{packed};
-ghost use Rattle.kept_file.specs.PackedFiles.{HasPackedFile, IsPackedFileOf, packed_bytes, tag};
+ghost use Rattle.kept_file.specs.PackedFiles.{HasPackedFile, IsPackedFileOf, packed_bytes, packed_tag};
 ghost use Rattle.kept_file.specs.declared.TheConstants.{MAX_PACKED};
 
 use crate::MAX_PACKED;
@@ -17,7 +17,7 @@ use texts::Replica;
 // What stands before the operations.
 fn put_head(out: &mut Vec<u8>, text: u16, site: u16) -> Result<(), AllocError>
     ensures { Appends result out.old.items out.new.items
-        (tag ++ number_spelling w16 text ++ number_spelling w16 site) }
+        (packed_tag ++ number_spelling w16 text ++ number_spelling w16 site) }
 {
     out.extend_from_slice(b"OTP1")?;
     put_u16(out, text)?;

@@ -3,7 +3,7 @@
 ghost use Rattle.std.specs.Prelude.{◌≡◌, ◌≢◌, ◌++◌, ◌↔◌, List, ℕ, take, IfSome, IsTrue, MatchOption};
 ghost use Rattle.std.specs.Int.{w16, w32};
 ghost use Rattle.byte_fields.specs.Fields.{Finds, number_at, stretch_at};
-ghost use Rattle.texts.specs.SiteFiles.{tag};
+ghost use Rattle.texts.specs.SiteFiles.{site_tag};
 ghost use Rattle.kept_file.specs.Parts.{head_at};
 ghost use Rattle.kept_file.specs.SiteParts.{AreMessages, IsShort, counted_at, message_at, message_spelling};
 
@@ -24,7 +24,7 @@ pub(crate) struct CountedHead {
 
 /// What stands after the tag, where the file begins with it.
 pub(crate) fn rest_of_tag(bytes: &[u8]) -> Option<&[u8]>
-    ensures { MatchOption result (take 4 bytes.now ≢ tag) (λ rest. bytes.now ≡ tag ++ rest.now) }
+    ensures { MatchOption result (take 4 bytes.now ≢ site_tag) (λ rest. bytes.now ≡ site_tag ++ rest.now) }
 {
     bytes.strip_prefix(b"OTS1")
 }

@@ -4,7 +4,7 @@ ghost use Rattle.std.specs.List.{flat_map};
 ghost use Rattle.looks.specs.Refusal.{RefusedForMemoryAlone};
 ghost use Rattle.byte_fields.specs.Fields.{Appends, number_spelling};
 ghost use Rattle.operations.specs.Spelling.{HasSpelling};
-ghost use Rattle.texts.specs.SiteFiles.{HasSiteFile, IsSiteFileOf, entry_spelling, site_bytes, tag};
+ghost use Rattle.texts.specs.SiteFiles.{HasSiteFile, IsSiteFileOf, entry_spelling, site_bytes, site_tag};
 ghost use Rattle.texts.specs.declared.TheConstants.{MAX_KEPT};
 
 use byte_fields::{put_u16, put_u32};
@@ -16,7 +16,7 @@ use texts::{MAX_KEPT, Replica};
 // What stands before the messages.
 fn put_head(out: &mut Vec<u8>, text: u16, site: u16, count: u32) -> Result<(), AllocError>
     ensures { Appends result out.old.items out.new.items
-        (tag ++ number_spelling w16 text ++ number_spelling w16 site ++ number_spelling w32 count) }
+        (site_tag ++ number_spelling w16 text ++ number_spelling w16 site ++ number_spelling w32 count) }
 {
     out.extend_from_slice(b"OTS1")?;
     put_u16(out, text)?;

@@ -5,7 +5,7 @@ ghost use Rattle.std.specs.Int.{w16, w32, w64};
 ghost use Rattle.looks.specs.Looks.{plain_looks};
 ghost use Rattle.byte_fields.specs.Fields.{Finds, positive_at};
 ghost use Rattle.operations.specs.Reading.{font_at, colour_at, offset_at, looks_at, selected_or, selected_at};
-ghost use Rattle.operations.specs.Reading.{sel_at, anchor_of, anchor_at};
+ghost use Rattle.operations.specs.Reading.{sel_at, checked_anchor, anchor_at};
 
 use byte_fields::{stretch_at, u8_at, u16_at, u32_at, u64_at};
 use char_files::{Anchor, Name, SiteNo};
@@ -158,7 +158,7 @@ pub fn sel_at(bytes: &[u8]) -> Option<(Sel, &[u8])>
 
 // The cause of these numbers: the root is offset 0 of site 0.
 fn anchor_of(site: u16, off: u32) -> Option<Anchor>
-    ensures { result ≡ anchor_of site off }
+    ensures { result ≡ checked_anchor site off }
 {
     match SiteNo::new(site) {
         None if off == 0 => Some(Anchor::Root),

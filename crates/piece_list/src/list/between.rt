@@ -4,7 +4,7 @@ ghost use Rattle.std.specs.Prelude.{◌≡◌, ◌+◌, ◌<◌, ◌≤◌, map,
 ghost use Rattle.std.specs.Iterator.{YieldsFirst, item_count};
 ghost use Rattle.std.specs.List.{flat_map};
 ghost use Rattle.char_files.specs.declared.TheConstants.{MAX_FILE};
-ghost use Rattle.piece_list.specs.RunSplits.{AreWithin, HasFront, HaveStamps, with_first};
+ghost use Rattle.piece_list.specs.RunSplits.{AreWithin, HasFront, HaveStamps, with_first_run};
 ghost use Rattle.piece_list.specs.Shown.{appearance_of, appearances_in};
 ghost use Rattle.piece_list.specs.Spelled.{spelled, shown_chars};
 
@@ -28,11 +28,11 @@ pub struct Between<'a> {
 impl<'a> Model for Between<'a> {
     ghost use Rattle.std.specs.Prelude.{List};
     ghost use Rattle.piece_list.specs.declared.run.Run.{Run as Seen};
-    ghost use Rattle.piece_list.specs.RunSplits.{first_chars, with_first};
+    ghost use Rattle.piece_list.specs.RunSplits.{first_chars, with_first_run};
 
     ghost Value = { List Seen };
 
-    ghost view = { λ b. first_chars b.left (with_first b.first b.walk) };
+    ghost view = { λ b. first_chars b.left (with_first_run b.first b.walk) };
 }
 
 impl<'a> Iterator for Between<'a> {
@@ -63,9 +63,9 @@ fn skip_front(walk: &mut Walk<'_>, n: u64) -> Option<Run>
     requires within { AreWithin walk.old }
     requires stamps { HaveStamps walk.old }
     requires front { HasFront n walk.old }
-    ensures left { flat_map appearances_in (with_first result walk.new)
+    ensures left { flat_map appearances_in (with_first_run result walk.new)
         ≡ drop n (flat_map appearances_in walk.old) }
-    ensures within { AreWithin (with_first result walk.new) }
+    ensures within { AreWithin (with_first_run result walk.new) }
 {
     let mut run = walk.next()?;
     run.skip(n as u32);

@@ -8,10 +8,10 @@ ghost use Rattle.operations.specs.declared.name_set.TheConstants.{MAX_RANGES};
 ghost use Rattle.char_files.specs.declared.TheConstants.{MAX_FILE};
 ghost use Rattle.tree_order.specs.Registers.{if_named, switched, relooked};
 ghost use Rattle.piece_list.specs.Changing.{changed_piece, changed_char, AreHere, IsEdge, IsNextEdge, AreTheSame};
-ghost use Rattle.piece_list.specs.Changing.{AreBelow, AreSplitOnce, key_of};
+ghost use Rattle.piece_list.specs.Changing.{AreBelow, AreSplitOnce, setting_key};
 ghost use Rattle.piece_list.specs.Held.{KeepFirsts};
 ghost use Rattle.piece_list.specs.Noted.{Notes, IsNoted, AreNoted, IsReplaceOf, ShowsOther, ShowsTheSame, appearances};
-ghost use Rattle.piece_list.specs.Noted.{entry_room, kind_of, name_count};
+ghost use Rattle.piece_list.specs.Noted.{entry_room, name_count, setting_kind};
 ghost use Rattle.piece_list.specs.Laws.{IsPieceBelow};
 ghost use Rattle.piece_list.specs.Piece.{Piece};
 ghost use Rattle.piece_list.specs.Pieces.{range_of};
@@ -76,7 +76,7 @@ impl Pieces {
     fn change_piece(&mut self, name: Name, setting: &Setting, note: &mut Vec<Change>) -> u32
         requires entered { IsEntered self.old.values setting.now }
         requires below { (tag : ℕ) (p : Piece) → IsMember self.old.items tag p → IsIn (range_of p) name
-            → IsPieceBelow (key_of setting.now) p }
+            → IsPieceBelow (setting_key setting.now) p }
         requires here { HasName (spelled self.old.items) name }
         requires begins { IsEdge name.site name.off self.old.items }
         ensures end { IsNextEdge name result self.old.items }
@@ -110,7 +110,7 @@ impl Pieces {
     fn change_range(&mut self, range: NameRange, setting: &Setting, note: &mut Vec<Change>)
         requires entered { IsEntered self.old.values setting.now }
         requires here { AreHere (range ∷ []) (spelled self.old.items) }
-        requires below { AreBelow (key_of setting.now) (range ∷ []) (spelled self.old.items) }
+        requires below { AreBelow (setting_key setting.now) (range ∷ []) (spelled self.old.items) }
         requires begins { IsEdge range.site range.at self.old.items }
         requires ends { IsEdge range.site (range.at + range.len) self.old.items }
         ensures changed { spelled self.new.items
@@ -134,7 +134,7 @@ impl Pieces {
     fn change_ranges(&mut self, ranges: &[NameRange], setting: &Setting, note: &mut Vec<Change>)
         requires entered { IsEntered self.old.values setting.now }
         requires here { AreHere ranges.now (spelled self.old.items) }
-        requires below { AreBelow (key_of setting.now) ranges.now (spelled self.old.items) }
+        requires below { AreBelow (setting_key setting.now) ranges.now (spelled self.old.items) }
         requires set { IsSet ranges.now }
         requires room { 2 * length ranges.now ≤ self.old.room }
         ensures changed { spelled self.new.items
@@ -185,7 +185,7 @@ impl PieceList {
         note: &mut Vec<Change>,
     ) -> Result<(), Refusal>
         requires here { AreHere names.now (spelled self.old.items) }
-        requires below { AreBelow (key_of setting.now) names.now (spelled self.old.items) }
+        requires below { AreBelow (setting_key setting.now) names.now (spelled self.old.items) }
         ensures ok { OnOk result (spelled self.new.items
             ≡ map (if_named names.now (changed_char setting.now)) (spelled self.old.items)) }
         ensures errors { RefusedForMemoryAlone result }

@@ -14,7 +14,7 @@ ghost use Rattle.piece_list.specs.Noted.{Notes, appearances};
 ghost use Rattle.piece_list.specs.Piece.{Piece};
 ghost use Rattle.piece_list.specs.Placed.{IsPlaced};
 ghost use Rattle.piece_list.specs.Placing.{AreOrAreJoined, HasAnchor, compared, IsAnchorSpot, IsParted, HasPart, IsPartedAt};
-ghost use Rattle.piece_list.specs.Placing.{IsCounted, IsNext, IsSkip, IsInsertedInGap, last_look};
+ghost use Rattle.piece_list.specs.Placing.{IsCounted, IsNextPiece, IsSkip, IsInsertedInGap, last_look};
 ghost use Rattle.piece_list.specs.Spelled.{spelled, shown_chars, ArePieces, HasName};
 ghost use Rattle.piece_list.specs.Tables.{table_of};
 ghost use Rattle.piece_list.specs.Typed.{AreTypedIn, entries_of, insertions};
@@ -35,7 +35,7 @@ use looks::{Key, Refusal};
 // The piece directly after this one, if its key is greater: one look, which is counted. At the front for `None`.
 fn next_above(pieces: &PieceRing, steps: &mut Steps, last: Option<u64>, key: Key) -> Option<u64>
     requires { HasPart pieces.now.items last }
-    ensures above { IfSome result (λ next. IsNext pieces.now.items key last next) }
+    ensures above { IfSome result (λ next. IsNextPiece pieces.now.items key last next) }
     ensures stops { result ≡ Nothing → (before after : List (ℕ × Piece))
         → IsParted pieces.now.items last before after → BeginNotAbove key after }
     ensures steps { (before after : List (ℕ × Piece)) → IsParted pieces.now.items last before after

@@ -1,7 +1,7 @@
 ghost use Rattle.std.specs.Prelude.{◌≡◌, option_map};
 ghost use Rattle.looks.specs.Looks.{plain_looks};
 ghost use Rattle.script_events.specs.LooksWords.{split_value, colour_in, signed_in, offset_in};
-ghost use Rattle.script_events.specs.LooksWords.{font_in, given_or, looks_of, selection_in, change_of, change_in};
+ghost use Rattle.script_events.specs.LooksWords.{font_in, given_or, looks_in_words, selection_in, change_of, change_in};
 
 use crate::event::words::{front_word, number_in};
 use looks::{Colour, FontName, Looks, Sel};
@@ -86,7 +86,7 @@ fn offset_or_plain(given: Option<&[u8]>) -> Option<i8>
 
 // The looks of these values, with the default looks for what isn't given.
 fn looks_of(font: Option<&[u8]>, colour: Option<&[u8]>, offset: Option<&[u8]>) -> Option<Looks>
-    ensures { result ≡ looks_of (option_map (λ value. value.now) font.entry)
+    ensures { result ≡ looks_in_words (option_map (λ value. value.now) font.entry)
         (option_map (λ value. value.now) colour.entry) (option_map (λ value. value.now) offset.entry) }
 {
     let font = font_or_plain(font)?;

@@ -4,9 +4,9 @@ ghost use Rattle.std.specs.Prelude.{◌≡◌, ◌≤◌, ◌<◌, ◌+◌, ◌+
 ghost use Rattle.looks.specs.Refusal.{RefusedForMemoryAlone};
 ghost use Rattle.operations.specs.Operation.{Operation};
 ghost use Rattle.machine.specs.Events.{sent, take, take_reply};
-ghost use Rattle.script_events.specs.EventView.{delivery_of, IsWithin};
+ghost use Rattle.script_events.specs.EventView.{delivery_of, IsDeliveryWithin};
 ghost use Rattle.script_runs.specs.Seen.{Replied, TakesMessage, sent_after, texts_of};
-ghost use Rattle.script_runs.specs.Sent.{AreHeld, IsHeld, IsTold, StandsAt, message_at, messages_at};
+ghost use Rattle.script_runs.specs.Sent.{AreSentOperations, IsOperationAt, IsSentOperation, IsToldAt, messages_at, sent_message};
 ghost use Rattle.script_runs.specs.declared.sent_at.SentAt.{SentAt};
 
 use crate::desks::Desks;
@@ -38,8 +38,8 @@ fn text_and_site(message: &[u8]) -> Option<(TextNo, SiteNo)> {
 impl Desks {
     // The operation that stands there. Refused `OutOfMemory` alone.
     fn op_at(&self, at: &SentAt) -> Result<Op, Refusal>
-        requires { (op : Operation) × StandsAt (texts_of self.now) at.now op }
-        ensures ok { IfOk result (StandsAt (texts_of self.now) at.now) }
+        requires { (op : Operation) × IsOperationAt (texts_of self.now) at.now op }
+        ensures ok { IfOk result (IsOperationAt (texts_of self.now) at.now) }
         ensures errors { RefusedForMemoryAlone result }
     {
         self.desks[usize::from(at.desk)]
@@ -49,7 +49,7 @@ impl Desks {
 
     // Where the operation of a message is looked for after which its site's text took in so many, if there is such a place.
     fn place_of(&self, message: &[u8], later: u64) -> Option<SentAt>
-        ensures { IfSome result (λ at. (other : Operation) × StandsAt (texts_of self.now) at other) }
+        ensures { IfSome result (λ at. (other : Operation) × IsOperationAt (texts_of self.now) at other) }
     {
         let (text, site) = text_and_site(message)?;
         let desk = site.get().checked_sub(self.first)?;
@@ -68,7 +68,7 @@ impl Desks {
 
     // Where the operation of a message stands, if its site's text took in so many after it.
     fn told_at(&self, message: &[u8], later: u64) -> Option<SentAt>
-        ensures { IfSome result (IsTold (texts_of self.now) message.now) }
+        ensures { IfSome result (IsToldAt (texts_of self.now) message.now) }
     {
         let at = self.place_of(message, later)?;
         let op = self.op_at(&at).ok()?;
@@ -83,7 +83,7 @@ impl Desks {
     // Notes where the operations of the messages stand whose bytes are held. They are looked for as the last that their text
     // took in, as those of an edit are. `None` where one isn't found, or memory is refused.
     fn note_each(&self, noted: &mut Vec<SentAt>) -> Option<()>
-        ensures { (more : List SentAt) × (noted.new.items ≡ noted.old.items ++ more) × AreHeld (texts_of self.now) more
+        ensures { (more : List SentAt) × (noted.new.items ≡ noted.old.items ++ more) × AreSentOperations (texts_of self.now) more
             × IfSome result (λ _. messages_at (texts_of self.now) more ≡ self.now.sent) }
     {
         let count = self.outbox.len();
@@ -100,8 +100,8 @@ impl Desks {
     /// Lets the bytes of the messages go, and notes where their operations stand. Where one isn't found, or memory is refused,
     /// all are held on to, and the answer is no.
     pub fn let_go(&mut self, noted: &mut Vec<SentAt>) -> bool
-        requires { AreHeld (texts_of self.old) noted.old.items }
-        ensures held { AreHeld (texts_of self.new) noted.new.items }
+        requires { AreSentOperations (texts_of self.old) noted.old.items }
+        ensures held { AreSentOperations (texts_of self.new) noted.new.items }
         ensures same { sent_after (messages_at (texts_of self.new) noted.new.items) self.new
             ≡ sent_after (messages_at (texts_of self.old) noted.old.items) self.old }
         ensures gone { IsTrue result ↔ (self.new.sent ≡ []) }
@@ -124,10 +124,10 @@ impl Desks {
 
     // Hands the operation that stands there to a desk's text, as its message. Refused `OutOfMemory` where it can't be read.
     fn take_noted(&mut self, at: &SentAt, desk: usize, text: TextNo) -> Result<Took, Refusal>
-        requires held { IsHeld (texts_of self.old) at.now }
+        requires held { IsSentOperation (texts_of self.old) at.now }
         requires in_run { desk < length self.old.desks }
         requires on_desk { text ≤ MAX_TEXT }
-        ensures { TakesMessage self.old desk text (message_at (texts_of self.old) at.now) result self.new }
+        ensures { TakesMessage self.old desk text (sent_message (texts_of self.old) at.now) result self.new }
     {
         self.desks[desk].lemma_has_text(text);
         let op = self.op_at(at)?;
@@ -157,7 +157,7 @@ impl Desks {
         text: TextNo,
         k: u32,
     ) -> Result<Took, Refusal>
-        requires held { AreHeld (texts_of self.old) noted.now }
+        requires held { AreSentOperations (texts_of self.old) noted.now }
         requires in_run { desk < length self.old.desks }
         requires on_desk { text ≤ MAX_TEXT }
         ensures { let before = messages_at (texts_of self.old) noted.now in
@@ -182,10 +182,10 @@ impl Desks {
         text: TextNo,
         delivery: &Delivery,
     ) -> Result<Took, Refusal>
-        requires held { AreHeld (texts_of self.old) noted.now }
+        requires held { AreSentOperations (texts_of self.old) noted.now }
         requires in_run { desk < length self.old.desks }
         requires on_desk { text ≤ MAX_TEXT }
-        requires within { IsWithin MAX_LINE delivery.now }
+        requires within { IsDeliveryWithin MAX_LINE delivery.now }
         ensures { let before = messages_at (texts_of self.old) noted.now in
             Replied (sent_after before self.old) (take desk text (delivery_of delivery.now)) (take_reply result)
             (sent_after before self.new) }

@@ -66,8 +66,8 @@ impl Desks {
     /// Answers a line of the script, where the messages that stand so were sent before those that the desks hold. Refused
     /// `WriteFault` where the writer fails.
     ///
-    /// Asks of its caller: `held: AreHeld (texts_of self.old) noted.now`, `short: length line.now ≤
-    /// MAX_LINE`.
+    /// Asks of its caller: `held: AreSentOperations (texts_of self.old) noted.now`, `short: length line.now
+    /// ≤ MAX_LINE`.
     pub fn answer<W: Write, S: Shelf>(
         &mut self,
         noted: &[SentAt],

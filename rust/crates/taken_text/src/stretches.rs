@@ -50,7 +50,7 @@ impl TakenText {
     /// Refused `Scattered` where they make more than 1,024 ranges, and `OutOfMemory`, which may come before
     /// it.
     ///
-    /// Asks of its caller: `range: beg ≤ end`, `in_text: end ≤ length (shown_of self.now)`.
+    /// Asks of its caller: `range: beg ≤ end`, `in_text: end ≤ length (shown_of_taken self.now)`.
     pub fn names_shown(&self, beg: u64, end: u64) -> Result<NameSet, Refusal> {
         NameSet::of_all(ranges_of(self.alloc, self.pieces.walk_between(beg, end))?)
     }
@@ -60,7 +60,7 @@ impl TakenText {
     /// Refused `FileSpent` where there are more than 2^24, else `OutOfMemory` where memory is; an empty
     /// stretch is never refused.
     ///
-    /// Asks of its caller: `range: beg ≤ end`, `in_text: end ≤ length (shown_of self.now)`.
+    /// Asks of its caller: `range: beg ≤ end`, `in_text: end ≤ length (shown_of_taken self.now)`.
     pub fn stretch(&self, beg: u64, end: u64) -> Result<Buffer, Refusal> {
         if MAX_FILE < end - beg {
             return Err(Refusal::FileSpent);

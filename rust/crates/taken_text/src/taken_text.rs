@@ -112,7 +112,7 @@ impl TakenText {
 
     /// The character that is shown at this position, from 0.
     ///
-    /// Asks of its caller: `pos < length (shown_of self.now)`.
+    /// Asks of its caller: `pos < length (shown_of_taken self.now)`.
     pub fn char_at(&self, pos: u64) -> Char {
         let (name, looks) = self.pieces.shown_at(pos);
         Char {

@@ -1,5 +1,5 @@
 use Rattle.std.proofs.Common.{◌≡◌, ◌-◌, ◌<◌, take, drop, sym, ◌∙◌, subst, arith}
-use Rattle.reader_scanner.specs.ReaderState.{ReaderState, bytes_of}
+use Rattle.reader_scanner.specs.ReaderState.{ReaderState, item_bytes}
 use Rattle.reader_scanner.specs.Tokens.{IsTokenAt}
 use Rattle.command_words.specs.Commands.{name_of}
 use Rattle.command_words.proofs.Words.{IsNear, is_near, word_is, word_of_call, ends_after, named_short}
@@ -7,7 +7,7 @@ use Rattle.command_words.proofs.calls.command_at.Goals as goal
 
 pub returns-then-end-pos-clause-none : goal.returns-then-end-pos-clause-none
 returns-then-end-pos-clause-none g c =
-    let bytes = bytes_of (g.S.Source.items c.args.source.now) in
+    let bytes = item_bytes (g.S.Source.items c.args.source.now) in
     let near : IsNear bytes c.args.pos c.word_begin-beg.result c.word_end-end.result =
     is_near (g.S.Source.items c.args.source.now) c.args.pos c.word_begin-beg.result c.word_end-end.result
     c.word_begin-beg.ensures.order c.word_end-end.ensures.order c.word_end-end.ensures.within
@@ -20,7 +20,7 @@ returns-then-end-pos-clause-none g c =
 
 pub returns-in_err-command-clause-none : goal.returns-in_err-command-clause-none
 returns-in_err-command-clause-none g c =
-    let bytes = bytes_of (g.S.Source.items c.args.source.now) in
+    let bytes = item_bytes (g.S.Source.items c.args.source.now) in
     let beg = c.word_begin-beg.result in
     let end = c.word_end-end.result in
     let near : IsNear bytes c.args.pos c.word_begin-beg.result c.word_end-end.result =
@@ -37,7 +37,7 @@ returns-in_err-command-clause-none g c =
 
 pub returns-clause-some : goal.returns-clause-some
 returns-clause-some g c =
-    let bytes = bytes_of (g.S.Source.items c.args.source.now) in
+    let bytes = item_bytes (g.S.Source.items c.args.source.now) in
     let beg = c.word_begin-beg.result in
     let end = c.word_end-end.result in
     let near : IsNear bytes c.args.pos c.word_begin-beg.result c.word_end-end.result =
@@ -56,6 +56,6 @@ returns-clause-some g c =
       end = end;
       word = word_is bytes c.args.pos beg end near some short;
       named = named;
-      token = subst (λ (p : ReaderState). IsTokenAt (bytes_of p.items) p.pos c.scan-token.result) c.open.ensures
+      token = subst (λ (p : ReaderState). IsTokenAt (item_bytes p.items) p.pos c.scan-token.result) c.open.ensures
           c.scan-token.ensures.token;
     }

@@ -1,6 +1,6 @@
 use Rattle.std.proofs.Common.{◌≡◌, ◌≢◌, ◌+◌, [], ◌∷◌, ◌++◌, subst, true, false}
 use Rattle.looks.specs.declared.looks.Looks.{Looks}
-use Rattle.desk_texts.specs.RunSoFar.{IsCounted}
+use Rattle.desk_texts.specs.RunSoFar.{HasRunsSoFar}
 use Rattle.desk_texts.proofs.CountingRuns.{IsCounted-same, IsCounted-other}
 use Rattle.desk_texts.proofs.runs.go_on.Goals as goal
 
@@ -8,7 +8,7 @@ pub returns-then-are_same : goal.returns-then-are_same
 returns-then-are_same c = λ items byte so_far.
     let run = c.args.run.now in
     let is : run.looks ≡ c.args.looks.now = c.are_same.ensures.0 c.if-are_same.true in
-    subst (λ (looks : Looks). IsCounted (items ++ (byte, looks) ∷ []) c.args.out.now.items run.looks (run.len + 1)) is (IsCounted-same byte so_far)
+    subst (λ (looks : Looks). HasRunsSoFar (items ++ (byte, looks) ∷ []) c.args.out.now.items run.looks (run.len + 1)) is (IsCounted-same byte so_far)
 
 pub returns : goal.returns
 returns c = λ items byte so_far.

@@ -1,13 +1,13 @@
 use Rattle.std.proofs.Common.{◌≡◌, ℕ, ◌∷◌, ◌++◌, List, [], sym, ap, ◌∙◌, map, append_assoc, append-nil, arith}
 use Rattle.char_files.specs.declared.character.Char.{Char}
 use Rattle.texts.specs.TextState.{shown_items, shown_of}
-use Rattle.desk_texts.specs.RunSoFar.{IsCounted, run_of}
+use Rattle.desk_texts.specs.RunSoFar.{HasRunsSoFar, runs_of_bytes}
 use Rattle.desk_texts.proofs.CountingRuns.{IsCounted-begins, IsCounted-ended, IsCounted-room}
 use Rattle.desk_texts.proofs.runs.run_lines.Goals as goal
 
 pub loop-char-init : goal.loop-char-init
 loop-char-init c =
-    let counted : IsCounted [] c.new-lines.result.items c.plain.result 0 = rw c.new-lines.ensures.items (IsCounted-begins c.plain.result) in
+    let counted : HasRunsSoFar [] c.new-lines.result.items c.plain.result 0 = rw c.new-lines.ensures.items (IsCounted-begins c.plain.result) in
     ([], counted, ap (map (λ (c : Char). (c.byte, c.looks))) (c.into_iter-char-iterator.ensures.into_iter_gives ∙ c.shown-char-items.ensures))
 
 pub go_on-requires : goal.go_on-requires
@@ -30,7 +30,7 @@ pub returns-clause-ok : goal.returns-clause-ok
 returns-clause-ok c =
     let (items, counted, all) = c.loop-char.invariant in
     let whole : items ≡ shown_items c.args.replica.now = sym (append-nil items) ∙ ap (λ (chars : List Char). items ++ map (λ (c : Char). (c.byte, c.looks)) chars) (sym c.in-None.ensures.steps.0) ∙ all in (
-      counted.before ++ run_of c.loop-char.run.looks counted.bytes,
+      counted.before ++ runs_of_bytes c.loop-char.run.looks counted.bytes,
       (counted.are_runs.0, counted.are_runs.1 ∙ whole),
       c.in_ok-extend_from_slice.ensures.items ∙ ap (λ (lines : List ℕ). lines ++ 111 ∷ 107 ∷ 10 ∷ []) (c.in_ok-put_ended.ensures ∙ IsCounted-ended counted),
     )

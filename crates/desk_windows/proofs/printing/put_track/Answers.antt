@@ -1,5 +1,5 @@
 use Rattle.std.proofs.Common.{arith}
-use Rattle.desk_windows.specs.Printing.{name_of}
+use Rattle.desk_windows.specs.Printing.{track_name}
 use Rattle.desk_windows.proofs.Printed.{lines_go, next_row, rows_fit}
 use Rattle.desk_windows.proofs.printing.put_track.Goals as goal
 
@@ -15,7 +15,7 @@ loop-seat-preserved c = record {
   seats = c.loop-seat.invariant.seats;
   top = next_row c.seats-seat-items.result.now c.loop-seat.top c.loop-seat.seat-index (record { number = 0; height = 0 })
       c.loop-seat.invariant.top c.loop-seat-test.true;
-  lines = lines_go c.args.texts.now c.args.viewers.now (name_of c.args.track) c.loop-seat.top c.loop-seat.seat-index
+  lines = lines_go c.args.texts.now c.args.viewers.now (track_name c.args.track) c.loop-seat.top c.loop-seat.seat-index
       c.seats-seat-items.result.now (record { number = 0; height = 0 }) c.loop-seat.out.items c.put_seat.new.out.items
       _ c.loop-seat-test.true c.loop-seat.invariant.lines c.in_ok-put_seat.ensures;
 }

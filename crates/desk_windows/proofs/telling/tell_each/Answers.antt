@@ -1,6 +1,6 @@
 use Rattle.std.proofs.Common.{◌≡◌, ◌≢◌, ℕ, ◌+◌, ◌<◌, ◌≤◌, List, length, slice_index_or, slice_set, sym, subst, ◌∙◌, arith, below_more}
 use Rattle.std.proofs.lemmas.List.{get_or-set_other, get_or-set_same, get_or_default}
-use Rattle.desk_windows.specs.Windows.{Told}
+use Rattle.desk_windows.specs.Windows.{IsWindowTold}
 use Rattle.desk_windows.proofs.telling.tell_each.Goals as goal
 
 -- one element more of a list is so with what it was
@@ -22,7 +22,7 @@ one_more {C} R old now i w x lt told left one =
 pub loop-index-preserved : goal.loop-index-preserved
 loop-index-preserved c =
     let i = c.loop-index.index in
-    let more = one_more (Told c.args.text c.args.changes.now c.args.replica.now) c.args.windows.now c.loop-index.windows i
+    let more = one_more (IsWindowTold c.args.text c.args.changes.now c.args.replica.now) c.args.windows.now c.loop-index.windows i
     c.index-windows-index.result c.tell.new.self (omega arith) c.loop-index.invariant.told c.loop-index.invariant.left
     c.tell.ensures in
     record {

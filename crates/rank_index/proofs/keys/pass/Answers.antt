@@ -1,6 +1,6 @@
 use Rattle.std.proofs.Common.{◌≡◌, take, ap, subst, ◌∙◌, arith}
 use Rattle.std.proofs.lemmas.List.{take_all}
-use Rattle.rank_index.specs.Keyed.{AreAbove, last_from}
+use Rattle.rank_index.specs.Keyed.{AreAbove, last_tag_from}
 use Rattle.rank_index.proofs.Keyed.{passed_here}
 use Rattle.rank_index.proofs.keys.pass.Goals as goal
 
@@ -14,5 +14,5 @@ returns-clause-all c = λ goes.
     let all : take c.count_above-n.result c.args.members.now ≡ c.args.members.now =
     take_all c.count_above-n.result c.args.members.now (omega (arith, c.if-n-members.false)) in (
       subst (AreAbove c.args.keys.now c.args.key) all c.count_above-n.ensures.above,
-      c.last_of-last.ensures ∙ ap (last_from c.args.tag) all,
+      c.last_of-last.ensures ∙ ap (last_tag_from c.args.tag) all,
     )

@@ -2,12 +2,12 @@ use Rattle.std.proofs.Common.{ℕ, List, [], ◌∷◌, ◌++◌, Bool, Option, 
 use Rattle.std.specs.Prelude.{if◌then◌else◌}
 use Rattle.std.specs.Fmt.{decimal}
 use Rattle.looks.specs.declared.refusal.Refusal.{Refusal}
-use Rattle.script_runs.specs.Writing.{Writes}
+use Rattle.script_runs.specs.Writing.{WritesBytes}
 use Rattle.script_runs.proofs.WriteLemmas.{writes_after, writes_stopped, writes_regrouped}
 use Rattle.script_runs.proofs.answers.put_counts.Goals as goal
 
 -- four parts, the latter ones taken together
-regrouped : (result : Result (Unit {0}) Refusal) (failed : Bool) (old new : Option (List ℕ)) (a b c d : List ℕ) → Writes result failed old new (a ++ (b ++ (c ++ d))) → Writes result failed old new (((a ++ b) ++ c) ++ d)
+regrouped : (result : Result (Unit {0}) Refusal) (failed : Bool) (old new : Option (List ℕ)) (a b c d : List ℕ) → WritesBytes result failed old new (a ++ (b ++ (c ++ d))) → WritesBytes result failed old new (((a ++ b) ++ c) ++ d)
 regrouped result failed old new a b c d w = writes_regrouped result failed old new (a ++ b) c d (writes_regrouped result failed old new a b (c ++ d) w)
 
 pub returns-in_err-put_numbered : goal.returns-in_err-put_numbered

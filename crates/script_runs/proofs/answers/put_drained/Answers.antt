@@ -2,7 +2,7 @@ use Rattle.std.proofs.Common.{◌≡◌, [], ◌∷◌, ◌++◌, false, codes, 
 use Rattle.std.specs.Fmt.{decimal}
 use Rattle.std.proofs.lemmas.Fmt.{decimal_digit}
 use Rattle.script_runs.specs.Answers.{counts_line}
-use Rattle.script_runs.specs.Writing.{Puts}
+use Rattle.script_runs.specs.Writing.{PutsToOutput}
 use Rattle.script_runs.proofs.answers.put_drained.Goals as goal
 
 -- the line of two counts of 0, spelled out
@@ -18,4 +18,4 @@ returns-then-not-stopped g c =
     let on : c.args.stopped ≡ false = c.if-not-stopped.true in
     let same : counts_line (codes "taken ") 0 0 false ≡ counts_line (codes "taken ") c.args.drained c.args.dropped c.args.stopped =
     λ k. counts_line (codes "taken ") (sym none k) (sym kept k) (sym on k) in
-    subst (Puts c.put.result c.args.output.now c.put.new.output) (at_hand ∙ same) c.put.ensures
+    subst (PutsToOutput c.put.result c.args.output.now c.put.new.output) (at_hand ∙ same) c.put.ensures

@@ -3,13 +3,13 @@ use Rattle.std.specs.Prelude.{Bool}
 use Rattle.std.specs.Fmt.{decimal}
 use Rattle.looks.specs.declared.refusal.Refusal.{Refusal}
 use Rattle.script_runs.specs.Answers.{counts_line}
-use Rattle.script_runs.specs.Writing.{Writes}
+use Rattle.script_runs.specs.Writing.{WritesBytes}
 use Rattle.script_runs.proofs.WriteLemmas.{writes_stopped}
 use Rattle.script_runs.proofs.answers.put_unpacked_whole.Goals as goal
 
 -- three parts, the former two written together
-parted : (result : Result (Unit {0}) Refusal) (failed : Bool) (old new : Option (List ℕ)) (a b c : List ℕ) → Writes result failed old new ((a ++ b) ++ c) → Writes result failed old new (a ++ (b ++ c))
-parted result failed old new a b c w = subst (Writes result failed old new) (append_assoc a b c) w
+parted : (result : Result (Unit {0}) Refusal) (failed : Bool) (old new : Option (List ℕ)) (a b c : List ℕ) → WritesBytes result failed old new ((a ++ b) ++ c) → WritesBytes result failed old new (a ++ (b ++ c))
+parted result failed old new a b c w = subst (WritesBytes result failed old new) (append_assoc a b c) w
 
 pub returns-in_err-put_numbered : goal.returns-in_err-put_numbered
 returns-in_err-put_numbered g c =

@@ -3,7 +3,7 @@ use Rattle.std.specs.Prelude.{if◌then◌else◌}
 use Rattle.std.proofs.lemmas.Result.{IfOk-weaker}
 use Rattle.clap.specs.Words.{app_of, found_of, is_simple_and_free}
 use Rattle.clap.specs.declared.error.kind.ErrorKind.TheVariants.{ValueValidation}
-use Rattle.site_cli.specs.Finding.{Finds}
+use Rattle.site_cli.specs.Finding.{FindsSettings}
 use Rattle.site_cli.specs.CommandLine.{Gives, are_numbers}
 use Rattle.site_cli.proofs.Reading.{fails-read, gives-found, simple_and_free, told}
 use Rattle.site_cli.proofs.settings.read_settings.Goals as goal
@@ -19,7 +19,7 @@ pub returns-clause-given : goal.returns-clause-given
 returns-clause-given g c =
     let words = map g.S.AsStr.text c.args.words.now in
     let m = c.in_ok-matches.matches in
-    IfOk-weaker c.settings_in.result (Finds (found_of m)) (Gives words)
+    IfOk-weaker c.settings_in.result (FindsSettings (found_of m)) (Gives words)
     (gives-found m (app_of c.in_ok-program.program) words c.in_ok-program.ensures c.in_ok-matches.ensures.ok.2)
     c.settings_in.ensures.ok
 

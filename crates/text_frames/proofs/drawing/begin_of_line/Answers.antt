@@ -5,7 +5,8 @@ use Rattle.line_drawing.specs.Lines.{beg_of, ends_in}
 use Rattle.line_drawing.specs.Rows.{Row}
 use Rattle.texts.specs.TextState.{TextState, shown_of}
 use Rattle.machine.specs.Windows.{bytes_shown}
-use Rattle.text_frames.specs.Reading.{bytes_of, counted}
+use Rattle.text_frames.specs.Reading.{counted}
+use Rattle.char_files.specs.Chars.{char_bytes}
 use Rattle.text_frames.proofs.Lines.{beg-within}
 use Rattle.text_frames.proofs.Walks.{Passes, SeeksLine, last_found, line_found, seek_begins, seeks_on}
 use Rattle.text_frames.proofs.drawing.begin_of_line.Goals as goal
@@ -25,7 +26,7 @@ begins_within all before j walk beg reads was =
     omega (
       arith,
       was.at,
-      beg-within (bytes_of all) j,
+      beg-within (char_bytes all) j,
       length-map all (λ (x : Char). x.byte),
     )
 

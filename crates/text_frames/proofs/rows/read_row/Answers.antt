@@ -1,6 +1,7 @@
 use Rattle.std.proofs.Common.{ℕ, ◌+◌, List, length, refl, ap, sym, subst, ◌∙◌, arith, Option}
 use Rattle.line_drawing.specs.Rows.{Row}
-use Rattle.text_frames.specs.Reading.{GivesNext, bytes_of, line_before}
+use Rattle.text_frames.specs.Reading.{GivesNext, line_before}
+use Rattle.char_files.specs.Chars.{char_bytes}
 use Rattle.text_frames.proofs.OneLine.{IsRead, ReadsLine, line_begins, line_ends, line_goes_on, some_left}
 use Rattle.text_frames.proofs.rows.read_row.Goals as goal
 
@@ -52,5 +53,5 @@ returns-clause-row c =
     (subst (λ (next : Option ℕ). GivesNext c.loop-byte.text.left next c.next_byte.new.self.left) c.in_default.is
     c.next_byte.ensures.next) c.next_byte.ensures.reads in
     ap (λ (n : ℕ). row_with c.args.beg n c.fill.new.cells.items) read.at
-    ∙ ap (λ (cells : List ℕ). row_with c.args.beg (c.args.beg + length (line_before (bytes_of c.args.text.now.left))) cells)
+    ∙ ap (λ (cells : List ℕ). row_with c.args.beg (c.args.beg + length (line_before (char_bytes c.args.text.now.left))) cells)
     (c.fill.ensures ∙ read.drawn)

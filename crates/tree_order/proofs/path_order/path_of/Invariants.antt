@@ -2,7 +2,7 @@ use Rattle.std.proofs.Common.{◌≡◌, ◌+◌, ◌*◌, ◌^◌, List, ◌∷
 use Rattle.std.specs.Prelude.{reverse}
 use Rattle.char_files.specs.CharName.{CharName}
 use Rattle.char_files.specs.declared.name.Anchor.TheVariants.{At}
-use Rattle.tree_order.specs.Tree.{IsInsertOf, Leads}
+use Rattle.tree_order.specs.Tree.{IsInsertOf, LeadsDown}
 use Rattle.tree_order.proofs.path_order.path_of.Given as goal
 
 -- turned round, the characters so far lead from this one down to c
@@ -11,7 +11,7 @@ invariant-loop-parent l = record {
   insert : IsInsertOf l.ops l.name l.op;
   rest : List CharName;
   so_far : reverse l.names.items ≡ l.name ∷ rest;
-  leads : Leads l.ops (At l.name) rest (At l.fn.c);
+  leads : LeadsDown l.ops (At l.name) rest (At l.fn.c);
 }
 
 abbrev pub decreases-loop-parent : goal.decreases-loop-parent

@@ -80,7 +80,7 @@ impl Desks {
     /// Lets the bytes of the messages go, and notes where their operations stand. Where one isn't found, or memory is refused,
     /// all are held on to, and the answer is no.
     ///
-    /// Asks of its caller: `AreHeld (texts_of self.old) noted.old.items`.
+    /// Asks of its caller: `AreSentOperations (texts_of self.old) noted.old.items`.
     pub fn let_go(&mut self, noted: &mut Vec<SentAt>) -> bool {
         if self.outbox.is_empty() {
             return true;

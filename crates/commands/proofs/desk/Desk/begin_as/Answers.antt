@@ -1,7 +1,7 @@
 use Rattle.std.proofs.Common.{◌≡◌, false, Ok, subst, sym}
 use Rattle.texts.specs.TextState.{TextState, all_told}
 use Rattle.machine.specs.SiteTexts.{IsTextOf, with_text}
-use Rattle.machine.specs.Tasks.{has_begun}
+use Rattle.machine.specs.Tasks.{text_has_begun}
 use Rattle.desk_windows.specs.Windows.{screened}
 use Rattle.commands.proofs.Reopening.{begins_apart, begins_its_own, replaced_grows, replaced_now}
 use Rattle.commands.specs.Filing.{BeginsSo}
@@ -18,8 +18,8 @@ returns-then-not-is_same_copy c =
 pub invariant_of-self : goal.invariant_of-self
 invariant_of-self c =
     let d = c.self.inside.texts in
-    let fresh : (t : TextState) → IsTextOf d c.args.text t → has_begun t ≡ false =
-    subst (λ (x : DeskSeen). (t : TextState) → IsTextOf x.texts c.args.text t → has_begun t ≡ false) (sym c.self.view_is)
+    let fresh : (t : TextState) → IsTextOf d c.args.text t → text_has_begun t ≡ false =
+    subst (λ (x : DeskSeen). (t : TextState) → IsTextOf x.texts c.args.text t → text_has_begun t ≡ false) (sym c.self.view_is)
     c.requires.fresh in
     c.tell.ensures.shown d c.self.invariant.0 c.self.invariant.1
     (replaced_grows d c.replace.new.self c.args.text c.args.kept c.lemma_has_text.ensures c.self.invariant.1 fresh c.requires.kept
@@ -28,8 +28,8 @@ invariant_of-self c =
 pub returns : goal.returns
 returns c =
     let d = c.self.inside.texts in let kept = c.args.kept in
-    let fresh : (t : TextState) → IsTextOf d c.args.text t → has_begun t ≡ false =
-    subst (λ (x : DeskSeen). (t : TextState) → IsTextOf x.texts c.args.text t → has_begun t ≡ false) (sym c.self.view_is)
+    let fresh : (t : TextState) → IsTextOf d c.args.text t → text_has_begun t ≡ false =
+    subst (λ (x : DeskSeen). (t : TextState) → IsTextOf x.texts c.args.text t → text_has_begun t ≡ false) (sym c.self.view_is)
     c.requires.fresh in
     let now : c.tell.new.texts ≡ with_text d c.args.text (all_told kept) =
     replaced_now d c.replace.new.self c.tell.new.texts c.args.text kept c.lemma_has_text.ensures c.self.invariant.1 fresh

@@ -2,7 +2,7 @@ use Rattle.std.proofs.Common.{arith}
 use Rattle.desk_windows.specs.Windows.{screened}
 use Rattle.commands.proofs.AtCaret.{in_text, is_long, moved_step, no_caret_step, room_then, stayed_step, put_at, was_long}
 use Rattle.commands.proofs.Lifting.{edit_grows}
-use Rattle.commands.specs.Inserting.{edit_of, items_in}
+use Rattle.commands.specs.Inserting.{edit_inserting, items_in}
 use Rattle.commands.proofs.desk.Desk.insert_at_caret.Goals as goal
 
 pub returns-in_default : goal.returns-in_default
@@ -26,7 +26,7 @@ pub move_caret-requires-clause-of : goal.move_caret-requires-clause-of
 move_caret-requires-clause-of c =
     (c.tell.ensures.shown c.self.inside.texts c.self.invariant.0 c.self.invariant.1
     (edit_grows c.self.inside.texts c.insert_into-outcome.new.texts c.in-Some.place.0
-    (edit_of (items_in c.args.what) c.in-Some.place.1) c.insert_into-outcome.result
+    (edit_inserting (items_in c.args.what) c.in-Some.place.1) c.insert_into-outcome.result
     c.args.outbox.now c.insert_into-outcome.new.outbox c.lemma_has_text.ensures c.insert_into-outcome.ensures)).0
 
 pub move_caret-requires-clause-in_text : goal.move_caret-requires-clause-in_text
@@ -45,7 +45,7 @@ invariant_of-self c = (
   c.move_caret.ensures.of,
   (c.tell.ensures.shown c.self.inside.texts c.self.invariant.0 c.self.invariant.1
       (edit_grows c.self.inside.texts c.insert_into-outcome.new.texts c.in-Some.place.0
-      (edit_of (items_in c.args.what) c.in-Some.place.1) c.insert_into-outcome.result
+      (edit_inserting (items_in c.args.what) c.in-Some.place.1) c.insert_into-outcome.result
       c.args.outbox.now c.insert_into-outcome.new.outbox c.lemma_has_text.ensures c.insert_into-outcome.ensures)).1,
 )
 
@@ -53,7 +53,7 @@ pub invariant_of-self-else-before-after : goal.invariant_of-self-else-before-aft
 invariant_of-self-else-before-after c =
     c.tell.ensures.shown c.self.inside.texts c.self.invariant.0 c.self.invariant.1
     (edit_grows c.self.inside.texts c.insert_into-outcome.new.texts c.in-Some.place.0
-    (edit_of (items_in c.args.what) c.in-Some.place.1) c.insert_into-outcome.result
+    (edit_inserting (items_in c.args.what) c.in-Some.place.1) c.insert_into-outcome.result
     c.args.outbox.now c.insert_into-outcome.new.outbox c.lemma_has_text.ensures c.insert_into-outcome.ensures)
 
 pub returns-then-before-after : goal.returns-then-before-after

@@ -1,6 +1,6 @@
 use Rattle.std.proofs.Common.{◌≡◌, ◌-◌, Some, subst}
 use Rattle.std.specs.Prelude.{slice_get}
-use Rattle.reader_scanner.specs.ReaderState.{ReaderState, bytes_of}
+use Rattle.reader_scanner.specs.ReaderState.{ReaderState, item_bytes}
 use Rattle.reader_scanner.specs.Tokens.{IsTokenAt}
 use Rattle.texts.specs.TextState.{TextState}
 use Rattle.machine.specs.SiteTexts.{IsTextOf}
@@ -18,4 +18,4 @@ returns-clause-value c =
     (subst (λ n. IsTextOf c.self.inside.texts n t) text c.replica.ensures) there in
     marked_told seen.texts seen.screen at t c.in-Some.marked.beg c.scan-token.result
     (subst (λ (x : DeskSeen). marked x.texts x.screen ≡ Some at) c.self.view_is is) same beg
-    (subst (λ (p : ReaderState). IsTokenAt (bytes_of p.items) p.pos c.scan-token.result) c.open.ensures c.scan-token.ensures.token)
+    (subst (λ (p : ReaderState). IsTokenAt (item_bytes p.items) p.pos c.scan-token.result) c.open.ensures c.scan-token.ensures.token)

@@ -2,7 +2,7 @@ use Rattle.std.proofs.Common.{◌≡◌, ◌-◌, false, sym, subst, ◌∙◌}
 use Rattle.std.specs.Prelude.{slice_get}
 use Rattle.texts.specs.TextState.{TextState}
 use Rattle.machine.specs.SiteTexts.{IsTextOf}
-use Rattle.machine.specs.Tasks.{has_begun}
+use Rattle.machine.specs.Tasks.{text_has_begun}
 use Rattle.machine_laws.proofs.OneOfTexts.{one_element}
 use Rattle.commands.proofs.Faultless.{begins_unfailed}
 use Rattle.commands.proofs.Reopening.{begun_as, begun_step, unread_step}
@@ -24,8 +24,8 @@ returns-in-Ok-clause-step g c = λ sent.
     let there : IsTextOf seen.texts c.args.text t =
     subst (λ (x : DeskSeen). IsTextOf x.texts c.args.text t) c.self.view_is c.replica.ensures in
     let same : t ≡ u = one_element (slice_get seen.texts.texts (c.args.text - 1)) t u there at in
-    let fresh : has_begun u ≡ false =
-    subst (λ (x : TextState). has_begun x ≡ false) same (sym c.has_begun.ensures ∙ c.if-has_begun.false) in
+    let fresh : text_has_begun u ≡ false =
+    subst (λ (x : TextState). text_has_begun x ≡ false) same (sym c.has_begun.ensures ∙ c.if-has_begun.false) in
     begun_as seen.texts seen.screen c.args.text u at c.args.name.now fresh (shelf_seen (g.S.Shelf.files c.args.shelf.now) (g.S.Shelf.faults c.args.shelf.now))
     (shelf_seen (g.S.Shelf.files c.read_site.new.shelf) (g.S.Shelf.faults c.read_site.new.shelf)) c.in-Ok.ensures.files sent c.in-Ok.kept file has of taken unfailed c.begin_as.result
     c.begin_as.new.self begins

@@ -1,6 +1,6 @@
 use Rattle.std.proofs.Common.{◌≡◌, Some, sym, ap, ◌∙◌, subst, refl}
 use Rattle.viewers.specs.Viewers.{content_of}
-use Rattle.desk_windows.specs.Windows.{AreOf, WindowSeen, WindowsSeen, window_of}
+use Rattle.desk_windows.specs.Windows.{AreOf, WindowSeen, WindowsSeen, seen_window}
 use Rattle.desk_windows.proofs.Scrolling.{shown_nothing, shown_text}
 use Rattle.desk_windows.proofs.windows.Windows.text_of.Goals as goal
 
@@ -14,7 +14,7 @@ returns-in-Some-clause-text c = λ d are_now.
     sym c.in-Some.ensures ∙ ap Some (sym c.window.view_is) in
     let shows = are.shown.texts c.args.viewer x there in
     rw (← c.self.view_is)
-    ((window_of x, shows.text), shown_text d old c.args.viewer 0 x x shows.text there shows.at, refl)
+    ((seen_window x, shows.text), shown_text d old c.args.viewer 0 x x shows.text there shows.at, refl)
 
 pub returns-in-Some-clause-on_desk : goal.returns-in-Some-clause-on_desk
 returns-in-Some-clause-on_desk c = λ d are_now.

@@ -1,7 +1,7 @@
 use Rattle.std.proofs.Common.{arith, subst, sym, ◌∙◌}
 use Rattle.std.proofs.lemmas.Bool.{false≢true}
 use Rattle.byte_fields.proofs.Readers.{IsBytes}
-use Rattle.texts.specs.SiteFiles.{tag}
+use Rattle.texts.specs.SiteFiles.{site_tag}
 use Rattle.kept_file.proofs.Fields.{fits_after}
 use Rattle.kept_file.proofs.SiteLoaded.{loaded, no_file, no_head}
 use Rattle.kept_file.proofs.Messages.{cut_so, messages_of}
@@ -27,7 +27,7 @@ returns-then-not-are_messages-clause-refused c = λ bad.
 pub returns-clause-short : goal.returns-clause-short
 returns-clause-short c = λ memory.
     cut_so c.args.bytes.now c.in-Some.rest.now c.in-Some-counted_at.entries.now c.in-Some-counted_at.head
-    (fits_after tag c.in-Some.rest.now (subst IsBytes c.in-Some.ensures (λ i. omega (arith, c.type_inv.bytes i))))
+    (fits_after site_tag c.in-Some.rest.now (subst IsBytes c.in-Some.ensures (λ i. omega (arith, c.type_inv.bytes i))))
     c.in-Some.ensures c.in-Some-counted_at.ensures (c.are_messages.ensures.0 c.if-not-are_messages.false)
 
 pub returns-clause-ok : goal.returns-clause-ok

@@ -3,7 +3,7 @@ use Rattle.std.specs.Int.{w16, w32}
 use Rattle.std.specs.List.{flat_map}
 use Rattle.byte_fields.specs.Fields.{number_spelling}
 use Rattle.byte_fields.proofs.Appended.{Appends-after}
-use Rattle.texts.specs.SiteFiles.{entry_spelling, site_bytes, tag}
+use Rattle.texts.specs.SiteFiles.{entry_spelling, site_bytes, site_tag}
 use Rattle.kept_file.proofs.site_file.storing.put_site.Goals as goal
 
 pub returns-clause-bytes : goal.returns-clause-bytes
@@ -11,7 +11,7 @@ unfolding site_bytes
 returns-clause-bytes c =
     let r = c.args.replica.now in
     let head : List ℕ =
-    tag ++ number_spelling w16 r.text ++ number_spelling w16 r.site ++ number_spelling w32 (length r.operations) in
+    site_tag ++ number_spelling w16 r.text ++ number_spelling w16 r.site ++ number_spelling w32 (length r.operations) in
     let one : c.put_head.new.out.items ≡ c.args.out.now.items ++ head =
     cc (
       c.in_ok-put_head.ensures,

@@ -3,7 +3,7 @@ use Rattle.std.proofs.Common.{arith}
 use Rattle.operations.specs.Operation.{Operation, appended_len, Begins}
 use Rattle.set_laws.specs.Fronts.{file_len}
 use Rattle.op_log.specs.Seen.{LogSeen}
-use Rattle.op_log.specs.Tables.{table_of, end_of}
+use Rattle.op_log.specs.Tables.{log_table, entries_end}
 use Rattle.op_log.specs.Logged.{AreLogged}
 use Rattle.op_log.proofs.Pushed.{fits_by_table, pushed}
 use Rattle.op_log.proofs.Rooms.{room_told}
@@ -13,7 +13,7 @@ pub push-requires-2-clause-room : goal.push-requires-2-clause-room
 push-requires-2-clause-room c =
     let tables = c.self.inside.sites in
     let room = rw (← c.self.view_is) at c.requires.reserved in
-    subst (λ (s : ℕ). 0 < (table_of tables s).room) (sym c.site-site.ensures)
+    subst (λ (s : ℕ). 0 < (log_table tables s).room) (sym c.site-site.ensures)
     (subst (λ (n : ℕ). 0 < n) (room_told tables c.args.op.site) room.1)
 
 pub push-requires-2-clause-end : goal.push-requires-2-clause-end
@@ -42,7 +42,7 @@ invariant_of-self c =
     let file = c.file_len.ensures.value in
     let len = c.appended_bytes.ensures.value in
     let ends : c.file_len.result + c.appended_bytes.result
-    ≡ end_of (table_of l.sites site).entries + appended_len op.kind = omega arith in
+    ≡ entries_end (log_table l.sites site).entries + appended_len op.kind = omega arith in
     subst (λ (xs : List Operation). AreLogged xs c.push-2.new.self c.max-self-inside.result) (sym items)
     (subst (λ (n : ℕ). AreLogged (l.ops.items ++ op ∷ []) c.push-2.new.self n) (sym most)
     (pushed c.self.invariant c.push-2.new.self op site (record {

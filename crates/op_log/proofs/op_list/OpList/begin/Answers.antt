@@ -11,7 +11,7 @@ use Rattle.op_log.specs.declared.stretch.TypedRun.{TypedRun}
 use Rattle.op_log.specs.declared.stretch.Stretch.{Stretch}
 use Rattle.op_log.specs.declared.stretch.Stretch.TheVariants.{Typed}
 use Rattle.op_log.specs.Seen.{OpsSeen}
-use Rattle.op_log.specs.Stretches.{AreStretches, Shared, all_ops, anchor_of, letter, looks_in, shared}
+use Rattle.op_log.specs.Stretches.{AreStretches, Shared, all_ops, anchor_of, letter_of_run, looks_in, shared}
 use Rattle.op_log.proofs.Stretches.{Extends, begun_ends, begun_ops, begun_there, is_letter, pushed_are, pushed_ops}
 use Rattle.op_log.proofs.op_list.OpList.begin.Goals as goal
 use Rattle.op_log.proofs.op_list.OpList.begin.Goals.{After-push_reserved-3}
@@ -47,7 +47,7 @@ grows c = record {
 looks_there : (c : After-push_reserved-3) → c.number_of.result < length c.number_of.new.entered.items
 looks_there c = slice_get_within c.number_of.new.entered.items c.number_of.result c.args.looks.now c.number_of.ensures.there
 
-is : (c : After-push_reserved-3) → c.args.op.now ≡ letter (now c).looks (run c) 0 c.args.byte
+is : (c : After-push_reserved-3) → c.args.op.now ≡ letter_of_run (now c).looks (run c) 0 c.args.byte
 is c =
     let own : c.args.looks.now ≡ looks_in (now c).looks (run c) =
     sym (get_or_from_slice_get c.number_of.new.entered.items c.number_of.result c.args.looks.now plain_looks

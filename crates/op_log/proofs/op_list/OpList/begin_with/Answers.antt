@@ -9,7 +9,7 @@ use Rattle.op_log.specs.declared.stretch.TypedRun.{TypedRun}
 use Rattle.op_log.specs.declared.stretch.Stretch.{Stretch}
 use Rattle.op_log.specs.declared.stretch.Stretch.TheVariants.{Typed}
 use Rattle.op_log.specs.Seen.{OpsSeen}
-use Rattle.op_log.specs.Stretches.{AreStretches, GoesOn, Shared, all_ops, shared}
+use Rattle.op_log.specs.Stretches.{AreStretches, Shared, TypingGoesOn, all_ops, shared}
 use Rattle.operations.proofs.Typed.{in_range}
 use Rattle.op_log.proofs.Letters.{Grown, begun}
 use Rattle.op_log.proofs.op_list.OpList.begin_with.Goals as goal
@@ -33,7 +33,7 @@ run c = record {
 abbrev was : After-push_reserved-2 → Shared
 was c = shared c.self.inside.bytes.items c.self.inside.looks.items c.self.inside.singles.items
 
-goes_on : (c : After-push_reserved-2) → GoesOn c.number_of.new.entered.items (run c) 0 c.args.typing.now
+goes_on : (c : After-push_reserved-2) → TypingGoesOn c.number_of.new.entered.items (run c) 0 c.args.typing.now
 goes_on c = record {
   text = refl;
   site = refl;

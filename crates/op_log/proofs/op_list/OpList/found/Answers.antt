@@ -1,7 +1,7 @@
 use Rattle.std.proofs.Common.{rules, ◌≡◌, ℕ, List, ◌+◌, ◌-◌, ◌<◌, ◌≤◌, length, get_or, Some, slice_get, sym, ap, subst, arith}
 use Rattle.op_log.specs.declared.stretch.Stretch.{Stretch}
 use Rattle.op_log.specs.declared.stretch.Stretch.TheVariants.{Typed, Deleted, Single}
-use Rattle.op_log.specs.Stretches.{Shared, all_ops, letter, one_delete, shared}
+use Rattle.op_log.specs.Stretches.{Shared, all_ops, letter_of_run, one_delete, shared}
 use Rattle.op_log.proofs.Stretches.{IsFound, byte_there, deleted_found, found_in, letter_found, single_found, spelled_at}
 use Rattle.op_log.proofs.op_list.OpList.found.Goals as goal
 use Rattle.op_log.proofs.op_list.OpList.found.Goals.{After-index-2}
@@ -40,14 +40,14 @@ returns-in-Typed c =
     subst (λ (st : Stretch). IsFound s l.stretches.items c.args.at st k) c.in-Typed.is
     (at (goal.at.returns-in-Typed c).After-index-2) in
     let is : slice_get (all_ops s l.stretches.items) c.args.at
-    ≡ Some (letter l.looks.items c.in-Typed.run' k c.index-in-Typed.result.now) =
+    ≡ Some (letter_of_run l.looks.items c.in-Typed.run' k c.index-in-Typed.result.now) =
     letter_found s l.stretches.items c.args.at c.in-Typed.run' k found c.index-in-Typed.result.now c.index-in-Typed.ensures in
     rw (← c.self.view_is) (
       is,
       (
         found.there.2,
         spelled_at (all_ops s l.stretches.items) c.self.invariant.0.spelled c.args.at
-            (letter l.looks.items c.in-Typed.run' k c.index-in-Typed.result.now) is,
+            (letter_of_run l.looks.items c.in-Typed.run' k c.index-in-Typed.result.now) is,
         found.there.3,
       ),
     )

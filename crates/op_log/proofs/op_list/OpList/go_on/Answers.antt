@@ -4,7 +4,7 @@ use Rattle.op_log.specs.declared.TheConstants.{MAX_OPS}
 use Rattle.op_log.specs.declared.stretch.Stretch.{Stretch}
 use Rattle.op_log.specs.declared.stretch.Stretch.TheVariants.{Typed}
 use Rattle.op_log.specs.Seen.{OpsSeen}
-use Rattle.op_log.specs.Stretches.{AreStretches, Shared, all_ops, letter, shared}
+use Rattle.op_log.specs.Stretches.{AreStretches, Shared, all_ops, letter_of_run, shared}
 use Rattle.op_log.proofs.Stretches.{longer_all, longer_are}
 use Rattle.op_log.proofs.op_list.OpList.go_on.Goals as goal
 
@@ -16,8 +16,8 @@ invariant_of-self c =
     let is : l.stretches.items ≡ before ++ Typed r ∷ [] = sym c.deref.ensures.value ∙ sts in
     let here : AreStretches s (before ++ Typed r ∷ []) l.firsts.items l.len =
     subst (λ (x : List Stretch). AreStretches s x l.firsts.items l.len) is c.self.invariant.0 in
-    let own : c.args.op.now ≡ letter l.looks.items r r.len c.in-Some.byte =
-    subst (λ (ls : List Looks). c.args.op.now ≡ letter ls r r.len c.in-Some.byte) c.deref-2.ensures.value next in
+    let own : c.args.op.now ≡ letter_of_run l.looks.items r r.len c.in-Some.byte =
+    subst (λ (ls : List Looks). c.args.op.now ≡ letter_of_run ls r r.len c.in-Some.byte) c.deref-2.ensures.value next in
     let most : l.len + 1 ≤ MAX_OPS = search rules in (
       subst (λ (b : List ℕ). AreStretches (shared b l.looks.items l.singles.items) c.lengthen_by.new.stretches.items l.firsts.items
           (l.len + 1)) (sym c.push_reserved.ensures.items)
@@ -36,8 +36,8 @@ returns-clause-goes_on c = λ yes.
     let is : l.stretches.items ≡ before ++ Typed r ∷ [] = sym c.deref.ensures.value ∙ sts in
     let here : AreStretches s (before ++ Typed r ∷ []) l.firsts.items l.len =
     subst (λ (x : List Stretch). AreStretches s x l.firsts.items l.len) is c.self.invariant.0 in
-    let own : c.args.op.now ≡ letter l.looks.items r r.len c.in-Some.byte =
-    subst (λ (ls : List Looks). c.args.op.now ≡ letter ls r r.len c.in-Some.byte) c.deref-2.ensures.value next in
+    let own : c.args.op.now ≡ letter_of_run l.looks.items r r.len c.in-Some.byte =
+    subst (λ (ls : List Looks). c.args.op.now ≡ letter_of_run ls r r.len c.in-Some.byte) c.deref-2.ensures.value next in
     ap (λ (b : List ℕ). all_ops (shared b l.looks.items l.singles.items) c.lengthen_by.new.stretches.items) c.push_reserved.ensures.items
     ∙ ap (all_ops (shared (l.bytes.items ++ c.in-Some.byte ∷ []) l.looks.items l.singles.items)) (c.lengthen_by.ensures before r is)
     ∙ longer_all s c.in-Some.byte c.args.op.now c.lemma_has_spelling.ensures before r l.firsts.items l.len here own

@@ -6,7 +6,7 @@ use Rattle.op_log.specs.declared.stretch.TypedRun.{TypedRun}
 use Rattle.op_log.specs.declared.stretch.Stretch.{Stretch}
 use Rattle.op_log.specs.declared.stretch.Stretch.TheVariants.{Typed}
 use Rattle.op_log.specs.Seen.{OpsSeen}
-use Rattle.op_log.specs.Stretches.{AreStretches, GoesOn, Shared, all_ops, shared}
+use Rattle.op_log.specs.Stretches.{AreStretches, Shared, TypingGoesOn, all_ops, shared}
 use Rattle.operations.proofs.Typed.{in_range}
 use Rattle.op_log.proofs.Letters.{Grown, lengthened}
 use Rattle.op_log.proofs.op_list.OpList.go_on_with.Goals as goal
@@ -14,18 +14,18 @@ use Rattle.op_log.proofs.op_list.OpList.go_on_with.Goals.{After-append}
 
 -- the last run, where the letters go on
 last : (c : After-append) → (before : List Stretch) × (r : TypedRun)
-    × (c.self.inside.stretches.items ≡ before ++ Typed r ∷ []) × GoesOn c.self.inside.looks.items r r.len c.args.typing.now
+    × (c.self.inside.stretches.items ≡ before ++ Typed r ∷ []) × TypingGoesOn c.self.inside.looks.items r r.len c.args.typing.now
 last c =
     let (before, r, sts, on) = c.goes_on.ensures c.if-not-goes_on.false in (
       before,
       r,
       sym c.deref.ensures.value ∙ sts,
-      subst (λ (ls : List Looks). GoesOn ls r r.len c.args.typing.now) c.deref-2.ensures.value on,
+      subst (λ (ls : List Looks). TypingGoesOn ls r r.len c.args.typing.now) c.deref-2.ensures.value on,
     )
 
 -- as it has grown
 grown : (c : After-append) (before : List Stretch) (r : TypedRun) → c.self.inside.stretches.items ≡ before ++ Typed r ∷ []
-    → GoesOn c.self.inside.looks.items r r.len c.args.typing.now
+    → TypingGoesOn c.self.inside.looks.items r r.len c.args.typing.now
     → Grown (shared c.self.inside.bytes.items c.self.inside.looks.items c.self.inside.singles.items)
     (all_ops (shared c.self.inside.bytes.items c.self.inside.looks.items c.self.inside.singles.items) (before ++ Typed r ∷ []))
     c.append.new.bytes.items before r (r.len + length c.args.bytes.now) c.self.inside.firsts.items

@@ -5,7 +5,7 @@ use Rattle.op_log.specs.declared.TheConstants.{MAX_OPS}
 use Rattle.op_log.specs.declared.stretch.Stretch.{Stretch}
 use Rattle.op_log.specs.declared.stretch.Stretch.TheVariants.{Single}
 use Rattle.op_log.specs.Seen.{OpsSeen}
-use Rattle.op_log.specs.Stretches.{AreStretches, IsThere, Shared, all_ops, ops_of, shared}
+use Rattle.op_log.specs.Stretches.{AreStretches, IsStretchThere, Shared, all_ops, ops_of, shared}
 use Rattle.op_log.proofs.Stretches.{Extends, alone_ops, pushed_are, pushed_ops}
 use Rattle.op_log.proofs.op_list.OpList.push_single.Goals as goal
 use Rattle.op_log.proofs.op_list.OpList.push_single.Goals.{After-push_reserved-2}
@@ -26,7 +26,7 @@ grows c = record {
 number : (c : After-push_reserved-2) → c.len.result ≡ length c.self.inside.singles.items
 number c = omega (arith, c.len.ensures, c.self.inside.singles.ok.0)
 
-there : (c : After-push_reserved-2) → IsThere (now c) (Single c.len.result)
+there : (c : After-push_reserved-2) → IsStretchThere (now c) (Single c.len.result)
 there c =
     omega (arith, number c, ap length c.push_reserved.ensures.items, length-append c.self.inside.singles.items (c.args.op ∷ []))
 

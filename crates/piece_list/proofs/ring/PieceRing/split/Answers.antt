@@ -2,7 +2,7 @@ use Rattle.std.proofs.Common.{◌≡◌, ◌<◌, Some, sym, subst, ap, ◌∙�
 use Rattle.piece_raw.specs.Ring.{Ring, IsMember, IsPushed, with_value}
 use Rattle.piece_list.specs.declared.record.PieceRecord.{PieceRecord}
 use Rattle.piece_list.specs.Piece.{Piece}
-use Rattle.piece_list.specs.Pieces.{IsPiece, front_of, rest_of}
+use Rattle.piece_list.specs.Pieces.{IsPiece, piece_front, rest_of}
 use Rattle.piece_list.specs.Values.{IsWithin, Values, piece_in, pieces_in}
 use Rattle.piece_list.proofs.Positions.{Items}
 use Rattle.piece_list.proofs.Recorded.{Records, at_cursor, cut_within, member_on, member_within, pushed_on, pushed_within}
@@ -84,7 +84,7 @@ returns-clause-split c =
     pushed_on (piece_in v) (with_value c.args.number c.split_off-rest.new.self records) c.push_after.new.self.items
     (Some c.args.number) c.in-Ok.new c.split_off-rest.result (pushed (goal.at.returns-clause-split c).In-Ok) in
     let front : pieces_in v (with_value c.args.number c.split_off-rest.new.self records)
-    ≡ with_value c.args.number (front_of c.args.n p) (pieces_in v records) =
+    ≡ with_value c.args.number (piece_front c.args.n p) (pieces_in v records) =
     written_on (piece_in v) c.args.number c.split_off-rest.new.self records
     ∙ ap (λ (f : PieceRecord). with_value c.args.number (piece_in v f) (pieces_in v records)) c.split_off-rest.ensures.front in
     rw (← c.self.view_is) (

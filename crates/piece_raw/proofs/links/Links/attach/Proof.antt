@@ -18,7 +18,7 @@ use denote.Signature.{plain}
 use denote.Steps.{opens, closes}
 use Rattle.std.proofs.VecSteps.Shapes.{after}
 use Rattle.std.proofs.RcSteps.{word, word-Good}
-use Rattle.piece_raw.specs.Linked.{linked, same_ptr, last_from, places, round, IsApart, IsSplit, IsOn}
+use Rattle.piece_raw.specs.Linked.{linked, same_ptr, last_from, places, round, IsApart, IsSplitAfter, IsOn}
 use Rattle.piece_raw.specs.Ownership.{link_room, edge, path, values_own}
 use Rattle.piece_raw.proofs.Splits.{first_of_push, all_left}
 use Rattle.piece_raw.proofs.Apart.{IsFresh, places_joined, apart_attached}
@@ -34,7 +34,7 @@ attach_spec 𝓤 𝓛 𝓜 𝓡 wired X LX y =
     let E : Of = record { row = X; laws = LX } in
     let T = 𝓣 𝓛 𝓜 𝓡 in let e : Fn = inst_fn (args E) code.function in
     changes E (plain (λ _. Dt E) ∷ []) (plain (λ _. unit)) 𝓛 𝓜 𝓡 (λ d head. IsOn d.trailer d.nodes head.ptr)
-    (λ κs d head a r new. (xs : List (Member E)) × (ys : List (Member E)) × IsSplit d.trailer d.nodes head.ptr xs ys
+    (λ κs d head a r new. (xs : List (Member E)) × (ys : List (Member E)) × IsSplitAfter d.trailer d.nodes head.ptr xs ys
     × (new.nodes ≡ xs ++ linked a.0.ptr a.0.value ∷ ys)) ((λ κs x f. tt), tt) (λ κs a. (tt, tt))
     (#self (args E)) e (code.unfolded 𝓤 𝓛.H 𝓜 𝓡 wired (X, tt)) (λ κs q links head a vss Post asked exits.
     let d = links.now in let rb = links.ref_ptr.0 in let ro = links.ref_ptr.1 in let node = a.0 in

@@ -4,7 +4,7 @@ use Rattle.std.proofs.lemmas.List.{length-map, map-append}
 use denote.RawPtr.{Ptr}
 use Rattle.piece_raw.specs.declared.nodes.Member.{Member}
 use Rattle.piece_raw.specs.Linked.{Linked, linked}
-use Rattle.piece_raw.specs.Tied.{Held, members, stop_of, spots, IsBlock, IsHeld, Matches}
+use Rattle.piece_raw.specs.Tied.{Held, members, stop_of, spots, IsBlock, HoldsMember, Matches}
 use Rattle.piece_raw.proofs.Splits.{all_left, all_both}
 use Rattle.piece_raw.proofs.Matching.{split_after, places_last, last_is, last_tag-members, members-append}
 use Rattle.piece_raw.proofs.Matching.{members-cons, Matches-pushed}
@@ -61,8 +61,8 @@ returns-clause-members g c =
       members put.0,
       members put.1,
       ap members put.2.0 ∙ members-append put.0 put.1,
-      last_tag-members ps l.trailer tied.trailer_empty put.0 (all_left (IsHeld ps)
-          put.0 put.1 (subst (AllByRecursion (IsHeld ps)) put.2.0 tied.matches.held)) ∙ ap stop_of last ∙ s,
+      last_tag-members ps l.trailer tied.trailer_empty put.0 (all_left (HoldsMember ps)
+          put.0 put.1 (subst (AllByRecursion (HoldsMember ps)) put.2.0 tied.matches.held)) ∙ ap stop_of last ∙ s,
       ap members put.3 ∙ members-append put.0 (new ∷ put.1) ∙
           ap (λ k. members put.0 ++ k) (members-cons new m put.1 c.fill-node.ensures.1),
     )

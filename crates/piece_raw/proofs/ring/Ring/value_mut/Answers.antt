@@ -2,7 +2,7 @@ use Rattle.std.proofs.Common.{◌≡◌, ◌∷◌, Some, refl, sym, ap, ◌∙�
 use denote.RawPtr.{Ptr}
 use Rattle.piece_raw.specs.Linked.{set_value}
 use Rattle.piece_raw.specs.Ring.{ring, IsMember, with_value, with_value_at}
-use Rattle.piece_raw.specs.Spares.{room_of}
+use Rattle.piece_raw.specs.Spares.{ring_room}
 use Rattle.piece_raw.specs.Tied.{members, spots, IsStop, Matches, all_nodes}
 use Rattle.piece_raw.proofs.Apart.{apart_places}
 use Rattle.piece_raw.proofs.Standing.{among, stops, is_member, of_stop, some_of}
@@ -72,7 +72,7 @@ returns g c =
     rw (← c.self.view_is) (
       (
         refl,
-        λ w. rw c.in-Some.is (λ i. ring (put w i) c.self.inside.cursor (room_of n.table
+        λ w. rw c.in-Some.is (λ i. ring (put w i) c.self.inside.cursor (ring_room n.table
             c.self.inside.spare)),
       ),
       record {

@@ -1,6 +1,6 @@
 use Rattle.std.proofs.Common.{◌≡◌, ℕ, ◌+◌, ◌-◌, ◌++◌, IsTrue, length, take, drop, ap, subst, ◌∙◌, arith}
 use Rattle.std.proofs.lemmas.List.{take_rest}
-use Rattle.rank_index.specs.Keyed.{AreAbove, IsPassed, last_from}
+use Rattle.rank_index.specs.Keyed.{AreAbove, IsPassed, last_tag_from}
 use Rattle.rank_index.proofs.ChunkSlot.{slot_within}
 use Rattle.rank_index.proofs.Keyed.{rest_after}
 use Rattle.rank_index.proofs.Tagged.{Members}
@@ -30,5 +30,5 @@ returns c =
       subst (λ (l : Members). IsTrue c.pass.result.1
           → (more : Members) → IsPassed c.args.keys.now c.args.key (l ++ more) c.args.tag c.pass.result.0) rest c.pass.ensures.stops,
       λ goes. let (above, last) = c.pass.ensures.all goes in
-          (subst (AreAbove c.args.keys.now c.args.key) rest above, last ∙ ap (last_from c.args.tag) rest),
+          (subst (AreAbove c.args.keys.now c.args.key) rest above, last ∙ ap (last_tag_from c.args.tag) rest),
     )

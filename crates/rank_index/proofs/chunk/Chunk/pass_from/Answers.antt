@@ -1,6 +1,6 @@
 use Rattle.std.proofs.Common.{◌++◌, IsTrue, length, ap, subst, ◌∙◌, arith}
 use Rattle.std.proofs.lemmas.List.{take_all}
-use Rattle.rank_index.specs.Keyed.{AreAbove, IsPassed, last_from}
+use Rattle.rank_index.specs.Keyed.{AreAbove, IsPassed, last_tag_from}
 use Rattle.rank_index.proofs.Keyed.{above_least}
 use Rattle.rank_index.proofs.Tagged.{Members}
 use Rattle.rank_index.proofs.chunk.Chunk.pass_from.Goals as goal
@@ -10,7 +10,7 @@ returns-then-key-least-clause-all c = λ goes. (
   above_least c.args.keys.now c.args.key c.args.self.now.members
       (omega (arith, c.if-key-least.true, c.least.ensures, c.requires)),
   c.last_of.ensures
-      ∙ ap (last_from c.args.tag) (take_all (length c.members-members.result.now) c.members-members.result.now (omega arith)
+      ∙ ap (last_tag_from c.args.tag) (take_all (length c.members-members.result.now) c.members-members.result.now (omega arith)
       ∙ c.members-members.ensures.members),
 )
 
@@ -24,5 +24,5 @@ pub returns-clause-all : goal.returns-clause-all
 returns-clause-all c = λ goes.
     let (above, last) = c.pass.ensures.all goes in (
       subst (AreAbove c.args.keys.now c.args.key) c.members-members.ensures.members above,
-      last ∙ ap (last_from c.args.tag) c.members-members.ensures.members,
+      last ∙ ap (last_tag_from c.args.tag) c.members-members.ensures.members,
     )

@@ -3,7 +3,7 @@ use Rattle.std.specs.List.{prefix_len}
 use Rattle.std.proofs.lemmas.List.{length-map}
 use Rattle.char_files.specs.Stretch.{Item}
 use Rattle.reader_scanner.specs.declared.token.Token.{Token}
-use Rattle.reader_scanner.specs.ReaderState.{ReaderState, bytes_of, bytes_from}
+use Rattle.reader_scanner.specs.ReaderState.{ReaderState, item_bytes, bytes_from}
 use Rattle.reader_scanner.specs.Tokens.{IsTokenAt, is_blank}
 use Rattle.reader_scanner.proofs.OneToken.{scanned}
 use Rattle.reader_scanner.proofs.Stretches.{stretch_within}
@@ -26,11 +26,11 @@ returns-clause-token g c =
       end = c.lexeme_at-lexeme.result.end;
       value = c.lexeme_at-lexeme.result.value;
     } in
-    let len : c.len.result ≡ length (bytes_of items) =
+    let len : c.len.result ≡ length (item_bytes items) =
     c.len.ensures ∙ sym (length-map items (λ (i : Item). i.0)) in
-    let from : c.min-from.result ≡ min c.self.inside.pos (length (bytes_of items)) =
+    let from : c.min-from.result ≡ min c.self.inside.pos (length (item_bytes items)) =
     c.min-from.ensures ∙ ap (λ (n : ℕ). min c.self.inside.pos n) len in
-    let inner : IsTokenAt (bytes_of items) c.self.inside.pos token =
-    scanned (bytes_of items) c.self.inside.pos c.min-from.result token from c.stretch_end-beg.ensures.end
+    let inner : IsTokenAt (item_bytes items) c.self.inside.pos token =
+    scanned (item_bytes items) c.self.inside.pos c.min-from.result token from c.stretch_end-beg.ensures.end
     c.lexeme_at-lexeme.ensures.value c.lexeme_at-lexeme.ensures.end in
-    subst (λ (p : ReaderState). IsTokenAt (bytes_of p.items) p.pos token) c.self.view_is inner
+    subst (λ (p : ReaderState). IsTokenAt (item_bytes p.items) p.pos token) c.self.view_is inner

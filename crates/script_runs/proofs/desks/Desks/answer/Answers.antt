@@ -8,7 +8,7 @@ use Rattle.script_events.specs.EventView.{event_of}
 use Rattle.script_events.specs.Script.{event_in}
 use Rattle.script_runs.specs.Answers.{refused_line}
 use Rattle.script_runs.specs.Seen.{SitesSeen, sent_after, texts_of}
-use Rattle.script_runs.specs.Sent.{message_at, messages_at}
+use Rattle.script_runs.specs.Sent.{messages_at, sent_message}
 use Rattle.script_runs.specs.Trace.{is_silent}
 use Rattle.script_runs.proofs.Replying.{line_over, lines_after, silent_over, stepped_over, unknown_step}
 use Rattle.script_runs.proofs.desks.Desks.answer.Goals as goal
@@ -23,7 +23,7 @@ returns-in-Some g c =
     let count : c.len.result ≡ length s.desks = omega (arith, c.len.ensures, c.self.inside.desks.ok, ap (λ (x : SitesSeen). length x.desks) c.self.view_is) in
     let asked : event_of c.in-Some.event ≡ event_in s.first (length s.desks) line = rw (first, count) at c.in-Some.ensures.event in
     let before = messages_at (texts_of s) c.args.noted.now in
-    let all : length c.args.noted.now ≡ length before = sym (length-map c.args.noted.now (message_at (texts_of s))) in
+    let all : length c.args.noted.now ≡ length before = sym (length-map c.args.noted.now (sent_message (texts_of s))) in
     let held : c.len-from.result ≡ length s.sent = c.len-from.ensures ∙ ap (λ (x : SitesSeen). length x.sent) c.self.view_is in
     let after : c.self-in-Some.inside.outbox ≡ new.sent = ap (λ (x : SitesSeen). x.sent) c.self-in-Some.view_is in
     let lines = lines_after before s new (length c.args.noted.now) c.len-from.result all held c.step-reply.result in

@@ -2,7 +2,7 @@ use Rattle.std.proofs.Common.{◌≡◌, ◌∷◌, ◌++◌, [], ℕ, List, Som
 use Rattle.std.specs.Prelude.{slice_get}
 use Rattle.std.proofs.lemmas.List.Elements.{All-push}
 use Rattle.script_runs.specs.Seen.{SitesSeen, texts_of}
-use Rattle.script_runs.specs.Sent.{IsHeld}
+use Rattle.script_runs.specs.Sent.{IsSentOperation}
 use Rattle.script_runs.specs.declared.sent_at.SentAt.{SentAt}
 use Rattle.script_runs.proofs.Sending.{note_more}
 use Rattle.script_runs.proofs.desks.Desks.note_each.Goals as goal
@@ -17,6 +17,6 @@ loop-index-preserved c =
     let there = subst (λ (l : List (List ℕ)). slice_get l c.loop-index.index ≡ Some message) (ap (λ (x : SitesSeen). x.sent) c.self.view_is) c.message.ensures in (
       more ++ at ∷ [],
       c.in-Ok.ensures.items ∙ ap (λ (l : List SentAt). l ++ at ∷ []) is ∙ append_assoc c.args.noted.now.items more (at ∷ []),
-      All-push (IsHeld desks) more at held (op, stands, valid),
+      All-push (IsSentOperation desks) more at held (op, stands, valid),
       note_more desks c.args.self.now.sent c.loop-index.index message more at there all (op, stands, valid, spelled),
     )

@@ -1,7 +1,7 @@
 use Rattle.std.proofs.Common.{List, ℕ, subst, sym}
 use Rattle.commands.specs.Steps.{IsTakeStep}
 use Rattle.script_runs.specs.Seen.{SitesSeen, sent_after, texts_of}
-use Rattle.script_runs.specs.Sent.{message_at}
+use Rattle.script_runs.specs.Sent.{sent_message}
 use Rattle.script_runs.proofs.Keeping.{told_at}
 use Rattle.script_runs.proofs.Sending.{refused_noted}
 use Rattle.script_runs.proofs.Standing.{desk_read, replied_take}
@@ -26,4 +26,4 @@ returns c =
     let stands = rw (← c.self.view_is) at c.in_ok-op.ensures.ok in
     let taken = subst (λ (message : List ℕ). IsTakeStep d c.args.text message c.take_op.result c.take_op.new.self) (sym (told_at (texts_of s) c.args.at.now c.in_ok-op.op stands)) c.take_op.ensures in
     rw (← c.self.view_is)
-    (λ before told is. replied_take (sent_after before s) c.args.desk d at c.args.text told (message_at (texts_of s) c.args.at.now) c.take_op.result c.take_op.new.self is taken)
+    (λ before told is. replied_take (sent_after before s) c.args.desk d at c.args.text told (sent_message (texts_of s) c.args.at.now) c.take_op.result c.take_op.new.self is taken)

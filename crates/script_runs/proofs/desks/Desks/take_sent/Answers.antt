@@ -4,7 +4,7 @@ use Rattle.std.proofs.lemmas.List.{length-map}
 use Rattle.std.proofs.lemmas.Option.{slice_get_read}
 use Rattle.machine.specs.Events.{sent, take, take_reply}
 use Rattle.script_runs.specs.Seen.{Replied, sent_after, texts_of}
-use Rattle.script_runs.specs.Sent.{IsHeld, message_at, messages_at}
+use Rattle.script_runs.specs.Sent.{IsSentOperation, messages_at, sent_message}
 use Rattle.script_runs.proofs.Sending.{noted_sent}
 use Rattle.script_runs.proofs.Standing.{unsent_still}
 use Rattle.script_runs.proofs.desks.Desks.take_sent.Goals as goal
@@ -17,7 +17,7 @@ returns-then-k-eq0 c =
 pub take_noted-requires-clause-held : goal.take_noted-requires-clause-held
 take_noted-requires-clause-held c =
     let at = c.index-noted-k.result in
-    subst (IsHeld (texts_of c.args.self.now)) (sym c.index-noted-k.is) (c.requires.held (c.args.k - 1) at (omega (arith, c.if-k-noted.true, c.if-k-eq0.false)))
+    subst (IsSentOperation (texts_of c.args.self.now)) (sym c.index-noted-k.is) (c.requires.held (c.args.k - 1) at (omega (arith, c.if-k-noted.true, c.if-k-eq0.false)))
 
 pub returns-then-k-noted : goal.returns-then-k-noted
 returns-then-k-noted c =
@@ -35,6 +35,6 @@ returns-else-k-noted c =
     let noted = c.args.noted.now in
     let before = messages_at (texts_of s) noted in
     let number : length before + (c.args.k - 1 - length noted) + 1 ≡ c.args.k =
-    omega (arith, length-map noted (message_at (texts_of s)), c.if-k-noted.false, c.if-k-eq0.false) in
+    omega (arith, length-map noted (sent_message (texts_of s)), c.if-k-noted.false, c.if-k-eq0.false) in
     subst (λ (k : ℕ). Replied (sent_after before s) (take c.args.desk c.args.text (sent k)) (take_reply c.take_held.result) (sent_after before c.take_held.new.self)) number
     (c.take_held.ensures before)

@@ -3,7 +3,7 @@ use Rattle.std.proofs.lemmas.List.Elements.{All-nil}
 use Rattle.shelf.specs.Files.{Files}
 use Rattle.machine.specs.State.{State}
 use Rattle.script_runs.specs.Seen.{sent_after, state_of, texts_of}
-use Rattle.script_runs.specs.Sent.{AreHeld, AreSound, IsHeld, messages_at}
+use Rattle.script_runs.specs.Sent.{AreSentOperations, AreSound, IsSentOperation, messages_at}
 use Rattle.script_runs.proofs.Keeping.{new_sound}
 use Rattle.script_runs.proofs.sites.Sites.new.Goals as goal
 
@@ -15,7 +15,7 @@ invariant_of-result c =
     let asked = c.args.settings in
     let desks = texts_of c.in_ok-desks.desks in
     let new = c.in_ok-desks.ensures.ok no_files in (
-      subst (AreHeld desks) (sym c.new-sent.ensures.items) (All-nil (IsHeld desks)),
+      subst (AreSentOperations desks) (sym c.new-sent.ensures.items) (All-nil (IsSentOperation desks)),
       subst AreSound (sym (ap (λ (s : State). s.desks) new)) (new_sound asked.first asked.count asked.width asked.height no_files),
     )
 

@@ -2,7 +2,7 @@ use Rattle.std.proofs.Common.{◌≡◌, ◌<◌, ◌∷◌, List, Option, Some,
 use Rattle.std.proofs.lemmas.Grind.{common_steps}
 use Rattle.std.proofs.lemmas.List.Elements.{All-head}
 use Rattle.std.specs.Iterator.{YieldsFirst}
-use Rattle.char_files.specs.CharFiles.{Files}
+use Rattle.char_files.specs.CharFiles.{FilesBySite}
 use Rattle.char_files.specs.declared.character.Char.{Char}
 use Rattle.piece_list.specs.declared.run.Run.{Run}
 use Rattle.taken_text.specs.Shown.{AreInFiles, IsInFile, chars_of_runs, runs_left}
@@ -36,16 +36,16 @@ reads_on c =
 
 pub invariant_of-self-2 : goal.invariant_of-self-2
 invariant_of-self-2 c =
-    let files : Files = c.self.inside.files.now in
+    let files : FilesBySite = c.self.inside.files.now in
     let rest : List Run = c.self.inside.walk in
     let all : AreInFiles files (c.in_ok-run.run' ∷ rest) =
     subst (λ (o : Option Run). AreInFiles files (runs_left o rest)) (was c) c.self.invariant in
-    subst (λ (f : Files). AreInFiles f (runs_left c.if-run-gt0.self c.if-run-gt0.self-inside.walk)) (sym (files_stay c))
+    subst (λ (f : FilesBySite). AreInFiles f (runs_left c.if-run-gt0.self c.if-run-gt0.self-inside.walk)) (sym (files_stay c))
     (left_in_files files c.in_ok-run.run' rest c.if-run-gt0.self c.if-run-gt0.self-inside.walk (reads_on c) all)
 
 pub returns-clause-steps : goal.returns-clause-steps
 returns-clause-steps c =
-    let files : Files = c.self.inside.files.now in
+    let files : FilesBySite = c.self.inside.files.now in
     let rest : List Run = c.self.inside.walk in
     let next : Option Run = c.if-run-gt0.self in
     let after : List Run = c.if-run-gt0.self-inside.walk in
@@ -56,7 +56,7 @@ returns-clause-steps c =
     ∙ ap (λ (o : Option Run). chars_of_runs files (runs_left o rest)) (was c)
     ∙ first_and_rest files c.in_ok-run.run' rest next after here.some (reads_on c)
     ∙ ap (λ (a : Char). a ∷ chars_of_runs files (runs_left next after)) (sym c.first_of-char.ensures)
-    ∙ ap (λ (f : Files). c.first_of-char.result ∷ chars_of_runs f (runs_left next after)) (sym (files_stay c))
+    ∙ ap (λ (f : FilesBySite). c.first_of-char.result ∷ chars_of_runs f (runs_left next after)) (sym (files_stay c))
 
 pub returns-clause-goes : goal.returns-clause-goes
 returns-clause-goes c =

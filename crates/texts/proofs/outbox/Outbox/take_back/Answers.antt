@@ -1,7 +1,7 @@
 use Rattle.std.proofs.Common.{◌≡◌, ◌<◌, ◌-◌, ◌++◌, ◌∷◌, [], ℕ, List, Option, length, sym, ap, refl, subst, arith, ◌∙◌, slice_index_or}
 use Rattle.std.proofs.lemmas.List.{same_from_push}
 use Rattle.std.specs.Prelude.{option_to_list, slice_range, take}
-use Rattle.texts.specs.Parts.{AreEnds, beg_of, parts}
+use Rattle.texts.specs.Parts.{AreEnds, part_beg, parts}
 use Rattle.texts.proofs.Parts.{has_end, part_less}
 use Rattle.texts.proofs.outbox.Outbox.take_back.Goals as goal
 
@@ -17,13 +17,13 @@ others c =
     let last = slice_index_or v.ends.items (v.ends.len - 1) 0 in
     let ends : v.ends.items ≡ left ++ last ∷ [] =
     c.pop.ensures.items ∙ ap (λ (popped : Option ℕ). left ++ option_to_list popped) (c.pop.ensures.value 0 some) in
-    let beg : c.beg_of.result ≡ beg_of left (length left) =
+    let beg : c.beg_of.result ≡ part_beg left (length left) =
     rw (c.beg_of.ensures, c.as_slice-ends.ensures.value) refl in
-    let cut : c.truncate.new.self.items ≡ take (beg_of left (length left)) v.bytes.items =
+    let cut : c.truncate.new.self.items ≡ take (part_beg left (length left)) v.bytes.items =
     c.truncate.ensures.items ∙ ap (λ (beg : ℕ). take beg v.bytes.items) beg in
     let (are, parted) = part_less v.bytes.items left last
     (subst (λ (ends : List ℕ). AreEnds 0 ends (length v.bytes.items)) ends c.self.invariant) in
-    let part = slice_range v.bytes.items (beg_of left (length left)) last in (
+    let part = slice_range v.bytes.items (part_beg left (length left)) last in (
       subst (λ (bytes : List ℕ). AreEnds 0 left (length bytes)) (sym cut) are,
       (
         part,

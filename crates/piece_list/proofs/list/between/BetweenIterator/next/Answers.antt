@@ -2,7 +2,7 @@ use Rattle.std.proofs.Common.{rules, ◌≡◌, ◌<◌, ◌≤◌, ℕ, ◌-◌
 use Rattle.std.proofs.lemmas.Grind.{common_steps}
 use Rattle.piece_list.specs.declared.run.Run.{Run}
 use Rattle.piece_list.specs.declared.list.between.Between.TheInside.{Inside}
-use Rattle.piece_list.specs.RunSplits.{first_chars, with_first}
+use Rattle.piece_list.specs.RunSplits.{first_chars, with_first_run}
 use Rattle.piece_list.proofs.RunSplits.{none_wanted, reads_one, is_split, is_whole, run_to}
 use Rattle.piece_list.proofs.list.between.BetweenIterator.next.Goals.{in-Some, in-None+in_ok-run-in-None}
 use Rattle.piece_list.proofs.list.between.BetweenIterator.next.Goals.{then-self-from, else-self-from}
@@ -10,7 +10,7 @@ use Rattle.piece_list.proofs.list.between.BetweenIterator.next.Goals as goal
 
 pub returns-then-self-eq0-clause-steps : goal.returns-then-self-eq0-clause-steps
 returns-then-self-eq0-clause-steps c =
-    let runs : List Run = with_first c.self.inside.first c.self.inside.walk in
+    let runs : List Run = with_first_run c.self.inside.first c.self.inside.walk in
     let zero : c.self.inside.left ≡ 0 = omega (arith, c.if-self-eq0.true) in
     let none : c.args.self.now ≡ [] =
     sym c.self.view_is ∙ ap (λ (n : ℕ). first_chars n runs) zero ∙ none_wanted runs in
@@ -18,7 +18,7 @@ returns-then-self-eq0-clause-steps c =
 
 -- what is left of a value's runs, the front run among them
 abbrev runs_of : Inside → List Run
-runs_of s = with_first s.first s.walk
+runs_of s = with_first_run s.first s.walk
 
 left_stays : (c : goal.After-self-1) → c.match-take.self-inside.left ≡ c.self.inside.left
 left_stays c =
@@ -32,15 +32,15 @@ is_first : (c : goal.After-self-1) → runs_of c.self.inside ≡ c.match-take.ru
 is_first c =
     elim c.match-take.branch [
       | in-Some w ↦
-          ap (λ (o : Option Run). with_first o c.self.inside.walk) (sym w.in-Some.ensures.value)
+          ap (λ (o : Option Run). with_first_run o c.self.inside.walk) (sym w.in-Some.ensures.value)
           ∙ ap (λ (r : Run). r ∷ c.self.inside.walk) (sym w.run-is)
-          ∙ ap (λ (o : Option Run). c.match-take.run ∷ with_first o c.self.inside.walk) (sym c.take.ensures.after)
+          ∙ ap (λ (o : Option Run). c.match-take.run ∷ with_first_run o c.self.inside.walk) (sym c.take.ensures.after)
           ∙ ap (λ (s : Inside). c.match-take.run ∷ runs_of s) (sym w.self-inside-is)
       | in-None+in_ok-run-in-None w ↦
-          ap (λ (o : Option Run). with_first o c.self.inside.walk) (sym w.in-None.ensures.value)
+          ap (λ (o : Option Run). with_first_run o c.self.inside.walk) (sym w.in-None.ensures.value)
           ∙ w.in_ok-run-in-None.ensures.steps
           ∙ ap (λ (r : Run). r ∷ w.next.new.self) (sym w.run-is)
-          ∙ ap (λ (o : Option Run). c.match-take.run ∷ with_first o w.next.new.self) (sym c.take.ensures.after)
+          ∙ ap (λ (o : Option Run). c.match-take.run ∷ with_first_run o w.next.new.self) (sym c.take.ensures.after)
           ∙ ap (λ (s : Inside). c.match-take.run ∷ runs_of s) (sym w.self-inside-is)
     ]
 

@@ -9,7 +9,7 @@ use Rattle.piece_raw.specs.Ring.{IsMember, with_value}
 use Rattle.piece_list.specs.Piece.{Piece}
 use Rattle.piece_list.specs.Changing.{AreTheSame, IsNextEdge, changed_char, changed_piece}
 use Rattle.piece_list.specs.Held.{AreHeld}
-use Rattle.piece_list.specs.Noted.{AreNoted, kind_of}
+use Rattle.piece_list.specs.Noted.{AreNoted, setting_kind}
 use Rattle.piece_list.specs.Pieces.{range_of}
 use Rattle.piece_list.specs.Spelled.{spelled}
 use Rattle.piece_list.proofs.ChangedNames.{true_is_not}
@@ -145,7 +145,7 @@ returns-clause-noted c =
                 (c.change-shows_other.ensures.changed.3 o.if-shows_other.true).1 rank
                 (ap (λ n. n.items) o.note-is ∙ insert
                 ∙ ap (λ (kind : ChangeKind). c.args.note.now.items ++ entry kind c.len-len.result ∷ []) o.kind.ensures
-                ∙ ap (λ (n : ℕ). c.args.note.now.items ++ entry (kind_of c.args.setting.now) n ∷ []) (len at));
+                ∙ ap (λ (n : ℕ). c.args.note.now.items ++ entry (setting_kind c.args.setting.now) n ∷ []) (len at));
             grows = omega (arith, ap vec_len o.note-is, o.enter.ensures.len);
             few = omega (arith, ap vec_len o.note-is, o.enter.ensures.len);
             spent = spent_turn items c.in-Some.tag v w c.self.invariant.numbered c.args.setting.now c.args.note.now

@@ -2,7 +2,7 @@ use Rattle.std.proofs.Common.{◌≡◌, ℕ, ◌+◌, ◌-◌, ◌<◌, ◌≤�
 use Rattle.char_files.specs.CharName.{CharName}
 use Rattle.operations.specs.NameSet.{IsIn, Range}
 use Rattle.tree_order.specs.Registers.{Atom, if_named}
-use Rattle.piece_list.specs.Changing.{AreTheSame, IsEdge, changed_char, key_of}
+use Rattle.piece_list.specs.Changing.{AreTheSame, IsEdge, changed_char, setting_key}
 use Rattle.piece_list.specs.Noted.{AreNoted}
 use Rattle.piece_list.specs.Spelled.{spelled}
 use Rattle.piece_list.proofs.Below.{below_stays, piece_below}
@@ -60,8 +60,8 @@ change_piece-at-requires-clause-below c =
     let to : name.off < end = omega (arith, off, c.loop-at-test.true) in
     let begins : IsEdge name.site name.off items =
     subst (λ (o : ℕ). IsEdge name.site o items) (sym off) (subst (λ (s : ℕ). IsEdge s c.loop-at.at items) (sym site) c.loop-at.invariant.begins) in
-    piece_below (key_of c.args.setting.now) r items name end
-    (below_stays (key_of c.args.setting.now) c.args.setting.now (range r.site r.at (c.loop-at.at - r.at) ∷ []) (r ∷ [])
+    piece_below (setting_key c.args.setting.now) r items name end
+    (below_stays (setting_key c.args.setting.now) c.args.setting.now (range r.site r.at (c.loop-at.at - r.at) ∷ []) (r ∷ [])
     (spelled c.args.self.now.items) (spelled items) c.requires.below c.loop-at.invariant.changed)
     site from to c.loop-at.invariant.end begins c.loop-at.invariant.ends
 

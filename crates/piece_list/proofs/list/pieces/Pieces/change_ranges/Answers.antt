@@ -1,7 +1,7 @@
 use Rattle.std.proofs.Common.{◌≡◌, ℕ, List, [], ◌∷◌, map, take, sym, ap, subst, ◌∙◌, arith, refl}
 use Rattle.operations.specs.NameSet.{Range}
 use Rattle.tree_order.specs.Registers.{Atom, if_named}
-use Rattle.piece_list.specs.Changing.{changed_char, key_of, IsEdge}
+use Rattle.piece_list.specs.Changing.{changed_char, setting_key, IsEdge}
 use Rattle.piece_list.specs.Spelled.{spelled}
 use Rattle.piece_list.proofs.Below.{below_stays}
 use Rattle.piece_list.proofs.Noted.{range_among}
@@ -37,7 +37,7 @@ change_range-requires-clause-below c =
     let spells = c.split_across-in-loop-range.ensures.split.spells ∙ c.split_across.ensures.split.spells
     ∙ c.loop-range.invariant.changed in
     λ k has held.
-    below_stays (key_of c.args.setting.now) c.args.setting.now (take i ranges) ranges (spelled c.args.self.now.items)
+    below_stays (setting_key c.args.setting.now) c.args.setting.now (take i ranges) ranges (spelled c.args.self.now.items)
     (spelled c.split_across-in-loop-range.new.self.items) c.requires.below spells k has
     (range_among ranges i c.range-item.result k.name c.loop-range-test.true c.range-item.is held)
 

@@ -2,10 +2,10 @@ use Rattle.std.proofs.Common.{◌≡◌, ℕ, ◌+◌, ◌-◌, ◌<◌, Some, r
 use Rattle.piece_raw.specs.Ring.{IsPushed, with_value}
 use Rattle.rank_index.specs.Ranked.{weight_of}
 use Rattle.rank_index.proofs.Tagged.{tags_pushed}
-use Rattle.piece_list.specs.Numbers.{AreKeyed, number_of}
+use Rattle.piece_list.specs.Numbers.{AreKeyed, key_number}
 use Rattle.piece_list.specs.Piece.{Piece}
 use Rattle.piece_list.specs.Held.{IsSplit}
-use Rattle.piece_list.specs.Pieces.{IsPiece, range_of, front_of, rest_of}
+use Rattle.piece_list.specs.Pieces.{IsPiece, range_of, piece_front, rest_of}
 use Rattle.piece_list.proofs.SplitList.{is_piece, is_within, rest_fits, split_made, split_entered, split_spot}
 use Rattle.piece_list.proofs.Splitting.{written_tags, as_many}
 use Rattle.piece_list.proofs.Entered.{filled_inside, filled_outside}
@@ -45,12 +45,12 @@ rest_is c =
     ∙ ap (made v.site v.off) c.len.ensures
 
 -- the rest is inserted after the front
-pushed : (c : After-split-number) → IsPushed (with_value c.args.tag (front_of c.args.n c.piece_at-whole.result) c.self.inside.ring.items)
+pushed : (c : After-split-number) → IsPushed (with_value c.args.tag (piece_front c.args.n c.piece_at-whole.result) c.self.inside.ring.items)
     (Some c.args.tag) c.split-number.result (rest_of c.args.n c.piece_at-whole.result) c.split-number.new.self.items
 pushed c =
     let items : Items = c.self.inside.ring.items in
     let (p, held, made) = c.split-number.ensures.split in
-    subst (λ (q : Piece). IsPushed (with_value c.args.tag (front_of c.args.n q) items) (Some c.args.tag) c.split-number.result
+    subst (λ (q : Piece). IsPushed (with_value c.args.tag (piece_front c.args.n q) items) (Some c.args.tag) c.split-number.result
     (rest_of c.args.n q) c.split-number.new.self.items)
     (one_value items c.self.invariant.numbered c.args.tag p c.piece_at-whole.result held c.piece_at-whole.ensures) made
 
@@ -86,7 +86,7 @@ pub set_weight-requires-clause-total : goal.set_weight-requires-clause-total
 set_weight-requires-clause-total c =
     let at : After-shown_of-after = (goal.at.set_weight-requires-clause-total c).After-shown_of-after in
     let fits = split_fits c.self.inside.ring.items c.self.inside.tags c.self.inside.index.items c.args.tag c.args.n
-    c.shown_of-before.result c.shown_of-after.result c.piece_at-whole.result (front_of c.args.n c.piece_at-whole.result)
+    c.shown_of-before.result c.shown_of-after.result c.piece_at-whole.result (piece_front c.args.n c.piece_at-whole.result)
     (rest at) c.self.invariant.numbered c.self.invariant.entered c.self.invariant.indexed c.piece_at-whole.ensures
     (within (goal.at.set_weight-requires-clause-total c).After-piece_at-whole) refl (rest_is at) c.shown_of-before.ensures
     c.shown_of-after.ensures in
@@ -96,7 +96,7 @@ pub insert_after-requires-clause-total : goal.insert_after-requires-clause-total
 insert_after-requires-clause-total c =
     let at : After-shown_of-after = (goal.at.insert_after-requires-clause-total c).After-shown_of-after in
     let fits = split_rest_fits c.self.inside.ring.items c.self.inside.tags c.self.inside.index.items c.args.tag c.args.n
-    c.shown_of-before.result c.shown_of-after.result c.piece_at-whole.result (front_of c.args.n c.piece_at-whole.result)
+    c.shown_of-before.result c.shown_of-after.result c.piece_at-whole.result (piece_front c.args.n c.piece_at-whole.result)
     (rest at) c.self.invariant.numbered c.self.invariant.entered c.self.invariant.indexed c.piece_at-whole.ensures
     (within (goal.at.insert_after-requires-clause-total c).After-piece_at-whole) refl (rest_is at) c.shown_of-before.ensures
     c.shown_of-after.ensures in
@@ -107,7 +107,7 @@ invariant_of-self c =
     let items : Items = c.self.inside.ring.items in
     let new : Items = c.split-number.new.self.items in
     let v : Piece = c.piece_at-whole.result in
-    let front : Piece = front_of c.args.n v in
+    let front : Piece = piece_front c.args.n v in
     let lt = within (goal.at.invariant_of-self c).After-piece_at-whole in
     let at : After-shown_of-after = (goal.at.invariant_of-self c).After-shown_of-after in
     let insert = pushed (goal.at.invariant_of-self c).After-split-number in
@@ -133,7 +133,7 @@ invariant_of-self c =
           (subst (AreKeyed (with_value c.args.tag front items)) (sym c.set_weight.ensures.keys)
           (keyed_with items c.self.inside.index.keys c.args.tag v front c.self.invariant.keyed c.piece_at-whole.ensures refl))
           insert c.insert_after.ensures.keyed.0 c.insert_after.ensures.keyed.1
-          (c.number_of-key.ensures ∙ ap number_of c.key_at.ensures);
+          (c.number_of-key.ensures ∙ ap key_number c.key_at.ensures);
     }
 
 pub returns-clause-split : goal.returns-clause-split
