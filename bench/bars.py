@@ -19,6 +19,7 @@ STRAIGHT = {
     "placed behind greater keys, messages": Bar(20_000, 1_500),
     "placed behind greater keys, chunks": Bar(15_000, 1_500),
     "placed behind greater keys, a packed file": Bar(22_000, 1_500),
+    "n ranges of n characters by names": Bar(3_000, 1_000),
     "100 n characters, all restored": Bar(11_000, 2_000),
     "100 n characters, a Delete refused 5": Bar(8_000, 1_000),
     "2 n characters named by what waits": Bar(78_000, 1_000),
@@ -41,7 +42,6 @@ SQUARE = {
     "n ranges, 1,023 at most, named by what waits": Bar(292_000, 103_000),
     "since the last but one": Bar(40_000, 15_000),
     "pack from the last but one": Bar(723_000, 357_000),
-    "n ranges of n characters by names": Bar(128_000, 66_000),
     "after a line of n that a viewer shows": Bar(164_000, 56_000),
     "scrolled to the last of n lines": Bar(182_000, 101_000),
     "keys in a line of n": Bar(193_000, 69_000),
@@ -85,8 +85,7 @@ REOPENED = {
     "sites with a letter": 220,
     "sites with a letter taken back": 200,
     "two sites by turns": 80,
-    # A square: each Delete and Restore notes a change for each piece.
-    "letters before all others, deleted and restored by turns": 8000,
+    "letters before all others, deleted and restored by turns": 100,
 }
 UNPACKED = {
     "letters at the end": 260,
@@ -95,5 +94,6 @@ UNPACKED = {
     "letters, restored by sets": 190,
     "pasted by two": 170,
     "sites with a letter": 200,
+    # A square: each Delete and Restore notes a change for each piece.
     "letters before all others, deleted and restored by turns": 5500,
 }
