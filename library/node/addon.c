@@ -22,6 +22,8 @@ typedef struct {
     bool is_past;
     vialshoal_text text;
     vialshoal_past_text past;
+    /* How long the last file of it was. */
+    uint64_t filed;
 } shown;
 
 typedef struct {
@@ -136,18 +138,24 @@ static napi_value load(napi_env env, napi_callback_info info) {
 
 typedef uint32_t as_file(vialshoal_text *text, uint8_t *room, size_t length, uint64_t *need);
 
-/* A file of the text, as a buffer; or the number that refuses it. */
+/* A file of the text, as a buffer; or the number that refuses it. A call makes all of it to say how long it is, so it gets a little
+ * more room than the last one needed. */
 static napi_value file_of(napi_env env, napi_callback_info info, as_file *write) {
     arguments given;
-    uint64_t need;
-    uint8_t none[1];
     napi_value buffer;
-    void *room;
     if (!taken(env, info, 1, &given)) return NULL;
-    uint32_t number = write(given.text, none, 0, &need);
-    if (number != VIALSHOAL_TOO_SHORT) return ANSWER(number);
-    TRY(napi_create_buffer(env, need, &room, &buffer));
-    number = write(given.text, room, need, &need);
+    uint64_t need = given.shown->filed + given.shown->filed / 8 + MESSAGE;
+    uint8_t *room = malloc(need);
+    uint32_t number = room == NULL ? 7 : write(given.text, room, need, &need);
+    if (number == VIALSHOAL_TOO_SHORT) {
+        free(room);
+        room = malloc(need);
+        number = room == NULL ? 7 : write(given.text, room, need, &need);
+    }
+    if (number == 0) given.shown->filed = need;
+    napi_status made = number == 0 ? napi_create_buffer_copy(env, need, room, NULL, &buffer) : napi_ok;
+    free(room);
+    TRY(made);
     return number == 0 ? buffer : ANSWER(number);
 }
 
@@ -420,17 +428,21 @@ static napi_value pack(napi_env env, napi_callback_info info) {
     vialshoal_site_front *fronts;
     size_t count;
     uint64_t need;
-    uint8_t none[1];
+    uint8_t few[MESSAGE];
     napi_value buffer;
     void *room;
     if (!taken(env, info, 2, &given)) return NULL;
     TRY(fronts_of(env, given.at[1], &fronts, &count) ? napi_ok : napi_invalid_arg);
-    uint32_t number = fronts == NULL ? 7 : vialshoal_pack(given.text, fronts, count, none, 0, &need);
-    if (number == 0 || number == VIALSHOAL_TOO_SHORT) {
-        napi_status made = napi_create_buffer(env, need, &room, &buffer);
-        number = made != napi_ok ? 7 : need == 0 ? 0 : vialshoal_pack(given.text, fronts, count, room, need, &need);
+    uint32_t number = fronts == NULL ? 7 : vialshoal_pack(given.text, fronts, count, few, sizeof few, &need);
+    napi_status made = napi_ok;
+    if (number == 0) {
+        made = napi_create_buffer_copy(env, need, few, NULL, &buffer);
+    } else if (number == VIALSHOAL_TOO_SHORT) {
+        made = napi_create_buffer(env, need, &room, &buffer);
+        if (made == napi_ok) number = vialshoal_pack(given.text, fronts, count, room, need, &need);
     }
     free(fronts);
+    TRY(made);
     return number == 0 ? buffer : ANSWER(number);
 }
 

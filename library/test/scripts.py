@@ -30,6 +30,10 @@ NO_FILE, NOT_WRITTEN = 21, 22
 # -- scripts
 
 
+def no_files() -> Optional[Files]:
+    return {}
+
+
 @dataclass(frozen=True)
 class Script:
     """Lines for this many sites, the first of this number, and whether their answers are right."""
@@ -43,7 +47,7 @@ class Script:
     left_out: Optional[str]
     # What lies in its folder before and after it, where that is told.
     files: Files = field(default_factory=dict)
-    files_after: Optional[Files] = field(default_factory=dict)
+    files_after: Optional[Files] = field(default_factory=no_files)
 
 
 def reason(lines: bytes) -> Optional[str]:

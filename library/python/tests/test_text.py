@@ -11,10 +11,12 @@ import tempfile
 import unittest
 from pathlib import Path
 from typing import Optional
+from unittest import mock
 
 from hypothesis import given, settings
 from hypothesis import strategies as st
 
+import vialshoal
 from vialshoal import ChangeKind, Misused, Name, NameRange, Refused, TakingKind, Text
 
 TOP = Path(__file__).resolve().parents[3]
@@ -137,6 +139,16 @@ class Kept(unittest.TestCase):
                     self.assertEqual(len(followed(b"", again)), len(a))
                     went_on.append(again.insert(0, b"x"))
             self.assertEqual(went_on, [a.insert(0, b"x")] * 2)
+
+    def test_a_file_that_is_kept_again_is_made_once(self) -> None:
+        store = vialshoal._calls.vialshoal_store
+        with Text(1, site=1) as text, mock.patch.object(vialshoal._calls, "vialshoal_store", wraps=store) as calls:
+            text.insert(0, b"x" * 20_000)
+            first = text.store()
+            self.assertEqual(calls.call_count, 2)
+            text.insert(0, b"y")
+            self.assertGreater(len(text.store()), len(first))
+            self.assertEqual(calls.call_count, 3)
 
     def test_strings_are_kept_too(self) -> None:
         with Text(1, site=1, units="code points") as a:

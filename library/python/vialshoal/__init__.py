@@ -386,16 +386,23 @@ class Text(Shown[AnyStr]):
     def _begin(self, units: Units) -> None:
         super()._begin(units)
         self._sent = c_uint32()
+        self._filed = 0
 
-    def _file(self, call: Callable[..., int]) -> bytes:
-        """What a call puts into a room as long as it asks for."""
-        room = self._room
+    def _put(self, call: Callable[..., int], length: int = _MESSAGE) -> bytes:
+        """What a call puts into a room, of this length or as long as it asks for."""
+        room = self._room if length <= _MESSAGE else ctypes.create_string_buffer(length)
         number = call(self._handle, room, len(room), byref(self._long))
         if number == c.TOO_SHORT:
             room = ctypes.create_string_buffer(self._long.value)
             number = call(self._handle, room, len(room), byref(self._long))
         _done(number)
         return room.raw[:self._long.value]
+
+    def _file(self, call: Callable[..., int]) -> bytes:
+        """A file of the text. A call makes all of it to say how long it is, so it gets a little more room than the last one needed."""
+        file = self._put(call, self._filed + self._filed // 8)
+        self._filed = len(file)
+        return file
 
     def store(self, *, packed: bool = False) -> bytes:
         """The text as a file, with all that was taken in, from which its site goes on. A packed one has a byte for most
@@ -580,7 +587,7 @@ class Text(Shown[AnyStr]):
         in this order, does what taking the messages of `since` does. They have a byte for most keystrokes where messages
         have some 50."""
         asked = _fronts(fronts)
-        packed = self._file(lambda handle, *room: _calls.vialshoal_pack(handle, asked, len(asked), *room))
+        packed = self._put(lambda handle, *room: _calls.vialshoal_pack(handle, asked, len(asked), *room))
         chunks, end = [], 0
         while end < len(packed):
             beg = end + 2
