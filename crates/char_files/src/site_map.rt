@@ -1,4 +1,4 @@
-ghost use Rattle.std.specs.Prelude.{◌≡◌, [], nat_eq, IfNone, IfSome, OnErr, OnOk, None, Some};
+ghost use Rattle.std.specs.Prelude.{◌≡◌, ◌<◌, [], length, nat_eq, slice_get, IfNone, IfSome, OnErr, OnOk, None, Some};
 ghost use Rattle.std.specs.Borrow.{sem};
 ghost use Rattle.std.specs.Map.{lookup};
 ghost use Rattle.std.specs.Option.{option_copied, option_copied_mut};
@@ -39,6 +39,20 @@ impl<V> SiteMap<V> {
             values: IndexMap::new(alloc),
             last: 0,
         }
+    }
+
+    /// How many sites have a value.
+    pub fn len(&self) -> usize
+        ensures { result ≡ length self.now }
+    {
+        self.values.len()
+    }
+
+    /// The site at this place, from 0, among those that have a value.
+    pub fn site_at(&self, place: usize) -> Option<SiteNo>
+        ensures { IfSome (slice_get self.now place) (λ v. 0 < v.0 → result ≡ Some v.0) }
+    {
+        SiteNo::new(*self.values.get_index(place)?.0)
     }
 
     // Where a site's value stands, if it has one.

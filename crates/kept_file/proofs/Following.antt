@@ -8,7 +8,7 @@ use Rattle.std.proofs.lemmas.List.Elements.{All-contains}
 use Rattle.std.proofs.lemmas.Option.{get_or_from_slice_get, slice_get-get_or, slice_get_within}
 use Rattle.operations.specs.Operation.{Operation, appended_len, Begins}
 use Rattle.operations.specs.Spelling.{HasSpelling}
-use Rattle.tree_order.specs.Good.{Good}
+use Rattle.tree_order.specs.Good.{Good, file_before}
 use Rattle.set_laws.specs.Fronts.{front_of, file_len, greatest_stamp_of}
 use Rattle.set_laws.specs.Growing.{AreCountedOn}
 use Rattle.set_laws.specs.Sets.{AreIdentified, KeepsCauses}
@@ -16,7 +16,9 @@ use Rattle.set_laws.specs.Verdict.{HasVerdict, IsNew, ready}
 use Rattle.set_laws.proofs.ByVerdict.{grows_by_verdict}
 use Rattle.set_laws.proofs.Counting.{counted_on, determined_by_counts}
 use Rattle.set_laws.proofs.Files.{next_seq}
-use Rattle.set_laws.proofs.Fronts.{site_reached, up_to_front}
+use Rattle.set_laws.proofs.Fronts.{held_to_front, site_reached, up_to_front}
+use Rattle.set_laws.proofs.Lengths.{same_file}
+use Rattle.set_laws.proofs.Preceding.{first_part_within}
 use Rattle.packed.specs.declared.expected.Expected.{Expected}
 use Rattle.packed.specs.Laws.{CanFollow, IsHistory}
 use Rattle.packed.specs.Reading.{CanBeNext}
@@ -189,6 +191,17 @@ module _ (ops : List Operation) (in_order : KeepsCauses ops) (known : AreIdentif
       let lt : n < length ops = slice_get_within ops n op is in
       next_of (take n ops) op (in_order n) (known_before n op lt is) (new_here n op lt is) (ready_here n op lt is)
       (told (take n ops)) (counted_so_far op n (omega (arith, lt))) spelled.stamp.0
+
+  -- and its site's file is as long before it as those before it tell
+  pub len_before : (n : ℕ) (op : Operation) → slice_get ops n ≡ Some op → HasSpelling op
+      → (expected (told (take n ops)) op.site).len ≡ file_before ops op.site op.seq
+  len_before n op is spelled =
+      let lt : n < length ops = slice_get_within ops n op is in
+      let counted : IsCounted (take n ops) (told (take n ops)) op.site = counted_so_far op n (omega (arith, lt)) op.site in
+      let next : op.seq ≡ suc (front_of (take n ops) op.site) = (is_next n op is spelled).seq ∙ ap suc counted.seq in
+      counted.len ∙ ap (file_before (take n ops) op.site) (sym next)
+      ∙ same_file (take n ops) ops (first_part_within ops n) known op.site op.seq (λ seq some less.
+      held_to_front (take n ops) (in_order n).predecessors op.site seq some (omega (arith, next, less)))
 
 -- operations each of which can be next at its place
 next_from_places : (t : Told) (text : ℕ) (ops : List Operation)

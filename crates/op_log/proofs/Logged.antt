@@ -1,10 +1,12 @@
 -- What the tables of a log tell.
 use Rattle.std.proofs.Common.{◌≡◌, ℕ, zero, suc, ◌-◌, ◌<◌, ◌≤◌, ◌↔◌, inl, inr, List, length}
 use Rattle.std.proofs.Common.{Option, Some, None, Contains, slice_get, get_or, refl, sym, ap, subst, ◌∙◌, arith}
-use Rattle.std.proofs.lemmas.Bool.{cases_lt}
-use Rattle.std.proofs.lemmas.Option.{slice_get-get_or, slice_get_past, slice_get_within}
-use Rattle.std.specs.Prelude.{IfSome, IsSome}
-use Rattle.std.specs.Option.{option_map_or}
+use Rattle.std.proofs.lemmas.Bool.{cases_lt, eqb-true}
+use Rattle.std.proofs.lemmas.Map.Entries.{place_from_lookup}
+use Rattle.std.proofs.lemmas.Option.{slice_get-get_or, slice_get-map, slice_get_past, slice_get_within}
+use Rattle.std.specs.Map.{lookup}
+use Rattle.std.specs.Prelude.{IfSome, IsSome, nat_eq}
+use Rattle.std.specs.Option.{option_map, option_map_or}
 use Rattle.std.specs.List.Sorted.{IsNonDecreasingBy}
 use Rattle.char_files.specs.CharName.{CharName}
 use Rattle.operations.specs.Operation.{Operation}
@@ -16,7 +18,8 @@ use Rattle.set_laws.specs.Sets.{AreIdentified, AreHeldToTheFront}
 use Rattle.set_laws.proofs.Covered.{from_span, one_insert}
 use Rattle.set_laws.proofs.Lengths.{appended_by}
 use Rattle.op_log.specs.declared.site_log.Entry.{Entry}
-use Rattle.op_log.specs.Tables.{SiteSeen, LogTables, log_table, entries_end, IsFirstPast}
+use Rattle.op_log.specs.Seen.{IsKnownIn}
+use Rattle.op_log.specs.Tables.{SiteSeen, LogTables, log_table, entries_end, rooms_of, unknown, IsFirstPast}
 use Rattle.op_log.specs.Logged.{IsEntryOf, IsTableOf, AreLogged}
 use Rattle.op_log.proofs.Lists.{Contains-slice_get, slice_get-some}
 use Rattle.op_log.proofs.Files.{within_front, starts_empty}
@@ -140,6 +143,63 @@ module _ {ops : List Operation} {tables : LogTables} {stamp : ℕ} (logged : Are
   -- how long a site's file is
   pub file_told : (site : ℕ) → entries_end (log_table tables site).entries ≡ file_len ops site
   file_told site = ends_as_file logged.known (logged.by_site site)
+
+  -- how long it is before an operation: where the one before that ends, if there is one
+  end_before : (op : Operation) → Contains ops op → (less : ℕ) (found : Option Entry) → less ≡ op.seq - 1
+      → (less ≡ 0 → found ≡ None) → (0 < less → found ≡ slice_get (log_table tables op.site).entries (less - 1))
+      → option_map_or (λ e. e.end) found 0 ≡ file_before ops op.site op.seq
+  end_before op held less found is none some = by_seq op.seq refl
+    where
+      by_seq : (n : ℕ) → op.seq ≡ n → option_map_or (λ e. e.end) found 0 ≡ file_before ops op.site n
+      by_seq zero at = let counted = logged.known.counted op held in absurd (omega arith)
+      by_seq (suc zero) at =
+          ap (λ o. option_map_or (λ (e : Entry). e.end) o 0) (none (omega arith))
+          ∙ sym (starts_empty ops logged.known op.site)
+      by_seq (suc (suc k)) at =
+          let t = log_table tables op.site in
+          let table = logged.by_site op.site in
+          let front = table.front in
+          let le = within_front ops op op.site held refl in
+          let (e, there) = slice_get-some t.entries k (omega arith) in
+          let index : less - 1 ≡ k = omega arith in
+          ap (λ o. option_map_or (λ (e : Entry). e.end) o 0)
+          (some (omega arith) ∙ ap (λ (i : ℕ). slice_get t.entries i) index ∙ there)
+          ∙ ends_at logged.known table k e there
+
+  pub before_told : (place site seq less : ℕ) (found : Option Entry) (len : ℕ)
+      → IfSome (slice_get ops place) (λ op. (site ≡ op.site) × (seq ≡ op.seq)) → less ≡ seq - 1
+      → (less ≡ 0 → found ≡ None) → (0 < less → found ≡ slice_get (log_table tables site).entries (less - 1))
+      → option_map_or (λ e. e.end) found 0 ≡ len
+      → IfSome (slice_get ops place) (λ op. len ≡ file_before ops op.site op.seq)
+  before_told place site seq less found len identity is none some told = by (slice_get ops place) refl identity
+    where
+      by : (o : Option Operation) → slice_get ops place ≡ o → IfSome o (λ op. (site ≡ op.site) × (seq ≡ op.seq))
+          → IfSome o (λ op. len ≡ file_before ops op.site op.seq)
+      by None at same = tt
+      by (Some op) at (on, of) =
+          sym told ∙ end_before op (Contains-slice_get ops place op at) less found (is ∙ ap (λ (n : ℕ). n - 1) of) none
+          (subst (λ (s : ℕ). 0 < less → found ≡ slice_get (log_table tables s).entries (less - 1)) on some)
+
+  -- each operation's site has a table
+  pub site_known : (op : Operation) → Contains ops op → IsKnownIn (rooms_of tables) op.site
+  site_known op held = by (lookup (nat_eq op.site) tables) refl
+    where
+      by : (o : Option SiteSeen) → lookup (nat_eq op.site) tables ≡ o → IsKnownIn (rooms_of tables) op.site
+      by None is =
+          let front = (logged.by_site op.site).front in
+          let le = within_front ops op op.site held refl in
+          let counted = logged.known.counted op held in
+          let empty : length (log_table tables op.site).entries ≡ 0 =
+          ap (λ o. length (option_map_or (λ (t : SiteSeen). t) o unknown).entries) is in
+          absurd (omega arith)
+      by (Some t) is =
+          let (i, k, there, same) = place_from_lookup (nat_eq op.site) tables t is in (
+            i,
+            t.room,
+            slice_get-map (λ (t : ℕ × SiteSeen). (t.0, t.1.room)) tables i
+                ∙ ap (option_map (λ (t : ℕ × SiteSeen). (t.0, t.1.room))) there
+                ∙ ap (λ (s : ℕ). Some (s, t.room)) (sym (eqb-true op.site k same)),
+          )
 
   pub table_rises : (site : ℕ) → IsNonDecreasingBy (λ (e : Entry). e.end) (log_table tables site).entries
   table_rises site = ends_rise logged.known (logged.by_site site)

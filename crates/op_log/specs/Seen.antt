@@ -1,5 +1,5 @@
 -- The operations that were taken in, as a contract sees them.
-use Rattle.std.specs.Prelude.{ℕ, ◌<◌, ◌≤◌, nat_eq, List}
+use Rattle.std.specs.Prelude.{◌≡◌, ℕ, ◌<◌, ◌≤◌, nat_eq, List, Some, slice_get}
 use Rattle.std.specs.Option.{option_map_or}
 use Rattle.std.specs.Map.{lookup}
 use Rattle.looks.specs.declared.looks.Looks.{Looks}
@@ -26,6 +26,10 @@ pub record LogSeen : Type 0 where
 -- for how many operations more of a site there is room, 0 for one that isn't named
 abbrev pub room_of : List (ℕ × ℕ) → ℕ → ℕ
 room_of rooms site = option_map_or (λ n. n) (lookup (nat_eq site) rooms) 0
+
+-- the site stands among these
+abbrev pub IsKnownIn : List (ℕ × ℕ) → ℕ → Type 0
+IsKnownIn rooms site = (place : ℕ) × (room : ℕ) × (slice_get rooms place ≡ Some (site, room))
 
 -- the next operation of this site takes no memory
 abbrev pub HasRoom : LogSeen → ℕ → Type 0

@@ -4,11 +4,12 @@ ghost use Rattle.looks.specs.Refusal.{RefusedForMemoryAlone};
 ghost use Rattle.operations.specs.Letters.{letters};
 ghost use Rattle.operations.specs.Operation.{Operation, appended_len, Begins};
 ghost use Rattle.operations.specs.Spelling.{HasSpelling};
+ghost use Rattle.tree_order.specs.Good.{file_before};
 ghost use Rattle.tree_order.specs.Tree.{IsInsertOf};
 ghost use Rattle.set_laws.specs.Fronts.{front_of, file_len, greatest_stamp};
 ghost use Rattle.set_laws.specs.Fronts.{IsHeld, IsHere, AreSites};
 ghost use Rattle.set_laws.specs.Sets.{AreIdentified, AreHeldToTheFront, IsInConflict};
-ghost use Rattle.op_log.specs.Seen.{HasRoom, HasRoomFor, KeepsRoom};
+ghost use Rattle.op_log.specs.Seen.{HasRoom, HasRoomFor, IsKnownIn, KeepsRoom};
 ghost use Rattle.op_log.specs.Logged.{first_sites};
 
 use crate::op_list::OpList;
@@ -131,6 +132,15 @@ impl Log {
         self.sites.entry(site, seq)
     }
 
+    /// The place of the operation of this identity, if it is held. It reads one entry of a table.
+    pub fn place(&self, site: SiteNo, seq: u32) -> Option<u64>
+        ensures here { IsSome result ↔ IsHeld self.now.ops site seq }
+        ensures value { IfSome result (λ place. (op : Operation) × (slice_get self.now.ops place ≡ Just op)
+            × (op.site ≡ site) × (op.seq ≡ seq)) }
+    {
+        Some(u64::from(self.entry(site, seq)?.index))
+    }
+
     /// Whether an operation of this identity is held. It reads one entry of a table.
     pub fn holds(&self, site: SiteNo, seq: u32) -> bool
         ensures { IsTrue result ↔ IsHeld self.now.ops site seq }
@@ -208,6 +218,18 @@ impl Log {
         self.sites.file_len(site)
     }
 
+    /// How long its site's file is before the operation that was taken in at this place. It reads one entry of a table.
+    pub fn file_before(&self, place: u64) -> u32
+        requires { place < length self.now.ops }
+        ensures { IfSome (slice_get self.now.ops place) (λ op. result ≡ file_before self.now.ops op.site op.seq) }
+    {
+        let (site, seq) = self.identity(place);
+        match self.sites.entry(site, seq.saturating_sub(1)) {
+            Some(entry) => entry.end,
+            None => 0,
+        }
+    }
+
     /// The greatest stamp of all operations, 0 for none.
     pub fn stamp(&self) -> u64
         ensures value { result ≡ greatest_stamp self.now.ops }
@@ -235,6 +257,34 @@ impl Log {
         let mut sites = first_sites(&self.ops)?;
         sites.sort_unstable_by_key(|site| site.get());
         Ok(sites)
+    }
+
+    /// How many sites are known; each that has operations is.
+    pub fn sites_len(&self) -> usize
+        ensures { result ≡ length self.now.rooms }
+    {
+        self.sites.len()
+    }
+
+    /// The site at this place, from 0, among those that are known.
+    pub fn site_at(&self, place: usize) -> Option<SiteNo>
+        ensures { IfSome (slice_get self.now.rooms place) (λ known. 0 < known.0 → result ≡ Just known.0) }
+    {
+        self.sites.site_at(place)
+    }
+
+    /// A law: the site of each operation is known. A proof gets it by calling this, at no cost.
+    pub fn lemma_sites_are_known(&self)
+        ensures { (op : Operation) → Contains self.now.ops op → IsKnownIn self.now.rooms op.site }
+    {
+        let _ = &self.ops;
+    }
+
+    /// A law: each operation has a message. A proof gets it by calling this, at no cost.
+    pub fn lemma_have_spelling(&self)
+        ensures { All HasSpelling self.now.ops }
+    {
+        self.ops.lemma_have_spelling();
     }
 
     /// A law: of each site the operations are those from 1 up to its front, each once. A proof gets it by

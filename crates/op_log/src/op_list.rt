@@ -106,6 +106,13 @@ impl OpList {
         }
     }
 
+    // A law: each operation has a message.
+    pub(crate) fn lemma_have_spelling(&self)
+        ensures { All HasSpelling self.now.items }
+    {
+        let _ = &self.len;
+    }
+
     pub(crate) fn alloc(&self) -> Global {
         self.alloc
     }

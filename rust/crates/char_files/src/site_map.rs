@@ -21,6 +21,16 @@ impl<V> SiteMap<V> {
         }
     }
 
+    /// How many sites have a value.
+    pub fn len(&self) -> usize {
+        self.values.len()
+    }
+
+    /// The site at this place, from 0, among those that have a value.
+    pub fn site_at(&self, place: usize) -> Option<SiteNo> {
+        SiteNo::new(*self.values.get_index(place)?.0)
+    }
+
     // Where a site's value stands, if it has one.
     fn slot(&self, site: SiteNo) -> Option<usize> {
         match self.values.get_index(self.last) {

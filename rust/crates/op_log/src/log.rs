@@ -78,6 +78,11 @@ impl Log {
         self.sites.entry(site, seq)
     }
 
+    /// The place of the operation of this identity, if it is held. It reads one entry of a table.
+    pub fn place(&self, site: SiteNo, seq: u32) -> Option<u64> {
+        Some(u64::from(self.entry(site, seq)?.index))
+    }
+
     /// Whether an operation of this identity is held. It reads one entry of a table.
     pub fn holds(&self, site: SiteNo, seq: u32) -> bool {
         self.entry(site, seq).is_some()
@@ -130,6 +135,17 @@ impl Log {
         self.sites.file_len(site)
     }
 
+    /// How long its site's file is before the operation that was taken in at this place. It reads one entry of a table.
+    ///
+    /// Asks of its caller: `place < length self.now.ops`.
+    pub fn file_before(&self, place: u64) -> u32 {
+        let (site, seq) = self.identity(place);
+        match self.sites.entry(site, seq.saturating_sub(1)) {
+            Some(entry) => entry.end,
+            None => 0,
+        }
+    }
+
     /// The greatest stamp of all operations, 0 for none.
     pub fn stamp(&self) -> u64 {
         self.stamp
@@ -149,6 +165,16 @@ impl Log {
         let mut sites = first_sites(&self.ops)?;
         sites.sort_unstable_by_key(|site| site.get());
         Ok(sites)
+    }
+
+    /// How many sites are known; each that has operations is.
+    pub fn sites_len(&self) -> usize {
+        self.sites.len()
+    }
+
+    /// The site at this place, from 0, among those that are known.
+    pub fn site_at(&self, place: usize) -> Option<SiteNo> {
+        self.sites.site_at(place)
     }
 
     /// Makes room for one operation more of this site: the next push of one takes no memory.

@@ -19,6 +19,16 @@ impl SiteTables {
         }
     }
 
+    // How many sites are known.
+    pub(crate) fn len(&self) -> usize {
+        self.sites.len()
+    }
+
+    // The site at this place among those that are known.
+    pub(crate) fn site_at(&self, place: usize) -> Option<SiteNo> {
+        self.sites.site_at(place)
+    }
+
     // The number of the site's last operation; 0 where there is none.
     pub(crate) fn front(&self, site: SiteNo) -> u32 {
         match self.sites.get(site) {
