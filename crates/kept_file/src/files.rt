@@ -6,7 +6,7 @@ ghost use Rattle.kept_file.specs.PackedFiles.{BeginsAsPackedFile, packed_tag};
 ghost use Rattle.kept_file.specs.KeptFiles.{IsKeptFileOf, IsNoKeptFile, kept_bytes, most_kept};
 
 use crate::form::KeptForm;
-use crate::packed_file::{load_packed, store_packed};
+use crate::packed_file::{TAG, load_packed, store_packed};
 use crate::site_file::{load_site, store_site};
 use looks::Refusal;
 use std::alloc::Global;
@@ -36,7 +36,7 @@ pub fn store_kept(form: KeptForm, replica: &Replica, file: &mut Vec<u8>) -> Resu
 fn is_packed(bytes: &[u8]) -> bool
     ensures { IsTrue result ↔ (take 4 bytes.now ≡ packed_tag) }
 {
-    bytes.starts_with(b"OTP1")
+    bytes.starts_with(TAG)
 }
 
 /// The text of a file in either form, as its site kept it: with the same operations, taken in in the same order. Nothing

@@ -7,6 +7,7 @@ ghost use Rattle.packed.specs.Spelling.{packed};
 ghost use Rattle.kept_file.specs.PackedFiles.{HasPackedFile, IsPackedFileOf, packed_bytes, packed_tag};
 ghost use Rattle.kept_file.specs.declared.TheConstants.{MAX_PACKED};
 
+use super::TAG;
 use crate::MAX_PACKED;
 use byte_fields::put_u16;
 use looks::Refusal;
@@ -19,7 +20,7 @@ fn put_head(out: &mut Vec<u8>, text: u16, site: u16) -> Result<(), AllocError>
     ensures { Appends result out.old.items out.new.items
         (packed_tag ++ number_spelling w16 text ++ number_spelling w16 site) }
 {
-    out.extend_from_slice(b"OTP1")?;
+    out.extend_from_slice(TAG)?;
     put_u16(out, text)?;
     put_u16(out, site)
 }

@@ -7,3 +7,6 @@ mod storing;
 
 pub use loading::load_packed;
 pub use storing::store_packed;
+
+// What a packed file begins with.
+pub(crate) const TAG: &[u8; 4] = b"OTP1";
