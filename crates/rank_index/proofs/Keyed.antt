@@ -15,7 +15,7 @@ use Rattle.rank_index.proofs.Weights.{placed}
 
 -- the least key of some members
 
-least_most : (keys : List ℕ) (xs : Members) → least_of keys xs ≤ 2 ^ 64 - 1
+pub least_most : (keys : List ℕ) (xs : Members) → least_of keys xs ≤ 2 ^ 64 - 1
 least_most keys [] = omega arith
 least_most keys (m ∷ xs) =
     let rest : least_of keys xs ≤ 2 ^ 64 - 1 = least_most keys xs in
@@ -45,6 +45,24 @@ pub above_least : (keys : List ℕ) (key : ℕ) (xs : Members) → key < least_o
 above_least keys key [] lt = All-nil (λ (m : ℕ × ℕ). key < key_in keys m.0)
 above_least keys key (m ∷ xs) lt =
     All-cons (λ (n : ℕ × ℕ). key < key_in keys n.0) m xs (omega (arith, lt)) (above_least keys key xs (omega (arith, lt)))
+
+-- and the other way around, where there are some and the keys are machine numbers
+
+least_below : (keys : List ℕ) (key : ℕ) (xs : Members) → key < 2 ^ 64 - 1 → AreAbove keys key xs → key < least_of keys xs
+least_below keys key [] lt above = lt
+least_below keys key (m ∷ xs) lt above =
+    let K : ℕ × ℕ → Type 0 = λ (n : ℕ × ℕ). key < key_in keys n.0 in
+    let here : key < key_in keys m.0 = All-head K m xs above in
+    let rest : key < least_of keys xs = least_below keys key xs lt (All-tail K m xs above) in
+    omega (arith, here, rest)
+
+pub least_above : (keys : List ℕ) (key : ℕ) (xs : Members) → ((i : ℕ) → get_or keys i 0 < 2 ^ 64) → 0 < length xs
+    → AreAbove keys key xs → key < least_of keys xs
+least_above keys key [] small some above = absurd (omega (arith, some))
+least_above keys key (m ∷ xs) small some above =
+    let here : key < key_in keys m.0 = All-head (λ (n : ℕ × ℕ). key < key_in keys n.0) m xs above in
+    let bound : key_in keys m.0 < 2 ^ 64 = small m.0 in
+    least_below keys key (m ∷ xs) (omega (arith, here, bound)) above
 
 -- other weights
 pub least_reweighed : (keys : List ℕ) (tag w : ℕ) (xs : Members) → least_of keys (with_value tag w xs) ≡ least_of keys xs

@@ -11,7 +11,7 @@ use Rattle.rank_index.specs.declared.groups.TheConstants.{GROUP}
 use Rattle.rank_index.specs.Chunks.{ChunkSeen, members_of, AreHalfFull}
 use Rattle.rank_index.specs.Groups.{AreLows, AreLowsSoFar, least_among}
 use Rattle.rank_index.specs.Keyed.{AreAbove, AreLeast, IsPassed, key_in, last_tag_from, least_of}
-use Rattle.rank_index.proofs.Keyed.{above_least, last_both, passed_on}
+use Rattle.rank_index.proofs.Keyed.{above_least, last_both, least_most, passed_on}
 use Rattle.rank_index.proofs.Stretches.{members_of-append}
 use Rattle.rank_index.proofs.Tagged.{Members}
 
@@ -231,3 +231,70 @@ group_passed keys key chunks at end c past lt is under are half read tag mid las
     subst (λ (l : List ChunkSeen). IsPassed keys key (members_of l) tag last) (sym whole)
     (subst (λ (l : Members). IsPassed keys key l tag last) (sym (members_of-append front (drop end chunks)))
     (passed_on keys key (members_of front) (members_of (drop end chunks)) tag mid last above (mid_is ∙ sym ends) p))
+
+-- so are single chunks, each by its own least key
+
+-- a chunk after the only one has members
+pub has_some : (chunks : List ChunkSeen) (slot : ℕ) (c : ChunkSeen) → 0 < slot → slot < length chunks → AreHalfFull chunks
+    → c ≡ get_or chunks slot c → 0 < length c.members
+has_some chunks slot c past lt half read =
+    let H : ChunkSeen → Type 0 = λ (d : ChunkSeen). HALF ≤ length d.members in
+    let full : All H chunks = elim half [
+      | inl one ↦ absurd (omega (arith, one, past, lt))
+      | inr all ↦ all
+    ] in
+    let some : HALF ≤ length c.members =
+    subst (λ (d : ChunkSeen). HALF ≤ length d.members) (sym read) (full slot c lt) in
+    omega (arith, some)
+
+-- one chunk more
+pub above_next : (keys : List ℕ) (key : ℕ) (chunks : List ChunkSeen) (from slot : ℕ) (c : ChunkSeen) → from ≤ slot
+    → slot < length chunks → c ≡ get_or chunks slot c → c.least ≡ least_of keys c.members → key < c.least
+    → (from < slot → key < least_among (take (slot - from) (drop from chunks)))
+    → key < least_among (take (slot + 1 - from) (drop from chunks))
+above_next keys key chunks from slot c le lt read least above earlier =
+    let rest : List ChunkSeen = drop from chunks in
+    let n : ℕ = slot - from in
+    let count : length rest ≡ length chunks - from = length-drop from chunks in
+    let at : slot ≡ from + n = omega (arith, le) in
+    let here : c ≡ get_or rest n c =
+    read ∙ ap (λ (m : ℕ). get_or chunks m c) at ∙ sym (get_or-drop from chunks n c) in
+    let most : least_of keys c.members ≤ 2 ^ 64 - 1 = least_most keys c.members in
+    let so_far : key < least_among (take n rest) = elim (cases_lt from slot) [
+      | inl past ↦ earlier past
+      | inr none ↦
+          let first : n ≡ 0 = omega (arith, none) in
+          let is : least_among (take n rest) ≡ 2 ^ 64 - 1 = ap (λ (m : ℕ). least_among (take m rest)) first in
+          omega (arith, is, above, least, most)
+    ] in
+    let next : slot + 1 - from ≡ n + 1 = omega (arith, le) in
+    let both : least_among (take (n + 1) rest) ≡ min (least_among (take n rest)) c.least =
+    least_next rest n c (omega (arith, count, le, lt)) here in
+    omega (arith, ap (λ (m : ℕ). least_among (take m rest)) next, both, so_far, above)
+
+-- the chunks of a group whose least key isn't greater aren't all passed
+pub group_stops : (key : ℕ) (chunks : List ChunkSeen) (at end : ℕ) → end ≡ at + min GROUP (length chunks - at)
+    → least_among (take GROUP (drop at chunks)) ≤ key → key < least_among (take (end - at) (drop at chunks)) → ⊥
+group_stops key chunks at end is low above =
+    let rest : List ChunkSeen = drop at chunks in
+    let count : end - at ≡ min GROUP (length rest) = omega (arith, is, length-drop at chunks) in
+    let same : take (end - at) rest ≡ take GROUP rest = ap (λ (m : ℕ). take m rest) count ∙ take_min GROUP rest in
+    absurd (omega (arith, ap least_among same, low, above))
+
+-- how many groups there are
+
+half_counted : (chunks : List ChunkSeen) → All (λ (d : ChunkSeen). HALF ≤ length d.members) chunks
+    → HALF * length chunks ≤ length (members_of chunks)
+half_counted [] full = omega arith
+half_counted (c ∷ chunks) full =
+    let H : ChunkSeen → Type 0 = λ (d : ChunkSeen). HALF ≤ length d.members in
+    let here : HALF ≤ length c.members = All-head H c chunks full in
+    let rest : HALF * length chunks ≤ length (members_of chunks) = half_counted chunks (All-tail H c chunks full) in
+    omega (arith, here, rest, length-append c.members (members_of chunks))
+
+pub few_groups : (chunks : List ChunkSeen) → AreHalfFull chunks
+    → length chunks / GROUP ≤ length (members_of chunks) / (GROUP * HALF)
+few_groups chunks half = elim half [
+  | inl one ↦ omega (arith, one)
+  | inr full ↦ omega (arith, half_counted chunks full)
+]

@@ -11,6 +11,7 @@ ghost use Rattle.rank_index.specs.Slots.{IsSlot};
 ghost use Rattle.rank_index.specs.Ranked.{weight_of, IsRank, IsFound};
 
 use crate::keys::{last_of, least_in, pass};
+use crate::peeks::Peeks;
 use looks::Refusal;
 use std::alloc::Global;
 use std::marker::Model;
@@ -220,29 +221,45 @@ impl Chunk {
 
     // Passes its members up to the first whose key isn't greater, after a member of this tag. It answers the tag of the last that was
     // passed, and whether there is such a first one.
-    pub(crate) fn pass_from(&self, tag: u64, keys: &[u64], key: u64) -> (u64, bool)
+    pub(crate) fn pass_from(
+        &self,
+        tag: u64,
+        keys: &[u64],
+        key: u64,
+        peeks: &mut Peeks,
+    ) -> (u64, bool)
         requires least { self.now.least ≡ least_of keys.now self.now.members }
         ensures stops { IsTrue result.1 → (more : List (ℕ × ℕ)) → IsPassed keys.now key (self.now.members ++ more) tag result.0 }
         ensures all { ¬ IsTrue result.1 → AreAbove keys.now key self.now.members × (result.0 ≡ last_tag_from tag self.now.members) }
+        ensures above { ¬ IsTrue result.1 → 0 < length self.now.members → key < self.now.least }
+        ensures one { ¬ IsTrue result.1 → 0 < length self.now.members → peeks.new ≤ peeks.old + 1 }
+        ensures few { peeks.new ≤ peeks.old + (1 + MOST) }
     {
         let members = self.members();
-        if key < self.least() {
+        if peeks.is_above(self.least(), key) {
             return (last_of(members, members.len(), tag), false);
         }
-        pass(keys, members, key, tag)
+        pass(keys, members, key, tag, peeks)
     }
 
     // The same of its members after that of this tag.
-    pub(crate) fn pass_after(&self, tag: u64, keys: &[u64], key: u64) -> (u64, bool)
+    pub(crate) fn pass_after(
+        &self,
+        tag: u64,
+        keys: &[u64],
+        key: u64,
+        peeks: &mut Peeks,
+    ) -> (u64, bool)
         requires here { HasTag self.now.members tag }
-        ensures { (before : List (ℕ × ℕ)) × (weight : ℕ) × (follow : List (ℕ × ℕ))
+        ensures passed { (before : List (ℕ × ℕ)) × (weight : ℕ) × (follow : List (ℕ × ℕ))
             × (self.now.members ≡ before ++ (tag, weight) ∷ follow)
             × (IsTrue result.1 → (more : List (ℕ × ℕ)) → IsPassed keys.now key (follow ++ more) tag result.0)
             × (¬ IsTrue result.1 → AreAbove keys.now key follow × (result.0 ≡ last_tag_from tag follow)) }
+        ensures few { peeks.new ≤ peeks.old + MOST }
     {
         let members = self.members();
         match self.slot_of(tag) {
-            Some(slot) => pass(keys, &members[slot + 1..], key, tag),
+            Some(slot) => pass(keys, &members[slot + 1..], key, tag, peeks),
             None => unreachable!(),
         }
     }

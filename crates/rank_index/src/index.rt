@@ -1,4 +1,4 @@
-ghost use Rattle.std.specs.Prelude.{◌≡◌, ℕ, ◌+◌, ◌*◌, ◌<◌, ◌≤◌, ◌^◌, [], ◌∷◌, ◌++◌, drop, length, max, IfOk, IfSome, OnOk, slice_get};
+ghost use Rattle.std.specs.Prelude.{◌≡◌, ℕ, ◌+◌, ◌*◌, ◌/◌, ◌<◌, ◌≤◌, ◌^◌, [], ◌∷◌, ◌++◌, length, max, IfOk, IfSome, OnOk, slice_get};
 ghost use Rattle.std.specs.Prelude.{vec_len, vec_capacity};
 ghost use Rattle.looks.specs.Refusal.{RefusedForMemoryAlone};
 ghost use Rattle.piece_raw.specs.Ring.{HasTag, IsPushed, AreTags, with_value};
@@ -6,11 +6,13 @@ ghost use Rattle.piece_raw.specs.declared.TheConstants.{MAX_TAGS};
 ghost use Rattle.rank_index.specs.Chunks.{ChunkSeen, members_of, AreEnteredUnder, AreHomes, AreTied, AreEmpty, AreHalfFull};
 ghost use Rattle.rank_index.specs.Chunks.{AreSlotsTo, AreInSlots, HomesDiffer, IsSlotOf, IsSlotAfter, HasRoomInChunk, IsHalved};
 ghost use Rattle.rank_index.specs.Groups.{AreLows};
-ghost use Rattle.rank_index.specs.Keyed.{AreLeast, IsPassed, IsPassedIn};
+ghost use Rattle.rank_index.specs.Keyed.{AreLeast, IsPassedIn};
 ghost use Rattle.rank_index.specs.Ranked.{weight_of, IsRank, IsFound};
 
 use crate::chunk::{Chunk, HALF, MOST};
 use crate::groups::{GROUP, find_lows_if_grown, group_at, regroup_if_grown, weight_before};
+use crate::passing::pass_on;
+use crate::peeks::Peeks;
 use looks::Refusal;
 use std::alloc::Global;
 use std::marker::Model;
@@ -95,34 +97,6 @@ fn found_in(chunks: &[Chunk], pos: u64) -> (u64, u64)
         left -= chunk.sum();
     }
     unreachable!()
-}
-
-// Passes the members of the chunks from this slot on, up to the first whose key isn't greater, after a member of this tag: whole
-// groups, whole chunks, and then members. It answers the tag of the last that was passed.
-fn pass_on(chunks: &[Chunk], lows: &[u64], from: usize, tag: u64, keys: &[u64], key: u64) -> u64
-    requires from { 0 < from }
-    requires least { AreLeast keys.now chunks.now }
-    requires lows { AreLows lows.now chunks.now }
-    requires halves { AreHalfFull chunks.now }
-    ensures { IsPassed keys.now key (members_of (drop from chunks.now)) tag result }
-{
-    let mut last = tag;
-    let mut at = from;
-    while at < chunks.len() {
-        let low = lows[at / GROUP];
-        if at % GROUP == 0 && key < low {
-            at += GROUP.min(chunks.len() - at);
-            last = chunks[at - 1].last_tag(last);
-        } else {
-            let (to, stops) = chunks[at].pass_from(last, keys, key);
-            if stops {
-                return to;
-            }
-            last = to;
-            at += 1;
-        }
-    }
-    last
 }
 
 // Enters the members of the chunk as being in it.
@@ -405,16 +379,26 @@ impl RankIndex {
     }
 
     /// Passes the members that follow this one, up to the first whose key isn't greater than this one, and answers the tag of the
-    /// last that was passed; the member's own where there is none. A member has this tag.
-    pub fn pass(&self, tag: u64, key: u64) -> u64
+    /// last that was passed; the member's own where there is none. A member has this tag. It looks at one key at most for each
+    /// group of half-full chunks that the members fill, and beside them at those of two groups' chunks and of two chunks' members.
+    pub fn pass(&self, tag: u64, key: u64, peeks: &mut Peeks) -> u64
         requires here { HasTag self.now.items tag }
         ensures passed { IsPassedIn self.now.keys key self.now.items tag result }
+        ensures few { peeks.new ≤ peeks.old + (length self.now.items / (GROUP * HALF) + 2 * (GROUP + MOST)) }
     {
         let slot = chunk_of(&self.chunks, &self.slots, &self.homes, tag);
-        let (last, stops) = self.chunks[slot].pass_after(tag, &self.keys, key);
+        let (last, stops) = self.chunks[slot].pass_after(tag, &self.keys, key, peeks);
         if stops {
             return last;
         }
-        pass_on(&self.chunks, &self.lows, slot + 1, last, &self.keys, key)
+        pass_on(
+            &self.chunks,
+            &self.lows,
+            slot + 1,
+            last,
+            &self.keys,
+            key,
+            peeks,
+        )
     }
 }

@@ -2,6 +2,7 @@
 //! A stretch of the list that is looked through as a whole.
 
 use crate::keys::{last_of, least_in, pass};
+use crate::peeks::Peeks;
 use fallible::{Global, Vec};
 use looks::Refusal;
 
@@ -141,19 +142,31 @@ impl Chunk {
 
     // Passes its members up to the first whose key isn't greater, after a member of this tag. It answers the tag of the last that was
     // passed, and whether there is such a first one.
-    pub(crate) fn pass_from(&self, tag: u64, keys: &[u64], key: u64) -> (u64, bool) {
+    pub(crate) fn pass_from(
+        &self,
+        tag: u64,
+        keys: &[u64],
+        key: u64,
+        peeks: &mut Peeks,
+    ) -> (u64, bool) {
         let members = self.members();
-        if key < self.least() {
+        if peeks.is_above(self.least(), key) {
             return (last_of(members, members.len(), tag), false);
         }
-        pass(keys, members, key, tag)
+        pass(keys, members, key, tag, peeks)
     }
 
     // The same of its members after that of this tag.
-    pub(crate) fn pass_after(&self, tag: u64, keys: &[u64], key: u64) -> (u64, bool) {
+    pub(crate) fn pass_after(
+        &self,
+        tag: u64,
+        keys: &[u64],
+        key: u64,
+        peeks: &mut Peeks,
+    ) -> (u64, bool) {
         let members = self.members();
         match self.slot_of(tag) {
-            Some(slot) => pass(keys, &members[slot + 1..], key, tag),
+            Some(slot) => pass(keys, &members[slot + 1..], key, tag, peeks),
             None => unreachable!(),
         }
     }

@@ -7,5 +7,8 @@ mod chunk;
 mod groups;
 mod index;
 mod keys;
+mod passing;
+mod peeks;
 
 pub use index::RankIndex;
+pub use peeks::Peeks;

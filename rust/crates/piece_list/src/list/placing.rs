@@ -12,6 +12,7 @@ use char_files::{Anchor, Name};
 use fallible::Vec;
 use list_changes::{Change, ChangeKind};
 use looks::{Key, Refusal};
+use rank_index::Peeks;
 
 // The piece directly after this one, if its key is greater: one look, which is counted. At the front for `None`.
 fn next_above(pieces: &PieceRing, steps: &mut Steps, last: Option<u64>, key: Key) -> Option<u64> {
@@ -31,7 +32,7 @@ impl Pieces {
         let bound = number_of(key);
         let mut last = from;
         while let Some(next) = next_above(&self.ring, steps, last, key) {
-            last = Some(self.index.pass(next, bound));
+            last = Some(self.index.pass(next, bound, &mut Peeks::none()));
         }
         last
     }

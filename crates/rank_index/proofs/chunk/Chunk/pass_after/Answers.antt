@@ -14,8 +14,8 @@ overflow_add-slot c =
       c.members-members.ensures.most,
     )
 
-pub returns : goal.returns
-returns c =
+pub returns-clause-passed : goal.returns-clause-passed
+returns-clause-passed c =
     let members : Members = c.args.self.now.members in
     let slot : ℕ = c.in-Some.slot in
     let read : Members = c.members-members.result.now in
