@@ -3,7 +3,7 @@ from __future__ import annotations
 
 import unittest
 
-from tools.counts import DEFINED, RECIPES, crates, deepest, places
+from tools.counts import DEFINED, RECIPES, crates, deepest, places, repeated_words
 
 
 class Counts(unittest.TestCase):
@@ -14,6 +14,9 @@ class Counts(unittest.TestCase):
             "module _ {T : Type 0} where\n  -- four\n  unfoldable pub four : T\npub mod Other\n"
         )
         self.assertEqual(DEFINED.findall(source), [("-- one\n-- more\n", "one"), ("", "Two"), ("", "Three"), ("  -- four\n", "four")])
+
+    def test_two_crates_define_one_word_where_it_means_the_same(self) -> None:
+        self.assertEqual(list(repeated_words()), ["◌>>=◌"])
 
     def test_a_stack_has_the_functions_of_crates(self) -> None:
         counted = (
