@@ -185,7 +185,7 @@ fn other_looks_at<'a>(typed: &Looks, bytes: &'a [u8]) -> Option<(Looks, &'a [u8]
 }
 
 // An Insert's looks, where the site types in these.
-#[tactic(auto, unfolding(crate::specs::Reading::typed_at))]
+#[tactic(auto, unfolding(crate::specs::Reading::typed_looks_at))]
 fn typed_at<'a>(typed: &Looks, bytes: &'a [u8]) -> Option<(Looks, &'a [u8])>
     ensures { Finds (λ x. (x.0, x.1.now)) result (typed_looks_at typed.now bytes.now) }
 {
@@ -396,7 +396,7 @@ fn placed_at<'a>(
 }
 
 // A Delete of another set than one character.
-#[tactic(auto, unfolding(crate::specs::Reading::delete_at))]
+#[tactic(auto, unfolding(crate::specs::Reading::packed_delete_at))]
 fn delete_at(bytes: &[u8]) -> Option<(Edit<'_>, &[u8])>
     ensures { Finds (λ x. (view_edit x.0, x.1.now)) result (packed_delete_at bytes.now) }
 {
@@ -407,7 +407,7 @@ fn delete_at(bytes: &[u8]) -> Option<(Edit<'_>, &[u8])>
     Some((Edit::Delete { names }, rest))
 }
 
-#[tactic(auto, unfolding(crate::specs::Reading::restore_at))]
+#[tactic(auto, unfolding(crate::specs::Reading::packed_restore_at))]
 fn restore_at(bytes: &[u8]) -> Option<(Edit<'_>, &[u8])>
     ensures { Finds (λ x. (view_edit x.0, x.1.now)) result (packed_restore_at bytes.now) }
 {
@@ -415,7 +415,7 @@ fn restore_at(bytes: &[u8]) -> Option<(Edit<'_>, &[u8])>
     Some((Edit::Restore { names }, rest))
 }
 
-#[tactic(auto, unfolding(crate::specs::Reading::change_at))]
+#[tactic(auto, unfolding(crate::specs::Reading::packed_change_at))]
 fn change_at(bytes: &[u8]) -> Option<(Edit<'_>, &[u8])>
     ensures { Finds (λ x. (view_edit x.0, x.1.now)) result (packed_change_at bytes.now) }
 {
