@@ -30,11 +30,11 @@ module _ (site : ℕ) (looks : Looks) where
 
   module _ (cause : Anchor) (at : ℕ) (all : List ℕ) where
     -- those from an offset on have the bytes from there on
-    chars_from : (k off : ℕ) (bytes : List ℕ) → off ≡ at + k → drop k all ≡ bytes
+    are_chars : (k off : ℕ) (bytes : List ℕ) → off ≡ at + k → drop k all ≡ bytes
         → map (char_by (insert cause at looks all)) (names_from off (length bytes))
         ≡ chars_from site off looks bytes
-    chars_from k off [] is rest = refl
-    chars_from k off (b ∷ bytes) is rest =
+    are_chars k off [] is rest = refl
+    are_chars k off (b ∷ bytes) is rest =
         let within : k < length all = omega (arith, ap (length {A = ℕ}) rest, length-drop k all) in
         let more : drop k all ≡ get_or all k 0 ∷ drop (k + 1) all = drop_more all k 0 within in
         let same : off - at ≡ k = omega arith in
@@ -42,13 +42,13 @@ module _ (site : ℕ) (looks : Looks) where
         let after : drop (k + 1) all ≡ bytes = cc in
         let by : CharName → Char = char_by (insert cause at looks all) in
         let first : by (record { site = site; off = off }) ≡ made off b = ap (λ (n : ℕ). made off n) byte in
-        let others = chars_from (k + 1) (off + 1) bytes (omega arith) after in
+        let others = are_chars (k + 1) (off + 1) bytes (omega arith) after in
         ap (λ (c : Char). c ∷ map by (names_from (off + 1) (length bytes))) first
         ∙ ap (λ (cs : List Char). made off b ∷ cs) others
 
     pub run_is_chars :
         map (char_by (insert cause at looks all)) (names_from at (length all)) ≡ chars_from site at looks all
-    run_is_chars = chars_from 0 at all (omega arith) refl
+    run_is_chars = are_chars 0 at all (omega arith) refl
 
     -- each name is in the run
     in_run : (off len : ℕ) → at ≤ off → off + len ≤ at + length all
