@@ -313,7 +313,7 @@ none_is_code t text typing (b ∷ c ∷ bytes) are =
 pub record BeginsTyped (t : Told) (text : ℕ) (typing : Typing) (bytes : List ℕ) : Type 0 where
   pub first : ℕ
   pub after : List ℕ
-  pub is : bytes ≡ first ∷ after_one_more
+  pub is : bytes ≡ first ∷ after
   pub on : TypesOn t text typing
   pub plain : is_code t.in_chunk first ≡ false
   pub spelled : HasSpelling (letter typing first)
