@@ -4,7 +4,6 @@ use Rattle.char_files.specs.CharName.{CharName}
 use Rattle.operations.specs.NameSet.{Range, names_in, set_of}
 use Rattle.operations.specs.Operation.{Operation}
 use Rattle.tree_order.specs.Shown.{is_visible}
-use Rattle.taken_text.specs.Taken.{TakenSeen}
 
 -- whether the character of this name is shown, or whether it is hidden
 abbrev pub has_visibility : List Operation → (visible : Bool) → CharName → Bool
@@ -12,5 +11,5 @@ has_visibility ops true c = is_visible ops c
 has_visibility ops false c = not (is_visible ops c)
 
 -- those of the names whose characters are shown, or are hidden, as a set
-abbrev pub names_with : TakenSeen → (visible : Bool) → List Range → List Range
-names_with t visible names = set_of (filter (has_visibility t.operations visible) (names_in names))
+abbrev pub names_with : List Operation → (visible : Bool) → List Range → List Range
+names_with ops visible names = set_of (filter (has_visibility ops visible) (names_in names))

@@ -94,9 +94,9 @@ impl TakenText {
     /// Refused `Scattered` where they make more than 1,024 ranges, and `OutOfMemory`, which may come before it.
     pub fn names_with(&self, names: &[NameRange], visible: bool) -> Result<NameSet, Refusal>
         requires { (c : CharName) → IsAmong names.now c → IsChar self.now.operations c }
-        ensures ok { IfOk result (λ set. set ≡ names_with self.now visible names.now) }
+        ensures ok { IfOk result (λ set. set ≡ names_with self.now.operations visible names.now) }
         ensures scattered { IsErrOf result Refusal.Scattered
-            → MAX_RANGES < length (names_with self.now visible names.now) }
+            → MAX_RANGES < length (names_with self.now.operations visible names.now) }
         ensures errors { IfErr result (λ e. (e ≡ Refusal.Scattered) ⊎ (e ≡ Refusal.OutOfMemory)) }
     {
         let ranges = joined(self.alloc, names)?;

@@ -5,7 +5,7 @@ use Rattle.std.specs.List.{list_all, list_any}
 use Rattle.looks.specs.declared.refusal.Refusal.{Refusal}
 use Rattle.looks.specs.declared.refusal.Refusal.TheVariants.{Behind, OutOfMemory, Scattered, SeqSpent, StampsSpent}
 use Rattle.char_files.specs.declared.character.Char.{Char}
-use Rattle.operations.specs.NameSet.{Range, names_in, set_of}
+use Rattle.operations.specs.NameSet.{Range, names_in}
 use Rattle.operations.specs.Operation.{Operation, OpKind, delete, restore}
 use Rattle.operations.specs.Spelling.{spelling}
 use Rattle.operations.specs.declared.name_set.TheConstants.{MAX_RANGES}
@@ -13,7 +13,7 @@ use Rattle.operations.specs.declared.op.TheConstants.{MAX_STAMP}
 use Rattle.set_laws.specs.Fronts.{file_len, front_of, greatest_stamp}
 use Rattle.tree_order.specs.Shown.{is_visible}
 use Rattle.waiting_room.specs.Room.{is_behind}
-use Rattle.taken_text.specs.Named.{has_visibility}
+use Rattle.taken_text.specs.Named.{has_visibility, names_with}
 use Rattle.texts.specs.Edit.{own_op}
 use Rattle.texts.specs.Order.{is_named}
 use Rattle.texts.specs.Taking.{HasTaken}
@@ -39,7 +39,7 @@ changes_any t what names = list_any (has_visibility t.operations (changes_shown 
 
 -- the names of the characters that it changes, as a set
 abbrev pub names_changed : TextState → ByNames → List Range → List Range
-names_changed t what names = set_of (filter (has_visibility t.operations (changes_shown what)) (names_in names))
+names_changed t what names = names_with t.operations (changes_shown what) names
 
 -- the kind of its operation
 abbrev pub kind_by_names : ByNames → List Range → OpKind

@@ -37,7 +37,7 @@ all c =
     ∙ c.loop-range.invariant
 
 -- and make the set
-set_is : (c : After-of_all) → set_of (names_in c.loop-range.found.items) ≡ names_with c.args.self.now c.args.visible c.args.names.now
+set_is : (c : After-of_all) → set_of (names_in c.loop-range.found.items) ≡ names_with c.args.self.now.operations c.args.visible c.args.names.now
 set_is c =
     ap set_of (all c)
     ∙ ap (λ (ranges : List Range). set_of (filter (has_visibility c.args.self.now.operations c.args.visible) (names_in ranges)))
