@@ -6,8 +6,10 @@ mod chunk;
 mod groups;
 mod index;
 mod keys;
+mod limits;
 mod passing;
 mod peeks;
 
 pub use index::RankIndex;
+pub use limits::the_limits;
 pub use peeks::Peeks;

@@ -11,4 +11,5 @@ mod passing;
 mod peeks;
 
 pub use index::RankIndex;
+
 pub use peeks::Peeks;
