@@ -62,7 +62,7 @@ pub length_letters : (t : Typing) (bytes : List ℕ) → length (letters t bytes
 length_letters t [] = refl
 length_letters t (b ∷ bytes) = ap suc (length_letters (after_letter t) bytes)
 
-letters_pushed : (t : Typing) (bytes : List ℕ) (b : ℕ)
+pub letters_pushed : (t : Typing) (bytes : List ℕ) (b : ℕ)
     → letters t (bytes ++ b ∷ []) ≡ letters t bytes ++ letter (typed_at t (length bytes)) b ∷ []
 letters_pushed t [] b = ap (λ (op : Operation). op ∷ []) (first_letter t b)
 letters_pushed t (x ∷ bytes) b =

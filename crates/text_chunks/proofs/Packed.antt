@@ -1,19 +1,17 @@
 -- What a text has taken in beyond fronts is cut into chunks, operation by operation.
-use Rattle.std.proofs.Common.{◌≡◌, ◌≢◌, ℕ, ◌+◌, true, false, ◌≤◌, List, [], ◌∷◌, ◌++◌, length, take, Some, None}
-use Rattle.std.proofs.Common.{ap, sym, subst, refl, ◌∙◌, append_assoc, append-nil}
-use Rattle.std.specs.Prelude.{AllPairs, slice_get}
+use Rattle.std.proofs.Common.{◌≡◌, ◌≢◌, ℕ, zero, suc, ◌+◌, true, false, ◌<◌, ◌≤◌, List, [], ◌∷◌, ◌++◌, length, take, Some, None}
+use Rattle.std.proofs.Common.{ap, sym, subst, refl, ◌∙◌, append_assoc, append-nil, arith}
+use Rattle.std.specs.Prelude.{All, AllPairs, Contains, IfSome, slice_get}
 use Rattle.std.proofs.lemmas.Bool.{cond-true, cond-false}
 use Rattle.std.proofs.lemmas.List.{take_all}
 use Rattle.std.proofs.lemmas.List.Elements.{All-contains, filter-append}
 use Rattle.std.proofs.lemmas.Option.{get_or_from_slice_get, slice_get_within}
 use Rattle.operations.specs.Operation.{Operation}
 use Rattle.operations.specs.Spelling.{HasSpelling}
-use Rattle.packed.specs.Laws.{IsHistory}
-use Rattle.packed.specs.Reading.{CanBeNext}
-use Rattle.packed.specs.Told.{Told, IsNext, expected, nothing_begun, nothing_told, told, told_after, told_on}
-use Rattle.packed.proofs.PackedLists.{adds_at_the_end}
-use Rattle.kept_file.proofs.Following.{first_parts, is_next}
-use Rattle.kept_file.proofs.Packings.{follow_more}
+use Rattle.tree_order.specs.Good.{file_before}
+use Rattle.packed.specs.Laws.{CanFollow, IsHistory}
+use Rattle.packed.specs.Told.{Told, expected, nothing_begun, nothing_told, told, told_after, told_on}
+use Rattle.kept_file.proofs.Following.{first_parts, is_history, len_before}
 use Rattle.chunks.specs.Chunks.{Placed, CanCome, CanAllCome, chunks, placed_from}
 use Rattle.chunks.specs.Laws.{above_fronts}
 use Rattle.chunks.specs.Parts.{placed}
@@ -35,62 +33,67 @@ placed_more t [] ys = refl
 placed_more t (x ∷ xs) ys =
     ap (λ (l : List Placed). placed x (expected t x.site).len ∷ l) (placed_more (told_on t x) xs ys)
 
+-- the first of a history are one
+follow_first : (t : Told) (text : ℕ) (ops : List Operation) (n : ℕ) → CanFollow t text ops → CanFollow t text (take n ops)
+follow_first t text ops zero follow = tt
+follow_first t text [] (suc n) follow = tt
+follow_first t text (op ∷ ops) (suc n) follow = (follow.0, follow_first (told_on t op) text ops n follow.1)
+
 -- so many of them were passed, and those beyond the fronts cut
-pub record IsPackedTo (fronts : List Front) (ops : List Operation) (number n : ℕ) (h : Told) (c : Cut) : Type 0 where
-  pub history : IsHistory number (take n ops)
-  pub tells : h ≡ told (take n ops)
+pub record IsPackedTo (fronts : List Front) (ops : List Operation) (number n : ℕ) (c : Cut) : Type 0 where
   pub text : c.text ≡ number
   pub cut : (ps : List Placed) → cut_on c ps ≡ chunks number (placed_first fronts ops n ++ ps)
   pub come : (ps : List Placed) → CanAllCome nothing_begun number (placed_first fronts ops n ++ ps)
       → CanAllCome (told_in c.current) number ps
 
--- none was
-pub none_yet : (fronts : List Front) (ops : List Operation) (number : ℕ)
-    → IsPackedTo fronts ops number 0 nothing_told (record { text = number; full = []; current = None })
-none_yet fronts ops number = record {
-  history = tt;
-  tells = refl;
-  text = refl;
-  cut = λ ps. refl;
-  come = λ ps come. come;
-}
+-- where none of them is beyond the fronts, none was cut
+none_placed : (fronts : List Front) (t : Told) (ops : List Operation) (n : ℕ)
+    → ((k : ℕ) → k < n → IfSome (slice_get ops k) (λ op. is_beyond fronts op ≡ false))
+    → above_fronts (front_in fronts) (placed_from t (take n ops)) ≡ []
+none_placed fronts t ops zero none = refl
+none_placed fronts t [] (suc n) none = refl
+none_placed fronts t (op ∷ ops) (suc n) none =
+    cond-false (is_beyond fronts op) _ _ (none 0 (omega arith))
+    ∙ none_placed fronts (told_on t op) ops n (λ k less. none (suc k) (omega arith))
+
+pub none_yet : (fronts : List Front) (ops : List Operation) (number n : ℕ)
+    → ((k : ℕ) → k < n → IfSome (slice_get ops k) (λ op. is_beyond fronts op ≡ false))
+    → IsPackedTo fronts ops number n (record { text = number; full = []; current = None })
+none_yet fronts ops number n none =
+    let empty : placed_first fronts ops n ≡ [] = none_placed fronts nothing_told ops n none in
+    record {
+      text = refl;
+      cut = λ ps. ap (λ (l : List Placed). chunks number (l ++ ps)) (sym empty);
+      come = λ ps come. subst (λ (l : List Placed). CanAllCome nothing_begun number (l ++ ps)) empty come;
+    }
 
 -- all were
-pub all_packed : (fronts : List Front) (t : TextState) (n : ℕ) (h : Told) (c : Cut) → length t.operations ≤ n
-    → IsPackedTo fronts t.operations t.text n h c → cut_on c [] ≡ chunks_beyond fronts t
-all_packed fronts t n h c all s =
+pub all_packed : (fronts : List Front) (t : TextState) (n : ℕ) (c : Cut) → length t.operations ≤ n
+    → IsPackedTo fronts t.operations t.text n c → cut_on c [] ≡ chunks_beyond fronts t
+all_packed fronts t n c all s =
     s.cut [] ∙ ap (chunks t.text) (append-nil (placed_first fronts t.operations n))
     ∙ ap (λ (l : List Operation). chunks t.text (above_fronts (front_in fronts) (placed_from nothing_told l)))
     (take_all n t.operations all)
 
 module _ (fronts : List Front) (t : TextState) (is : IsText t) (once : AllPairs (λ a b. a ≢ b) t.operations)
-    (n : ℕ) (op : Operation) (at : slice_get t.operations n ≡ Some op) (spelled : HasSpelling op) (h : Told) (c : Cut)
-    (s : IsPackedTo fronts t.operations t.text n h c) where
+    (spelled : All HasSpelling t.operations) (n : ℕ) (op : Operation) (at : slice_get t.operations n ≡ Some op) (c : Cut)
+    (s : IsPackedTo fronts t.operations t.text n c) where
   abbrev first : List Operation
   first = take n t.operations
 
-  -- the operation is the next of its site
-  pub can_be_next : CanBeNext h t.text op
-  can_be_next = record {
-    next = subst (λ (u : Told). IsNext u op) (sym s.tells) (is_next t.operations is.in_order is.identified once n op at spelled);
-    spelled = spelled;
-    on_text = All-contains (λ (o : Operation). o.text ≡ t.text) t.operations op is.of_text
-        (n, slice_get_within t.operations n op at, get_or_from_slice_get t.operations n op op at);
-  }
-
   history_more : IsHistory t.text (take (n + 1) t.operations)
   history_more =
-      subst (IsHistory t.text) (sym (first_parts t.operations n op at))
-      (follow_more nothing_told t.text first op s.history
-      (subst (λ (u : Told). CanBeNext u t.text op) s.tells can_be_next))
-
-  told_more : told_on h op ≡ told (take (n + 1) t.operations)
-  told_more =
-      ap (λ (u : Told). told_on u op) s.tells ∙ sym (adds_at_the_end first op).1
-      ∙ ap told (sym (first_parts t.operations n op at))
+      follow_first nothing_told t.text t.operations (n + 1)
+      (is_history t.text t.operations is.in_order is.identified once spelled is.of_text)
 
   abbrev pub here : Placed
-  here = placed op (expected h op.site).len
+  here = placed op (file_before t.operations op.site op.seq)
+
+  len_here : (expected (told first) op.site).len ≡ file_before t.operations op.site op.seq
+  len_here =
+      let held : Contains t.operations op =
+      (n, slice_get_within t.operations n op at, get_or_from_slice_get t.operations n op op at) in
+      len_before t.operations is.in_order is.identified once n op at (All-contains HasSpelling t.operations op spelled held)
 
   placed_one : placed_first fronts t.operations (n + 1)
       ≡ placed_first fronts t.operations n ++ above_fronts (front_in fronts) (here ∷ [])
@@ -98,8 +101,7 @@ module _ (fronts : List Front) (t : TextState) (is : IsText t) (once : AllPairs 
       ap (λ (l : List Operation). above_fronts (front_in fronts) (placed_from nothing_told l)) (first_parts t.operations n op at)
       ∙ ap (above_fronts (front_in fronts)) (placed_more nothing_told first (op ∷ []))
       ∙ filter-append _ (placed_from nothing_told first) (placed op (expected (told first) op.site).len ∷ [])
-      ∙ ap (λ (u : Told). placed_first fronts t.operations n
-      ++ above_fronts (front_in fronts) (placed op (expected u op.site).len ∷ [])) (sym s.tells)
+      ∙ ap (λ (len : ℕ). placed_first fronts t.operations n ++ above_fronts (front_in fronts) (placed op len ∷ [])) len_here
 
   placed_beyond : is_beyond fronts op ≡ true
       → placed_first fronts t.operations (n + 1) ≡ placed_first fronts t.operations n ++ here ∷ []
@@ -112,7 +114,7 @@ module _ (fronts : List Front) (t : TextState) (is : IsText t) (once : AllPairs 
       placed_one ∙ ap (λ (l : List Placed). placed_first fronts t.operations n ++ l) (cond-false (is_beyond fronts op) (here ∷ []) [] b)
       ∙ append-nil _
 
-  -- it can come in the chunk that is being written
+  -- the operation can come in the chunk that is being written
   pub can_come : is_beyond fronts op ≡ true → CanCome (told_in c.current) c.text here
   can_come b =
       let all : CanAllCome nothing_begun t.text (placed_first fronts t.operations (n + 1)) =
@@ -122,10 +124,8 @@ module _ (fronts : List Front) (t : TextState) (is : IsText t) (once : AllPairs 
 
   -- it was added
   pub one_beyond : (new : Cut) → is_beyond fronts op ≡ true → IsCutOn c here new
-      → IsPackedTo fronts t.operations t.text (n + 1) (told_on h op) new
+      → IsPackedTo fronts t.operations t.text (n + 1) new
   one_beyond new b on = record {
-    history = history_more;
-    tells = told_more;
     text = on.text ∙ s.text;
     cut = λ ps. on.cut ps ∙ s.cut (here ∷ ps) ∙ ap (chunks t.text) (seam ps);
     come = λ ps all. subst (λ (x : ℕ). CanAllCome (told_in new.current) x ps) s.text
@@ -141,10 +141,8 @@ module _ (fronts : List Front) (t : TextState) (is : IsText t) (once : AllPairs 
 
   -- it was left out
   pub one_up_to : (new : Cut) → is_beyond fronts op ≡ false → new ≡ c
-      → IsPackedTo fronts t.operations t.text (n + 1) (told_on h op) new
+      → IsPackedTo fronts t.operations t.text (n + 1) new
   one_up_to new b same = record {
-    history = history_more;
-    tells = told_more;
     text = ap (λ (x : Cut). x.text) same ∙ s.text;
     cut = λ ps. ap (λ (x : Cut). cut_on x ps) same ∙ s.cut ps
         ∙ ap (λ (l : List Placed). chunks t.text (l ++ ps)) (sym (placed_up_to b));

@@ -9,7 +9,6 @@ ghost use Rattle.text_chunks.specs.Parts.{IsCutOn, told_in};
 use crate::cutter::Cutter;
 use looks::Refusal;
 use operations::Op;
-use packed::History;
 use std::alloc::Global;
 use texts::{Front, Replica, front_in};
 
@@ -29,20 +28,19 @@ fn add_beyond(fronts: &[Front], cutter: &mut Cutter, op: &Op, len: u32) -> Resul
 
 /// The chunks of what a text has taken in beyond some fronts, in the order of its taking; none where that is nothing.
 ///
-/// Refused `OutOfMemory` alone. The time grows with all that the text has taken in.
+/// Refused `OutOfMemory` alone. The time grows with what was taken in from the first of them on, and with the number of sites
+/// times that of the fronts.
 pub fn pack(alloc: Global, replica: &Replica, fronts: &[Front]) -> Result<Vec<Vec<u8>>, Refusal>
     ensures ok { IfOk result (λ packed. map (λ chunk. chunk.items) packed.items ≡ chunks_beyond fronts.now replica.now) }
     ensures errors { RefusedForMemoryAlone result }
 {
     replica.lemma_is_text();
     replica.lemma_are_taken_once();
-    let mut history = History::new(alloc);
+    replica.lemma_have_spelling();
     let mut cutter = Cutter::new(alloc, replica.text());
-    for place in 0..replica.taken_len() {
+    for place in replica.first_beyond(fronts)..replica.taken_len() {
         let op = replica.taken(place)?;
-        op.lemma_has_spelling();
-        add_beyond(fronts, &mut cutter, &op, history.len(op.site()))?;
-        history.pass(&op)?;
+        add_beyond(fronts, &mut cutter, &op, replica.file_before(place))?;
     }
     cutter.finish()
 }

@@ -1,4 +1,5 @@
 pub mod AllPass
+pub mod Beyond
 pub mod Causes
 pub mod Chars
 pub mod Draining

@@ -1,3 +1,4 @@
+pub mod Beyond
 pub mod Draining
 pub mod Edit
 pub mod Fronts

@@ -9,6 +9,7 @@ ghost use Rattle.texts.specs.TextState.{all_told, empty_text, shown_of};
 ghost use Rattle.taken_text.specs.Noted.{AreChangesSince};
 ghost use Rattle.taken_text.specs.Rows.{chars_of_rows};
 
+mod beyond;
 mod by_names;
 mod deleting;
 mod dressing;

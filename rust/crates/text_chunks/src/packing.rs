@@ -3,7 +3,6 @@ use crate::cutter::Cutter;
 use fallible::{Global, Vec};
 use looks::Refusal;
 use operations::Op;
-use packed::History;
 use texts::{Front, Replica, front_in};
 
 // Adds an operation that is beyond the fronts, before which its site's file is so long; any other is left out.
@@ -16,14 +15,13 @@ fn add_beyond(fronts: &[Front], cutter: &mut Cutter, op: &Op, len: u32) -> Resul
 
 /// The chunks of what a text has taken in beyond some fronts, in the order of its taking; none where that is nothing.
 ///
-/// Refused `OutOfMemory` alone. The time grows with all that the text has taken in.
+/// Refused `OutOfMemory` alone. The time grows with what was taken in from the first of them on, and with the number of sites
+/// times that of the fronts.
 pub fn pack(alloc: Global, replica: &Replica, fronts: &[Front]) -> Result<Vec<Vec<u8>>, Refusal> {
-    let mut history = History::new(alloc);
     let mut cutter = Cutter::new(alloc, replica.text());
-    for place in 0..replica.taken_len() {
+    for place in replica.first_beyond(fronts)..replica.taken_len() {
         let op = replica.taken(place)?;
-        add_beyond(fronts, &mut cutter, &op, history.len(op.site()))?;
-        history.pass(&op)?;
+        add_beyond(fronts, &mut cutter, &op, replica.file_before(place))?;
     }
     cutter.finish()
 }
