@@ -1,6 +1,6 @@
 ghost use Rattle.std.specs.Prelude.{◌≡◌, ◌+◌, ◌-◌, ◌^◌, ◌<◌, ◌≤◌, ◌∷◌, [], ◌++◌, length, take};
 ghost use Rattle.line_drawing.specs.Rows.{blanks, sign_of};
-ghost use Rattle.text_frames.specs.Reading.{after_line, counted, line_before, row_before}
+ghost use Rattle.text_frames.specs.Reading.{after_line, counted, line_before, row_before};
 ghost use Rattle.char_files.specs.Chars.{char_bytes};
 
 use crate::reading::CountingReader;

@@ -4,7 +4,7 @@ ghost use Rattle.std.specs.Prelude.{◌≡◌, [], None, MatchOption, length, �
 ghost use Rattle.looks.specs.Looks.{plain_looks};
 ghost use Rattle.texts.specs.Edit.{deletion, recalling, restoration};
 ghost use Rattle.texts.specs.TextState.{shown_of};
-ghost use Rattle.vialshoal_c.specs.Asking.{FindsName, PutsMessage, PutsShown, TellsChanges, TellsFront}
+ghost use Rattle.vialshoal_c.specs.Asking.{FindsName, PutsMessage, PutsShown, TellsChanges, TellsFront};
 ghost use Rattle.char_files.specs.Chars.{char_bytes};
 ghost use Rattle.vialshoal_c.specs.Asking.{PutsSites, TellsRun, c_names};
 ghost use Rattle.vialshoal_c.specs.Editing.{BeginsHandle, BeginsText, Dresses, EditsSession, InsertsInLooks, InsertsRun};

@@ -2,7 +2,7 @@
 
 ghost use Rattle.std.specs.Prelude.{◌≡◌, None, MatchOption, length};
 ghost use Rattle.texts.specs.TextState.{shown_of};
-ghost use Rattle.vialshoal_c.specs.Asking.{FindsName, PutsShown, TellsRun, c_names}
+ghost use Rattle.vialshoal_c.specs.Asking.{FindsName, PutsShown, TellsRun, c_names};
 ghost use Rattle.char_files.specs.Chars.{char_bytes};
 ghost use Rattle.vialshoal_c.specs.History.{OpensPast};
 ghost use Rattle.vialshoal_c.specs.Opened.{Reads};

@@ -4,7 +4,7 @@ ghost use Rattle.std.specs.Prelude.{◌≡◌, ◌+◌, ◌++◌, ◌<◌, ◌�
 ghost use Rattle.taken_text.specs.Rows.{chars_of_rows};
 ghost use Rattle.texts.specs.Edit.{is_range_in};
 ghost use Rattle.texts.specs.TextState.{shown_of};
-ghost use Rattle.vialshoal_c.specs.Asking.{FindsName, FindsPlace, IsRun, PutsShown, TellsRun, c_names}
+ghost use Rattle.vialshoal_c.specs.Asking.{FindsName, FindsPlace, IsRun, PutsShown, TellsRun, c_names};
 ghost use Rattle.char_files.specs.Chars.{char_bytes};
 
 use crate::asking::{Put, put_bytes};
