@@ -1,22 +1,31 @@
 -- Operations are handed in, one after the other.
-use Rattle.std.proofs.Common.{◌≡◌, ◌≢◌, ℕ, ◌+◌, ◌*◌, ◌^◌, ◌≤◌, Bool, true, false, ◌||◌, inl, inr, ◌⊎◌, List, [], ◌∷◌, length}
-use Rattle.std.proofs.Common.{Result, Ok, Err, ap, sym, subst, refl, length-append, arith}
-use Rattle.std.proofs.lemmas.List.{length-map}
+use Rattle.std.proofs.Common.{◌≡◌, ◌≢◌, ℕ, ◌+◌, ◌≤◌, Bool, true, false, ◌||◌, inl, inr, ◌⊎◌, List, [], ◌∷◌, length}
+use Rattle.std.proofs.Common.{◌-◌, ◌++◌, take, drop, ◌∙◌, Result, Ok, Err, ap, sym, subst, refl, length-append, arith}
+use Rattle.std.specs.Prelude.{AllPairs, reverse}
+use Rattle.std.proofs.lemmas.List.{length-drop, length-map, length-reverse, reverse-append, take-append-drop}
+use Rattle.std.proofs.Math.Seq.{drop-append_seam}
 use Rattle.looks.specs.declared.refusal.Refusal.{Refusal}
 use Rattle.looks.specs.declared.refusal.Refusal.TheVariants.{Malformed, OutOfMemory, WrongText}
+use Rattle.operations.specs.Letters.{letters}
 use Rattle.operations.specs.Operation.{Operation}
+use Rattle.operations.specs.declared.typing.Typing.{Typing}
 use Rattle.packed.specs.Told.{Told, nothing_begun}
 use Rattle.chunks.specs.Chunks.{BeginsAsChunk, IsChunkOf, IsNoChunk, Placed, added, added_after, head, operations_of, told_by}
 use Rattle.chunks.specs.declared.TheConstants.{MAX_CHUNK}
 use Rattle.chunks.proofs.OneChunk.{some_added}
+use Rattle.chunks.proofs.TypedRows.{length_letters}
 use Rattle.texts.specs.Take.{TakesOp, TakesOpShort}
+use Rattle.texts.specs.Taking.{HasTakenAll}
+use Rattle.texts.specs.Text.{IsText}
 use Rattle.texts.specs.TextState.{TextState}
 use Rattle.texts.specs.declared.took.Took.{Took}
 use Rattle.text_chunks.specs.Parts.{CountsHaveRoom, HandsInOne, HasGrown}
+use Rattle.text_chunks.specs.Typed.{AreHandedIn, AreTypedFirst, CountsAreLow}
 use Rattle.text_chunks.specs.Unpacking.{HandsIn, HandsInAll, Unpacks, UnpacksShort, counted_in, nothing_unpacked, refusal_after}
 use Rattle.text_chunks.specs.declared.unpacked.UnpackRefusal.{UnpackRefusal}
 use Rattle.text_chunks.specs.declared.unpacked.UnpackRefusal.TheVariants.{Whole}
 use Rattle.text_chunks.specs.declared.unpacked.Unpacked.{Unpacked}
+use Rattle.text_chunks.proofs.HandedRows.{row_handed, with_taken}
 
 -- ---- a chunk has no more operations than bytes
 
@@ -58,18 +67,24 @@ none_handed c t new op why (inr takes) = (true, Err why, takes, refl)
 
 -- ---- so many were handed in
 
--- of which this became, and these are left; what they do from here on all do from the start
-pub record Goes (start : TextState) (ops : List Operation) (done : ℕ) (c : Unpacked) (now : TextState)
-    (left : List Operation) : Type 0 where
-  pub was : Bool
-  pub counted : done + length left ≡ length ops
-  pub taken : c.taken ≤ done * 2 ^ 32
-  pub known : c.known ≤ done
-  pub waiting : c.waiting ≤ done
-  pub on : (short : Bool) (result : Result Unpacked UnpackRefusal) (new : TextState)
-      → HandsIn done c was now left short result new → HandsInAll start ops short result new
+-- there is room to count more
+pub has_room : (done : ℕ) (c : Unpacked) (left : ℕ) → CountsAreLow done c left → CountsHaveRoom c
+has_room done c left low = record {
+  taken = omega (arith, low.taken, low.few);
+  known = omega (arith, low.known, low.few);
+  waiting = omega (arith, low.waiting, low.few);
+}
 
-pub none_yet : (start : TextState) (ops left : List Operation) → left ≡ ops → Goes start ops 0 nothing_unpacked start left
+pub low_counts : (start : TextState) (ops : List Operation) (done : ℕ) (c : Unpacked) (now : TextState) (left : List Operation)
+    (n : ℕ) → AreHandedIn start ops done c now left → length ops ≤ MAX_CHUNK → n ≡ length left → CountsAreLow done c n
+low_counts start ops done c now left n s short many = record {
+  few = omega (arith, s.counted, short, many);
+  taken = s.taken;
+  known = s.known;
+  waiting = s.waiting;
+}
+
+pub none_yet : (start : TextState) (ops left : List Operation) → left ≡ ops → AreHandedIn start ops 0 nothing_unpacked start left
 none_yet start ops left same = record {
   was = false;
   counted = omega (arith, ap length same);
@@ -81,18 +96,10 @@ none_yet start ops left same = record {
 }
 
 module _ (start : TextState) (ops : List Operation) (done : ℕ) (c : Unpacked) (now : TextState) (op : Operation)
-    (left : List Operation) (s : Goes start ops done c now (op ∷ left)) where
-  -- there is room to count one more
-  pub has_room : length ops ≤ MAX_CHUNK → CountsHaveRoom c
-  has_room short = record {
-    taken = omega (arith, s.taken, s.counted, short);
-    known = omega (arith, s.known, s.counted, short);
-    waiting = omega (arith, s.waiting, s.counted, short);
-  }
-
+    (left : List Operation) (s : AreHandedIn start ops done c now (op ∷ left)) where
   -- one more was
   pub one_more : (more : Unpacked) (mid : TextState) → HandsInOne c now op (Ok more) mid → HasGrown c more
-      → Goes start ops (done + 1) more mid left
+      → AreHandedIn start ops (done + 1) more mid left
   one_more more mid (one, Ok how, takes, is) grown =
       let same : more ≡ counted_in c now mid how = cc in
       record {
@@ -127,9 +134,48 @@ module _ (start : TextState) (ops : List Operation) (done : ℕ) (c : Unpacked) 
         ),
       )
 
+-- a row of letters was
+pub row_more : (start : TextState) (ops : List Operation) (done : ℕ) (c : Unpacked) (now new : TextState)
+    (left : List Operation) (typing : Typing) (bytes : List ℕ) (rest : List Operation) → IsText now → now.waiting_room ≡ []
+    → AreTypedFirst left typing bytes rest → HasTakenAll now (letters typing bytes) new
+    → AllPairs (λ a b. a ≢ b) new.operations → AreHandedIn start ops done c now left
+    → AreHandedIn start ops (done + length bytes) (with_taken c (length bytes)) new rest
+row_more start ops done c now new left typing bytes rest is none first taken once s =
+    let many : length left ≡ length bytes + length rest =
+    ap length first.parts ∙ length-append (letters typing bytes) rest
+    ∙ ap (λ (n : ℕ). n + length rest) (length_letters typing bytes) in
+    record {
+      was = s.was;
+      counted = omega (arith, s.counted, many);
+      taken = omega (arith, s.taken);
+      known = omega (arith, s.known);
+      waiting = omega (arith, s.waiting);
+      on = λ short result last hands. s.on short result last
+          (subst (λ (l : List Operation). HandsIn done c s.was now l short result last) (sym first.parts)
+          (row_handed bytes typing now new done c s.was rest short result last is none taken once hands));
+    }
+
+-- of operations in reverse, the first of which are so many letters, these are left
+pub rest_left : (left : List Operation) (typing : Typing) (bytes : List ℕ) (rest : List Operation)
+    → AreTypedFirst (reverse left) typing bytes rest → reverse (take (length left - length bytes) left) ≡ rest
+rest_left left typing bytes rest first =
+    let m : ℕ = length left - length bytes in
+    let many : length (reverse left) ≡ length bytes + length rest =
+    ap length first.parts ∙ length-append (letters typing bytes) rest
+    ∙ ap (λ (n : ℕ). n + length rest) (length_letters typing bytes) in
+    let whole : length (reverse left) ≡ length left = length-reverse left in
+    let parts : reverse left ≡ reverse (drop m left) ++ reverse (take m left) =
+    ap reverse (sym (take-append-drop m left)) ∙ reverse-append (take m left) (drop m left) in
+    let front : length (reverse (drop m left)) ≡ length bytes =
+    length-reverse (drop m left) ∙ length-drop m left ∙ omega (arith, many, whole) in
+    sym (drop-append_seam (reverse (drop m left)) (reverse (take m left)))
+    ∙ ap (λ (n : ℕ). drop n (reverse (drop m left) ++ reverse (take m left))) (front ∙ sym (length_letters typing bytes))
+    ∙ ap (drop (length (letters typing bytes))) (sym parts ∙ first.parts)
+    ∙ drop-append_seam (letters typing bytes) rest
+
 -- all were
 pub all_handed : (start : TextState) (ops : List Operation) (done : ℕ) (c : Unpacked) (now : TextState)
-    → Goes start ops done c now [] → (short : Bool) × HandsInAll start ops short (Ok c) now
+    → AreHandedIn start ops done c now [] → (short : Bool) × HandsInAll start ops short (Ok c) now
 all_handed start ops done c now s = (s.was, s.on s.was (Ok c) now (refl, refl, refl))
 
 -- ---- a chunk was read

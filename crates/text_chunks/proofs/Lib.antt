@@ -1,4 +1,6 @@
 pub mod Cutting
 pub mod Handed
+pub mod HandedRows
 pub mod Messages
 pub mod Packed
+pub mod Rows

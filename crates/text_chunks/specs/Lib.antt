@@ -1,4 +1,5 @@
 pub mod Laws
 pub mod Packing
 pub mod Parts
+pub mod Typed
 pub mod Unpacking

@@ -4,6 +4,7 @@
 mod cutter;
 mod laws;
 mod packing;
+mod typed;
 mod unpacked;
 mod unpacking;
 

@@ -1,10 +1,12 @@
-use Rattle.std.proofs.Common.{◌≡◌, length}
-use Rattle.std.specs.Vec.Iter.{into_iter_items, into_iter_len}
-use Rattle.text_chunks.proofs.Handed.{Goes}
+use Rattle.std.proofs.Common.{length}
+use Rattle.std.specs.Prelude.{reverse}
+use Rattle.text_chunks.specs.Typed.{AreHandedIn}
 use Rattle.text_chunks.proofs.unpacking.hand_in_all.Given as goal
 
 -- the operations so far
-abbrev pub invariant-loop-op : goal.invariant-loop-op
-invariant-loop-op l =
-    Goes l.fn.replica l.fn.operations.items l.done l.counts l.replica (into_iter_items l.op-iterator)
-    × (into_iter_len l.op-iterator ≡ length (into_iter_items l.op-iterator))
+abbrev pub invariant-loop-replica : goal.invariant-loop-replica
+invariant-loop-replica l =
+    AreHandedIn l.fn.replica l.fn.operations.items l.done l.counts l.replica (reverse l.left.items)
+
+abbrev pub decreases-loop-replica : goal.decreases-loop-replica
+decreases-loop-replica l = length l.left.items
