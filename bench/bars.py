@@ -33,6 +33,8 @@ STRAIGHT = {
     "typed by turns, where half is": Bar(5_000, 1_000),
     "typed by turns, all cut": Bar(4_000, 1_000),
     "typed by turns, all given a colour": Bar(4_000, 1_000),
+    "since the last but one": Bar(11_000, 1_000),
+    "pack from the last but one": Bar(13_000, 1_000),
 }
 # A step takes the longer the more there is, so that the whole is a square.
 SQUARE = {
@@ -40,8 +42,6 @@ SQUARE = {
     "pieces, all restored": Bar(174_000, 66_000),
     "pieces, all given a colour": Bar(393_000, 173_000),
     "n ranges, 1,023 at most, named by what waits": Bar(292_000, 103_000),
-    "since the last but one": Bar(40_000, 15_000),
-    "pack from the last but one": Bar(723_000, 357_000),
     "after a line of n that a viewer shows": Bar(164_000, 56_000),
     "scrolled to the last of n lines": Bar(182_000, 101_000),
     "keys in a line of n": Bar(193_000, 69_000),

@@ -1,7 +1,8 @@
 -- The lines of what was taken in beyond fronts, an operation more at a time.
-use Rattle.std.proofs.Common.{◌≡◌, ℕ, ◌+◌, ◌<◌, ◌≤◌, List, [], ◌∷◌, ◌++◌, length, take, Bool, true, false, inl, inr}
+use Rattle.std.proofs.Common.{◌≡◌, ℕ, zero, suc, ◌+◌, ◌<◌, ◌≤◌, List, [], ◌∷◌, ◌++◌, length, take, Bool, true, false, inl, inr}
 use Rattle.std.proofs.Common.{refl, ap, subst, ◌∙◌, append-nil, arith}
 use Rattle.std.specs.Prelude.{Option, Some, slice_get, IfSome, if◌then◌else◌}
+use Rattle.std.proofs.lemmas.Bool.{cond-false}
 use Rattle.std.proofs.lemmas.Bool.Decides.{nat_tests}
 use Rattle.std.proofs.lemmas.Grind.{flat_map-append}
 use Rattle.std.proofs.lemmas.List.{take_more}
@@ -30,6 +31,16 @@ lines_more fronts ops place op test at is =
     ∙ ap message_lines (filter-append (λ (o : Operation). is_beyond fronts o) before (op ∷ []))
     ∙ flat_map-append message_line (beyond fronts before) (beyond fronts (op ∷ []))
     ∙ ap (λ (lines : List ℕ). message_lines (beyond fronts before) ++ lines) (one_line fronts op test is)
+
+-- none where none of the first operations is beyond the fronts
+pub lines_none : (fronts : List Front) (ops : List Operation) (n : ℕ)
+    → ((k : ℕ) → k < n → IfSome (slice_get ops k) (λ op. is_beyond fronts op ≡ false))
+    → message_lines (beyond fronts (take n ops)) ≡ []
+lines_none fronts ops zero none = refl
+lines_none fronts [] (suc n) none = refl
+lines_none fronts (op ∷ ops) (suc n) none =
+    ap message_lines (cond-false (is_beyond fronts op) _ _ (none 0 (omega arith)))
+    ∙ lines_none fronts ops n (λ k less. none (suc k) (omega arith))
 
 lies_beyond : (fronts : List Front) (op : Operation) (front seq : ℕ) → front ≡ front_in fronts op.site → seq ≡ op.seq
     → front < seq → is_beyond fronts op ≡ true

@@ -32,10 +32,11 @@ pub(crate) fn since_lines(
     replica: &Replica,
     fronts: &Fronts,
 ) -> Result<Vec<u8>, Refusal> {
+    let named = fronts.list();
     let mut lines = Vec::new(alloc);
-    for place in 0..replica.taken_len() {
+    for place in replica.first_beyond(named)..replica.taken_len() {
         let (site, seq) = replica.taken_identity(place);
-        if front_in(fronts.list(), site) < seq {
+        if front_in(named, site) < seq {
             let op = replica.taken(place)?;
             put_message(&mut lines, op)?;
         }

@@ -33,9 +33,21 @@ fn is_beyond(replica: &Replica, fronts: &[SiteFront], place: u64) -> bool {
     front_in(fronts, site) < seq
 }
 
+// Where to look for the first operation beyond the fronts: none is from the one place on up to this. The first time of all
+// it is that of the operation itself, or where no memory is left that of the first one of all.
+fn begin(alloc: Global, replica: &Replica, fronts: &[SiteFront], from: u64) -> u64 {
+    if from > 0 {
+        return from;
+    }
+    match fronts_of(alloc, fronts) {
+        Ok(taken) => replica.first_beyond(&taken),
+        Err(_) => 0,
+    }
+}
+
 // The place of the first operation beyond the fronts that was taken in at this place or after it.
-fn first_beyond(replica: &Replica, fronts: &[SiteFront], from: u64) -> Option<u64> {
-    for place in from..replica.taken_len() {
+fn first_beyond(alloc: Global, replica: &Replica, fronts: &[SiteFront], from: u64) -> Option<u64> {
+    for place in begin(alloc, replica, fronts, from)..replica.taken_len() {
         if is_beyond(replica, fronts, place) {
             return Some(place);
         }
@@ -112,7 +124,7 @@ impl Session {
         if !are_fronts(fronts) {
             return Put::none(NO_NUMBER);
         }
-        let Some(place) = first_beyond(&self.replica, fronts, *index) else {
+        let Some(place) = first_beyond(alloc, &self.replica, fronts, *index) else {
             return Put::none(NO_MESSAGE);
         };
         let put = put_spelling(alloc, &self.replica, place, room);

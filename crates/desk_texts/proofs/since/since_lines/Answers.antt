@@ -1,13 +1,20 @@
-use Rattle.std.proofs.Common.{ℕ, List, ◌++◌, ◌<◌, length, sym, ap, ◌∙◌, arith}
+use Rattle.std.proofs.Common.{ℕ, ◌≡◌, List, [], ◌++◌, ◌<◌, length, sym, ap, ◌∙◌, arith, rules}
 use Rattle.std.specs.Prelude.{codes}
 use Rattle.std.proofs.lemmas.List.{take_all}
 use Rattle.operations.specs.Operation.{Operation}
 use Rattle.machine.specs.Printing.{line}
 use Rattle.machine.specs.Since.{message_line, message_lines}
 use Rattle.texts.specs.Fronts.{beyond}
-use Rattle.desk_texts.proofs.Beyond.{lines_beyond, lines_up_to}
+use Rattle.desk_texts.proofs.Beyond.{lines_beyond, lines_none, lines_up_to}
 use Rattle.desk_texts.proofs.since.since_lines.Goals as goal
 use Rattle.desk_texts.proofs.since.since_lines.Goals.{else-front_in-seq, then-front_in-seq+in_ok-op+in_ok-put_message}
+
+pub loop-place-init : goal.loop-place-init
+loop-place-init c =
+    let empty : c.new-lines.result.items ≡ [] = search rules in
+    empty
+    ∙ sym (lines_none c.args.fronts.now c.args.replica.now.operations c.first_beyond-place.result
+    (rw c.list-named.ensures at c.first_beyond-place.ensures.before))
 
 pub loop-place-preserved : goal.loop-place-preserved
 loop-place-preserved c =
@@ -15,7 +22,7 @@ loop-place-preserved c =
     let ops = c.args.replica.now.operations in
     let site = c.taken_identity-site.result.0 in
     let seq = c.taken_identity-site.result.1 in
-    let front = rw c.list.ensures at c.front_in.ensures in
+    let front = rw c.list-named.ensures at c.front_in.ensures in
     elim c.if-front_in-seq.branch [
       | then-front_in-seq+in_ok-op+in_ok-put_message w ↦
           rw w.lines-is
