@@ -1,7 +1,7 @@
 -- How what is kept goes on: as operations are handed in, are taken in, and leave the room.
 use Rattle.std.proofs.Common.{◌≡◌, ℕ, ◌⊎◌, inl, inr, List, [], ◌∷◌, ◌++◌, Bool, Contains}
-use Rattle.std.proofs.Common.{refl, ap, subst, arith}
-use Rattle.std.proofs.lemmas.List.{length-append}
+use Rattle.std.proofs.Common.{refl, sym, ap, subst, arith}
+use Rattle.std.proofs.lemmas.List.{append-nil, length-append}
 use Rattle.std.proofs.lemmas.List.Elements.{All-contains, All-contains_itself, All-weaker}
 use Rattle.std.proofs.lemmas.List.Elements.{Contains-append_left, Contains-append_right, Contains-append_cases}
 use Rattle.std.proofs.lemmas.List.Elements.{Contains-push_cases}
@@ -161,6 +161,10 @@ keeps_by t taken waiting all operations room known kept = record {
   identified = known;
   kept = rw operations (rw room kept);
 }
+
+-- nothing more is kept where nothing is taken in
+pub same_kept : (t new : TextState) (all : List Operation) → AccountsFor t all → new ≡ t → AccountsFor new (all ++ [])
+same_kept t new all keeps same = rw same (subst (AccountsFor t) (sym (append-nil all)) keeps)
 
 -- where operations are handed in and taken in, all is kept
 pub kept_with_all : (t new : TextState) (more all : List Operation) → IsText t → AccountsFor t all

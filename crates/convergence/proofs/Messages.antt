@@ -14,7 +14,7 @@ use Rattle.tree_order.specs.Tree.{IsPath}
 use Rattle.set_laws.specs.Sets.{AreIdentified, IsPartOf}
 use Rattle.waiting_room.specs.declared.room.TheConstants.{MAX_WAITING}
 use Rattle.texts.specs.Draining.{AllStay, Drains, ends, stops, takes_in, throws_away}
-use Rattle.texts.specs.Take.{Becomes, HasFate, IsConflicting, Stays, Takes, Encodes}
+use Rattle.texts.specs.Take.{Becomes, HasFate, IsConflicting, Stays, Takes, TakesOp, TakesOpShort, Encodes}
 use Rattle.texts.specs.Text.{IsText}
 use Rattle.texts.specs.TextState.{TextState, empty_text, with_room}
 use Rattle.texts.specs.declared.fate.Fate.{Fate}
@@ -115,6 +115,26 @@ module _ (t new : TextState) (op : Operation) (result : Result Took Refusal) (is
   next_text Ready (with_op, n, m, taken, drains, answer) =
       let end = drained_text drains taken.is in
       (end.0, end.1 ∙ ap (λ (u : TextState). u.text) taken.grown)
+
+-- and so is one to which an operation was handed, whether memory was there or not
+pub text_after_op : (t new : TextState) (op : Operation) (result : Result Took Refusal) → IsText t
+    → AreIdentified (t.waiting_room ++ op ∷ []) → TakesOp t op result new ⊎ TakesOpShort t op result new → IsText new
+text_after_op t new op result is known (inl (OtherText, has, (answer, same))) = subst IsText (sym same) is
+text_after_op t new op result is known (inl (Known, has, becomes)) = (next_text t new op result is has.0 known Known becomes).0
+text_after_op t new op result is known (inl (Conflicting, has, becomes)) =
+    (next_text t new op result is has.0 known Conflicting becomes).0
+text_after_op t new op result is known (inl (AlreadyWaits, has, becomes)) =
+    (next_text t new op result is has.0 known AlreadyWaits becomes).0
+text_after_op t new op result is known (inl (Wait, has, becomes)) = (next_text t new op result is has.1.0 known Wait becomes).0
+text_after_op t new op result is known (inl (Misfit, has, becomes)) =
+    (next_text t new op result is has.1.0 known Misfit becomes).0
+text_after_op t new op result is known (inl (LowStamp, has, becomes)) =
+    (next_text t new op result is has.1.0 known LowStamp becomes).0
+text_after_op t new op result is known (inl (Ready, has, becomes)) = (next_text t new op result is has.1.0 known Ready becomes).0
+text_after_op t new op result is known (inr (inl (has, (place, (answer, same))))) = subst IsText (sym same) is
+text_after_op t new op result is known (inr (inr (has, inl (with_op, n, m, taken, drains, answer)))) =
+    (drained_text drains taken.is).0
+text_after_op t new op result is known (inr (inr (has, inr (answer, same)))) = subst IsText (sym same) is
 
 entered_counts : (b : Bool) (t new u : TextState) (result : Result Took Refusal) → result ≢ Err RoomFull
     → MatchBool b ((result ≡ Ok Waits) × (new ≡ u)) (Stays t (Err RoomFull) result new) → is_handed_in result ≡ true

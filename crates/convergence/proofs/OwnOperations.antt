@@ -76,7 +76,7 @@ unrefused (Some why) later n some = absurd (omega arith)
 unrefused None later n some = refl
 
 -- and not for being after
-not_behind_by : (b : Bool) (rest : Option Refusal) → cond b (Some Behind) rest ≡ None → b ≡ false
+pub not_behind_by : (b : Bool) (rest : Option Refusal) → cond b (Some Behind) rest ≡ None → b ≡ false
 not_behind_by true rest e = cc
 not_behind_by false rest e = refl
 

@@ -1,7 +1,8 @@
 //! What becomes of all that was handed in to a replica.
 
-ghost use Rattle.convergence.specs.HandedIn.{KeptByDraining, KeptByEdits, KeptByForgetting, KeptByMerging};
-ghost use Rattle.convergence.specs.HandedIn.{KeptByReopening, KeptByTaking, NothingIsKept, StayWaiting, WhatIsKeptIsClosed};
+ghost use Rattle.convergence.specs.HandedIn.{KeptByDraining, KeptByEdits, KeptByForgetting, KeptByMerging, KeptByNames};
+ghost use Rattle.convergence.specs.HandedIn.{KeptByReopening, KeptByTaking, KeptByTakingOps, KeptByUnpacking};
+ghost use Rattle.convergence.specs.HandedIn.{NothingIsKept, StayWaiting, WhatIsKeptIsClosed};
 
 use set_laws::closures::lemma_kept_and_waiting_is_closed;
 
@@ -20,17 +21,37 @@ pub fn lemma_draining_keeps()
     ensures { KeptByDraining }
 {}
 
+/// A law: an operation is kept with all that was handed in before it; one of another text, in conflict, or refused for
+/// want of a place or of memory, leaves that as it was.
+pub fn lemma_taking_operations_keeps()
+    ensures { KeptByTakingOps }
+{
+    lemma_draining_keeps();
+}
+
 /// A law: a message is kept with all that was handed in before it; one that is malformed, of another text, in
 /// conflict, or refused for want of a place or of memory, leaves that as it was.
 pub fn lemma_taking_keeps()
     ensures { KeptByTaking }
 {
-    lemma_draining_keeps();
+    lemma_taking_operations_keeps();
+}
+
+/// A law: the operations of a chunk are kept with all that was handed in before them, up to the one that is refused.
+pub fn unpacking_keeps()
+    ensures { KeptByUnpacking }
+{
+    lemma_taking_operations_keeps();
 }
 
 /// A law: the operations of an own edit that stand are kept with all that was handed in before them.
 pub fn own_edits_keep()
     ensures { KeptByEdits }
+{}
+
+/// A law: the operation of an edit by names is kept with all that was handed in before it.
+pub fn edits_by_names_keep()
+    ensures { KeptByNames }
 {}
 
 /// A law: what a merge took in is kept with all that was handed in before it.

@@ -1,5 +1,4 @@
-use Rattle.std.proofs.Common.{◌≡◌, ℕ, inl, inr, List, [], ◌++◌, take, Result, Ok, Err, sym, subst}
-use Rattle.std.proofs.lemmas.List.{append-nil}
+use Rattle.std.proofs.Common.{ℕ, inl, inr, List, ◌++◌, take, Result, Ok, Err}
 use Rattle.looks.specs.declared.refusal.Refusal.TheVariants.{Conflict, WrongText}
 use Rattle.operations.specs.Operation.{Operation}
 use Rattle.set_laws.specs.Sets.{AreIdentified}
@@ -9,12 +8,8 @@ use Rattle.texts.specs.TextState.{TextState}
 use Rattle.texts.specs.declared.merge_refusal.MergeRefusal.{MergeRefusal}
 use Rattle.texts.specs.declared.merge_refusal.MergeRefusal.TheVariants.{Whole, Stopped}
 use Rattle.convergence.specs.HandedIn.{AccountsFor, merged}
-use Rattle.convergence.proofs.Kept.{kept_with_all}
+use Rattle.convergence.proofs.Kept.{kept_with_all, same_kept}
 use Rattle.convergence.proofs.handed_in.merging_keeps.Goals as goal
-
--- nothing more is kept where nothing is taken in
-same_kept : (t new : TextState) (all : List Operation) → AccountsFor t all → new ≡ t → AccountsFor new (all ++ [])
-same_kept t new all keeps same = rw same (subst (AccountsFor t) (sym (append-nil all)) keeps)
 
 module _ (t other new : TextState) (all : List Operation) (text : IsText t)
     (keeps : AccountsFor t all) where
