@@ -303,6 +303,19 @@ class Lacking(unittest.TestCase):
         self.assertEqual((judge.front(1), judge.front(2), judge.front(7)), (7, 4, 4))
         self.assertEqual(judge.claimed(), {1, 2, 7})
 
+    def test_what_nobody_claims_waits_where_the_number_is_free_alone(self) -> None:
+        ada, bob, eve = (Author(bytes([number]) * 32, b"") for number in (1, 2, 3))
+        form, opening, _ = founded(ada.name)
+        bobs, strangers = Writer(form, bob, 2).type(b"bob"), [Writer(form, eve, site).type(b"a remark") for site in (1, 2)]
+        judge = RecordJudge([opening, *bobs, *strangers[0], *strangers[1]], form=form)
+        # Ada founded the note, so nobody else ever has her number: what is written under it holds nothing up.
+        self.assertEqual((judge.incomplete(), [(one.site, one.messages) for one in judge.left_out()]), (11, [(1, 8)]))
+        judge.add(claim(form, bob, 2))
+        self.assertEqual((judge.front(2), judge.incomplete()), (3, 0))
+        self.assertEqual([(one.site, one.author, one.messages) for one in judge.left_out()], [(1, eve.name, 8), (2, eve.name, 8)])
+        # A claim may have been lost, so it is asked for all the same.
+        self.assertEqual(judge.missing(9), [form.keys.claim_name(eve.name, site) for site in (1, 2)])
+
 
 def based(author: Author, messages: Sequence[Operation]) -> tuple[PlainRecords, Record, Founding, list[Record]]:
     """A note that begins with messages: its form, its opening, what that says, and the records of the base, each of one message."""
