@@ -17,6 +17,7 @@ from multiprocessing import connection
 from typing import NamedTuple
 
 from share.tests.byte_code import use_byte_code_of
+from share.tests.forms import FIRST_FORM_ALONE, of_second_form
 from share.tests.left_open import left_open, open_now
 from share.tests.processes import descendants, handles
 
@@ -79,21 +80,24 @@ class Running(NamedTuple):
 
 
 def run(module: str, told: pathlib.Path) -> Result:
-    """Runs a module. A skipped test failed, and so did a module that left something open."""
+    """Runs a module. A test that was left out failed, unless it is of the first form and this is the second, and so did a module that
+    left something open."""
     with open(told, "w", encoding="utf-8", errors="backslashreplace", buffering=1) as file:
         # Whatever ends the process, it is told what each thread was at.
         faulthandler.enable(file)
         before, begin = open_now(), time.monotonic()
         tests = unittest.defaultTestLoader.loadTestsFromName(f"share.tests.{module}")
         result = unittest.TextTestRunner(file, verbosity=2).run(tests)
-        failed = {str(test): words for test, words in [*result.failures, *result.errors, *result.skipped]}
+        of_first_form = [test for test, why in result.skipped if why.startswith(FIRST_FORM_ALONE)]
+        skipped = [(test, why) for test, why in result.skipped if test not in of_first_form]
+        failed = {str(test): words for test, words in [*result.failures, *result.errors, *skipped]}
         faults = [f"FAIL: {test}: {what_failed(words)}" for test, words in failed.items()]
         if left := left_open(before):
             faults.append(f"FAIL: {module} left {left}")
             file.write(f"{faults[-1]}\n")
         file.write(f"{module}: {time.monotonic() - begin:.0f} s, {processor_seconds():.0f} of them of a processor\n")
         faulthandler.disable()
-    return Result(result.testsRun - len(failed), len(faults), told.read_text("utf-8"), faults)
+    return Result(result.testsRun - len(failed) - len(of_first_form), len(faults), told.read_text("utf-8"), faults)
 
 
 def what_failed(words: str) -> str:

@@ -28,9 +28,10 @@ from share.log.opening import open_log
 from share.program.process import Program
 from share.program.site import Edited, Site, Told
 from share.store import notes
-from share.store.note_file import SECOND, ZERO_BITS_OF_TESTS, Disk
+from share.store.note_file import Disk
 from share.store.read_only import found_in, text_of
 from share.sync.session import Session, Status
+from share.tests.forms import is_second_form, of_second_form
 from share.tests.naive import taking
 from share.tests.note import Note
 from share.tests.servers import RedisServer
@@ -40,10 +41,8 @@ TOP = pathlib.Path(__file__).resolve().parents[2]
 NOTE = str(TOP / "bin" / "note")
 # Where a test sets no clock, how long its keys take on a busy machine decides no undo.
 os.environ.setdefault("VIALSHOAL_PAUSE", "100000")
-# Of which form the notes are that tests make. In the second one, tests search for claims of no zeros.
-IS_SECOND_FORM = notes.form_of_new() == SECOND
-if IS_SECOND_FORM:
-    os.environ.setdefault(ZERO_BITS_OF_TESTS, "0")
+if is_second_form():
+    of_second_form()
 # How often the locks are read before nobody has one.
 READINGS = 5
 ALPHABET = "abcdefgh  \r\t\\é߀ñ漢字🎉👍"
@@ -101,7 +100,7 @@ class Case(unittest.TestCase):
     founders_have_numbers = True
 
     def setUp(self) -> None:
-        if IS_SECOND_FORM and not self.founders_have_numbers:
+        if is_second_form() and not self.founders_have_numbers:
             no_number = mock.patch("share.store.founding.free_number", lambda taken: None)
             no_number.start()
             self.addCleanup(no_number.stop)
