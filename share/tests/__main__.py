@@ -86,7 +86,10 @@ def run(module: str, told: pathlib.Path) -> Result:
         # Whatever ends the process, it is told what each thread was at.
         faulthandler.enable(file)
         before, begin = open_now(), time.monotonic()
-        tests = unittest.defaultTestLoader.loadTestsFromName(f"share.tests.{module}")
+        name, _, form = module.partition(":")
+        if form:
+            of_second_form()
+        tests = unittest.defaultTestLoader.loadTestsFromName(f"share.tests.{name}")
         result = unittest.TextTestRunner(file, verbosity=2).run(tests)
         of_first_form = [test for test, why in result.skipped if why.startswith(FIRST_FORM_ALONE)]
         skipped = [(test, why) for test, why in result.skipped if test not in of_first_form]

@@ -22,6 +22,11 @@ def of_second_form() -> None:
     os.environ.setdefault("VIALSHOAL_ZERO_BITS", "0")
 
 
+def link_begin(kind: str) -> str:
+    """What links begin with, `s` of sealed notes and `p` of others."""
+    return f"vialshoal:{'2' if is_second_form() else '1.1'}:{kind}:"
+
+
 def of_first_form(why: str) -> Callable[[Tested], Tested]:
     """What is tested is of the first form by its nature, for this reason, and left out over the second one."""
     return unittest.skipIf(is_second_form(), f"{FIRST_FORM_ALONE}{why}")

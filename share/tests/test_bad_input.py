@@ -14,7 +14,7 @@ import threading
 import unittest
 from unittest import mock
 
-from share.format.link import read_link
+from share.format.second.key_link import link_of
 from share.log.base import Unreachable
 from share.log.sqlite import SqliteLog
 from share.program import patience
@@ -118,7 +118,7 @@ class BadInput(Case):
         self.addCleanup(hostile.close)
         note = self.opened(self.person("bob"), url=self.redis().url)
         written(note, "one ")
-        link = read_link(self.person("bob").link())
+        link = link_of(self.person("bob").link())
         for url, words in (hostile.url, "as a Redis server"), ("redis://127.0.0.1:1", "Connection refused"):
             run = self.note("note", "--print", VIALSHOAL_DATA=str(self.folder / "new"),
                             VIALSHOAL_LINK=link._replace(url=url).spelled())

@@ -24,6 +24,7 @@ from share.sync.open_file import OpenFile
 from share.sync.session import Session
 from share.tests import test_numbers
 from share.tests.note import Note
+from share.tests.forms import is_second_form
 from share.tests.support import TOP, Case, Person, change, python, type_at_the_end, wait_for, written
 from share.text.errors import Trouble
 
@@ -226,6 +227,11 @@ class GivenUp(Case):
                 written(second, "S ")
                 wait_for(lambda: (first.take_in(), tried.called)[1], "another number to be tried")
                 # Nothing of hers is lost, but nothing more is sent under a number under which somebody else writes.
+                if not is_second_form():
+                    type_at_the_end(first, "last ")
+                # Where a number costs a search nothing is typed before one is kept, and that is told.
+                wait_for(lambda: (first.take_in(), first.session.can_type or first.session.status().trouble)[1], "it to be told")
+            if is_second_form():
                 type_at_the_end(first, "last ")
             wait_for(lambda: (second.take_in(), first.take_in(), b"last" in second.text)[2], "what was typed to come")
         self.assertEqual(sorted(self.assert_meet(first, second).split()), sorted(b"one two three F S last".split()))

@@ -9,7 +9,10 @@ from unittest import mock
 from share.format.link import NEWER_LINK, read_link
 from share.format.second.key_link import read_key_link
 from share.store import notes
+from share.store.guarded import Unkept
 from share.store.note_file import NOTE_APPLICATIONS, SECOND
+from share.store.own import OwnTables
+from share.sync import number_search
 from share.sync.number_search import NONE_FOUND_YET
 from share.tests.note import Note
 from share.tests.support import Case, Person, type_at_the_end, wait_for, written
@@ -159,6 +162,19 @@ class SecondForm(Case):
                 note.session.insert(0, b"x")
         type_at_the_end(note, "three ")
         self.assertIsNone(note.session.status().trouble)
+
+    def test_a_number_that_cant_be_kept_or_searched_for_now_is_later(self) -> None:
+        self.both(self.file_log())
+        faults = (OwnTables, "add_client", Unkept("full")), (number_search, "ClaimSearch", Trouble("There is no room for a process."))
+        for number, (where, what, why) in enumerate(faults):
+            with self.subTest(what), mock.patch("share.sync.session.OPEN_SECONDS", 0):
+                with mock.patch.object(where, what, side_effect=why) as tried:
+                    note = self.opened(self.person(f"cy-{number}"), link=self.ann.link())
+                    wait_for(lambda: (note.take_in(), tried.called)[1], "it to be tried")
+                    self.assertFalse(note.session.can_type)
+                    self.assertTrue(note.session.status().trouble)
+                wait_for(lambda: (note.take_in(), note.session.can_type)[1], "a number", 20)
+                type_at_the_end(note, "three ")
 
     def test_who_types_waits_for_no_search(self) -> None:
         note = self.opened(self.ann)
