@@ -17,12 +17,12 @@ from unittest import mock
 from share.admission.chains import rank
 from share.admission.judge import Judge
 from share.format.chunk import packed_in_parts
-from share.format.entry import Author, BuiltOn, Entry, Form, Plain
+from share.format.entry import NO_HASH, Author, BuiltOn, Entry, Form, Plain
 from share.format.operation import Operation
 from share.format.second.claim import found_among
 from share.format.second.form import RecordForm
 from share.format.second.key_link import link_of
-from share.format.second.record import Record
+from share.format.second.record import RECORD_HEAD, Record
 from share.log.base import START, Log
 from share.log.opening import open_log
 from share.program.process import Program
@@ -32,7 +32,7 @@ from share.store.note_file import Disk
 from share.store.read_only import found_in, text_of
 from share.sync.session import Session, Status
 from share.tests.forms import is_second_form, of_second_form
-from share.tests.naive import taking
+from share.tests.naive import newer, taking
 from share.tests.note import Note
 from share.tests.servers import RedisServer
 from share.tests.waiting import wait_for as wait_for
@@ -333,6 +333,15 @@ def claim_of(form: Form, site: int, author: Author | None = None) -> Entry:
         return form.claim(site, author)
     tried = found_among(itertools.count(random.getrandbits(48)), form.note, author.name, zero_bits=form.zero_bits)
     return form.claim(site, author, next(one for one in tried if one.site == site).counter)
+
+
+def newer_of(form: Form, before: Entry, author: Author, body: bytes = b"new") -> Entry:
+    """What a newer version of an author's wrote after an entry, of a kind that this version doesn't know."""
+    if not isinstance(form, RecordForm):
+        return newer(form, before, author, body)
+    head = RECORD_HEAD.pack(form.number, 99, form.note, author.name, before.site, before.text, 0, 0, NO_HASH)
+    unsigned = form._unsigned(head, body)
+    return form.open(unsigned + form._signature(unsigned, author))
 
 
 def claim_order(claim: Entry) -> bytes:
