@@ -82,15 +82,19 @@ class Hider:
 
 
 class Hiders:
-    """Hides and shows copies in all texts that are open. The editor's thread alone calls it."""
+    """Hides and shows copies in all texts: one that isn't open is opened where some of its copies are to be hidden or shown. The editor's
+    thread alone calls it."""
 
     def __init__(self, holdings: Holdings, form: Form, numbers: Numbers, texts: OpenTexts, rebaser: Rebaser):
         self._texts, self._known, self._rebaser = texts, (holdings, form, numbers), rebaser
         self._hiders: dict[int, Hider] = {}
+        # How far what copies stand for counted when it was last looked at texts that aren't open.
+        self._fronts: list[int] = []
 
     def hide(self) -> Told:
         """Hides copies that aren't to be seen, or shows them again; what the first text has become."""
         told: Told = []
+        self._open_more()
         for text, hider in self._each():
             hidden = hider.hide()
             told = hidden if text == TEXT else told
@@ -98,8 +102,19 @@ class Hiders:
 
     def look_again(self) -> None:
         """Looks at all again the next time, since the sites began anew."""
+        self._fronts = []
         for _, hider in self._each():
             hider.look_again()
+
+    def _open_more(self) -> None:
+        """Opens the texts that aren't open and have copies that are to be hidden or shown."""
+        holdings, form, numbers = self._known
+        if len(form.texts) == 1 or not numbers.own.stood or (fronts := holdings.fronts_of_copies()) == self._fronts:
+            return
+        self._fronts = fronts
+        for text in holdings.texts_of_copies().difference(one.replica.text for one in self._texts):
+            if any(wanted(holdings, text)):
+                self._texts.open_one(text)
 
     def _each(self) -> Iterator[tuple[int, Hider]]:
         for one in self._texts:

@@ -93,6 +93,11 @@ class Person:
             return open_log(disk.about.url, disk.form.note)
 
 
+def founders_search() -> contextlib.AbstractContextManager[object]:
+    """Who founds a note meanwhile has to search for a number that others can take."""
+    return mock.patch("share.store.founding.free_number", lambda taken: None) if is_second_form() else contextlib.nullcontext()
+
+
 class Case(unittest.TestCase):
     """A test with a folder of its own. In the second form nobody can take the number of who founded a note: where a test has that done
     the founder has to search for one, as all others."""
@@ -100,10 +105,10 @@ class Case(unittest.TestCase):
     founders_have_numbers = True
 
     def setUp(self) -> None:
-        if is_second_form() and not self.founders_have_numbers:
-            no_number = mock.patch("share.store.founding.free_number", lambda taken: None)
-            no_number.start()
-            self.addCleanup(no_number.stop)
+        if not self.founders_have_numbers:
+            searching = founders_search()
+            searching.__enter__()
+            self.addCleanup(searching.__exit__, None, None, None)
         self.folder = pathlib.Path(tempfile.mkdtemp(prefix="share-"))
         self.addCleanup(shutil.rmtree, self.folder, ignore_errors=True)
         os.environ["VIALSHOAL_DATA"] = str(self.folder / "data")

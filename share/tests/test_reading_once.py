@@ -211,9 +211,9 @@ class Letters(Engines):
         self.addCleanup(receiver.engine.close)
         receiver.until(lambda: receiver.mirror.text == WORDS, "the words")
         if is_second_form():
-            session = receiver.engine.session
-            assert session
-            receiver.until(lambda: len(session._holdings.judge.claimed()) > 3, "a number in advance for each")
+            assert (session := receiver.engine.session)
+            judge = session._holdings.judge
+            receiver.until(lambda: len(judge.claimed()) > 3, "a number in advance for each")
         # Judged message by message, they are packed for the program.
         packed = int(is_second_form())
         for text in "x", "y":

@@ -6,16 +6,19 @@ import time
 import unittest
 from unittest import mock
 
+from share.admission.judges import judge_of
 from share.format.link import NEWER_LINK, read_link
 from share.format.second.key_link import read_key_link
+from share.program.site import Site
 from share.store import notes
 from share.store.guarded import Unkept
 from share.store.note_file import NOTE_APPLICATIONS, SECOND
 from share.store.own import OwnTables
+from share.store.read_only import found_in
 from share.sync import number_search
 from share.sync.number_search import NONE_FOUND_YET
 from share.tests.note import Note
-from share.tests.support import Case, Person, type_at_the_end, wait_for, written
+from share.tests.support import Case, Person, take, type_at_the_end, wait_for, written
 from share.text.errors import Trouble
 
 MARGIN = 2
@@ -117,6 +120,56 @@ class SecondForm(Case):
         self.assertIn("messages of 2 sites", said)
         self.assertEqual(cy.text(), b"one two ")
         self.assertEqual(self.note("cat", "note", "--text", "2", VIALSHOAL_DATA=str(cy.data)).stdout, "a remark")
+
+    def left_out(self, *names: str) -> list[Person]:
+        """People of these names, who have a note in whose margin a remark was left out, since a stranger bought its author's number."""
+        ann, bob = self.both(self.file_log())
+        bob.session.insert(0, b"a remark", MARGIN)
+        self.assert_margin(ann, b"a remark")
+        number = bob.session.number
+        for one in ann, bob:
+            one.session.close()
+        people = [self.person(name) for name in names]
+        for person in people:
+            self.opened_to_type(person, self.ann.link()).session.close()
+        take(self.bob, number)
+        return people
+
+    def opened_to_type(self, person: Person, link: str | None = None) -> Note:
+        """A note in which somebody can type and has all."""
+        note = self.opened(person, link=link)
+        wait_for(lambda: (note.take_in(), note.session.can_type and note.session._replicator.is_up_to_date())[1], "a number, and the log")
+        return note
+
+    def margin_of(self, person: Person) -> str:
+        """What a person's file alone shows of the margin."""
+        found = found_in(person.path())
+        messages = judge_of(found.about.form(), found.entries).let_through_in_order(MARGIN)
+        with contextlib.closing(Site(1, messages, text=MARGIN)) as site:
+            return site.text().decode()
+
+    def test_what_was_left_out_of_the_margin_is_typed_again_there(self) -> None:
+        (cy,) = self.left_out("cy")
+        run = self.note("recover", "--lost", "note", VIALSHOAL_DATA=str(cy.data))
+        self.assertEqual((run.returncode, run.stderr), (0, ""))
+        self.assertIn("a remark", run.stdout)
+        self.assertEqual((self.margin_of(cy), cy.text()), ("a remark", b"one two "))
+        # It is told no more, and typed once.
+        self.assertNotIn("a remark", self.note("recover", "--lost", "note", VIALSHOAL_DATA=str(cy.data)).stdout)
+        self.assertEqual(self.margin_of(cy), "a remark")
+
+    def test_copies_in_a_margin_that_isnt_open_are_hidden(self) -> None:
+        people = self.left_out("cy", "di")
+        notes = [self.opened_to_type(person) for person in people]
+        for note in notes:
+            wait_for(lambda one=note: (one.take_in(), one.session.lost())[1], "it to be left out")
+        for note in notes:
+            # Nothing of the other one's is taken in yet.
+            note.session.recover()
+        for note in notes:
+            note.session.close()
+        notes = [self.opened_to_type(person) for person in people]
+        wait_for(lambda: (self.assert_meet(*notes), {*map(self.margin_of, people)})[1] == {"a remark"}, "it to be there once", 30)
 
     def test_a_version_of_before_refuses_it_in_words(self) -> None:
         self.both(self.file_log())
