@@ -233,6 +233,9 @@ class Holdings(WhatWasLost):
         if is_own and not row.made and entry.kind.is_under_a_number:
             self._shared.add(of)
         self.judge.add_new(row)
+        if entry.kind.says_copies and entry.hash not in self.judge:
+            # There was no room for it.
+            return
         if is_own:
             self.standing.add(row, self.rows)
         self.standing_for_all.add(row._replace(made=True) if entry.kind.says_copies else row, self.rows)

@@ -95,7 +95,9 @@ class Person:
 
 def founders_search() -> contextlib.AbstractContextManager[object]:
     """Who founds a note meanwhile has to search for a number that others can take."""
-    return mock.patch("share.store.founding.free_number", lambda taken: None) if is_second_form() else contextlib.nullcontext()
+    if not is_second_form():
+        return contextlib.nullcontext()
+    return mock.patch("share.store.founding.free_number", lambda taken: None)
 
 
 class Case(unittest.TestCase):
