@@ -17,7 +17,7 @@ from share.format.second.record import Record, RecordKind
 RECORD_OVERHEAD, MESSAGE_OVERHEAD = 400, 250
 # What each stretch costs of which a record says that it was copied.
 STRETCH_OVERHEAD = 500
-SAY_WHAT_BECAME = frozenset((RecordKind.ANEW, RecordKind.COPIES))
+OF_WHAT_WAS_MADE_ANEW = frozenset((RecordKind.ANEW, RecordKind.COPIES))
 
 
 class RecordRoom(GivenBack):
@@ -42,7 +42,7 @@ class RecordRoom(GivenBack):
         """Whether a record is to be kept; else it is given back."""
         if not self.is_bounded or row.made:
             return True
-        if entry.kind in SAY_WHAT_BECAME:
+        if entry.kind in OF_WHAT_WAS_MADE_ANEW:
             return self._admits_what_is_said(row, entry)
         if self._may_count(entry):
             return True
