@@ -17,7 +17,7 @@ from multiprocessing import connection
 from typing import NamedTuple
 
 from share.tests.byte_code import use_byte_code_of
-from share.tests.forms import FIRST_FORM_ALONE, of_second_form
+from share.tests.forms import FIRST_FORM_ALONE, is_second_form, of_second_form
 from share.tests.left_open import left_open, open_now
 from share.tests.processes import descendants, handles
 
@@ -36,6 +36,10 @@ MODULES = ["test_storm", "test_all_editors", "test_page", "test_of_files", "test
            "test_snapshot", "test_intake", "test_difference", "test_state", "test_chained", "test_links", "test_copied_numbers",
            "test_memory", "test_withdrawn", "test_held_up", "test_records", "test_claim_search", "test_message_judge",
            "test_composing", "test_rebasing", "test_record_judge", "test_second_notes"]
+# These run over notes of the second form, too, which has rules of its own for what they are about: numbers, copies, losses, what is sent,
+# who is on, and attacks. Any module does as "test_one:2".
+OVER_BOTH = frozenset(("test_carried", "test_copied_numbers", "test_copies", "test_left_out", "test_losses", "test_numbers", "test_presence",
+                       "test_security", "test_withdrawn"))
 # After this long a module is ended, on however busy a machine, unless one of these has its tests take as long as they are told to.
 MODULE_SECONDS = 1_800.0
 LONG_RUNS = "SHARE_STORM", "SHARE_ROUNDS", "SHARE_SECONDS"
@@ -199,6 +203,12 @@ def count(modules: Sequence[str], folder: pathlib.Path, seconds: float = MODULE_
     return 1 if failed or not passed else 0
 
 
+def all_modules() -> list[str]:
+    """All modules, those that run over both forms twice; where tests make notes of the second form anyway once."""
+    twice = frozenset[str]() if is_second_form() else OVER_BOTH
+    return [one for module in MODULES for one in (module, f"{module}:2")[:1 + (module in twice)]]
+
+
 def main() -> int:
     """Runs all modules, or those that are named."""
     stand = {path.stem for path in pathlib.Path(__file__).parent.glob("test_*.py")}
@@ -208,7 +218,7 @@ def main() -> int:
         use_byte_code_of(pathlib.Path(name) / "python")
         # What nearly all modules need is loaded once, before each has a process of its own.
         importlib.import_module("share.tests.support")
-        return count(sys.argv[1:] or MODULES, pathlib.Path(name), 10 * 86_400 if any(map(os.environ.get, LONG_RUNS)) else MODULE_SECONDS)
+        return count(sys.argv[1:] or all_modules(), pathlib.Path(name), 10 * 86_400 if any(map(os.environ.get, LONG_RUNS)) else MODULE_SECONDS)
 
 
 if __name__ == "__main__":
