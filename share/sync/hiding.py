@@ -39,10 +39,9 @@ class Hider:
         """Looks at all again the next time, since the site began anew."""
         self._fronts = None
 
-    def hide(self) -> Told:
-        """Hides copies that were made here and aren't to be seen, or shows them again; what the text has become. Those of
-        others are hidden some seconds later."""
-        fronts = self._holdings.fronts_of_copies()
+    def hide(self, fronts: list[int]) -> Told:
+        """Hides copies that were made here and aren't to be seen, or shows them again, where what they stand for counts this far; what the
+        text has become. Those of others are hidden some seconds later."""
         is_due = self._hides_others is not None and time.monotonic() >= self._hides_others
         if fronts == (self._fronts or []) and not is_due or not self._may_hide():
             return []
@@ -94,9 +93,10 @@ class Hiders:
     def hide(self) -> Told:
         """Hides copies that aren't to be seen, or shows them again; what the first text has become."""
         told: Told = []
-        self._open_more()
+        fronts = self._known[0].fronts_of_copies()
+        self._open_more(fronts)
         for text, hider in self._each():
-            hidden = hider.hide()
+            hidden = hider.hide(fronts)
             told = hidden if text == TEXT else told
         return told
 
@@ -106,10 +106,10 @@ class Hiders:
         for _, hider in self._each():
             hider.look_again()
 
-    def _open_more(self) -> None:
+    def _open_more(self, fronts: list[int]) -> None:
         """Opens the texts that aren't open and have copies that are to be hidden or shown."""
         holdings, form, numbers = self._known
-        if len(form.texts) == 1 or not numbers.own.stood or (fronts := holdings.fronts_of_copies()) == self._fronts:
+        if fronts == self._fronts or len(form.texts) == 1 or not numbers.own.stood:
             return
         self._fronts = fronts
         for text in holdings.texts_of_copies().difference(one.replica.text for one in self._texts):

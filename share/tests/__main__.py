@@ -36,10 +36,10 @@ MODULES = ["test_storm", "test_all_editors", "test_page", "test_of_files", "test
            "test_snapshot", "test_intake", "test_difference", "test_state", "test_chained", "test_links", "test_copied_numbers",
            "test_memory", "test_withdrawn", "test_held_up", "test_records", "test_claim_search", "test_message_judge",
            "test_composing", "test_rebasing", "test_record_judge", "test_second_notes"]
-# These run over notes of the second form, too, which has rules of its own for what they are about: numbers, copies, losses, what is sent,
-# who is on, and attacks. Any module does as "test_one:2".
-OVER_BOTH = frozenset(("test_carried", "test_copied_numbers", "test_copies", "test_left_out", "test_losses", "test_numbers", "test_presence",
-                       "test_security", "test_withdrawn"))
+# These run over notes of the second form, too, which has rules of its own for what they are about: numbers, copies, losses, what is
+# sent, who is on, and attacks. Any module does as "test_one:2".
+OVER_BOTH = frozenset(("test_carried", "test_copied_numbers", "test_copies", "test_left_out", "test_losses", "test_numbers",
+                       "test_presence", "test_security", "test_withdrawn"))
 # After this long a module is ended, on however busy a machine, unless one of these has its tests take as long as they are told to.
 MODULE_SECONDS = 1_800.0
 LONG_RUNS = "SHARE_STORM", "SHARE_ROUNDS", "SHARE_SECONDS"
@@ -218,7 +218,8 @@ def main() -> int:
         use_byte_code_of(pathlib.Path(name) / "python")
         # What nearly all modules need is loaded once, before each has a process of its own.
         importlib.import_module("share.tests.support")
-        return count(sys.argv[1:] or all_modules(), pathlib.Path(name), 10 * 86_400 if any(map(os.environ.get, LONG_RUNS)) else MODULE_SECONDS)
+        seconds = 10 * 86_400 if any(map(os.environ.get, LONG_RUNS)) else MODULE_SECONDS
+        return count(sys.argv[1:] or all_modules(), pathlib.Path(name), seconds)
 
 
 if __name__ == "__main__":
