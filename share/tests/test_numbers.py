@@ -137,7 +137,7 @@ class Numbers(Case):
         notes = [self.opened(person) for person in (other, self.anna, self.person("third"))]
         text = self.assert_meet(*notes).decode()
         self.assertEqual(sorted(text.split()), sorted(f"one two three long-word third {word}".split()))
-        told = {note.notice.split(",")[0] for note in notes}
+        told = {words.split(",")[0] for note in notes for words in note.told}
         self.assertIn("You typed after something that doesn't count any more", told)
 
     def word_that_holds_against(self, entry: Entry, typed: str) -> str:

@@ -17,6 +17,7 @@ from share.store.own import OwnTables
 from share.store.read_only import found_in
 from share.sync import number_search
 from share.sync.number_search import NONE_FOUND_YET
+from share.sync.numbers import READING, Numbers
 from share.tests.note import Note
 from share.tests.support import Case, Person, take, type_at_the_end, wait_for, written
 from share.text.errors import Trouble
@@ -228,6 +229,18 @@ class SecondForm(Case):
                     self.assertTrue(note.session.status().trouble)
                 wait_for(lambda: (note.take_in(), note.session.can_type)[1], "a number", 20)
                 type_at_the_end(note, "three ")
+
+    def test_who_loses_a_number_while_no_other_is_there_is_told_so(self) -> None:
+        with mock.patch.object(Numbers, "claim_in_advance", lambda *_: None):
+            ann, bob = self.both(self.file_log())
+            with mock.patch("share.sync.number_search.can_read", lambda *_: False):
+                number, told = bob.session.number, list[str]()
+                take(self.bob, number)
+                wait_for(lambda: (bob.take_in(), told.append(bob.notice), not bob.session.can_type)[2], "the number to be lost")
+                wait_for(lambda: (bob.take_in(), told.append(bob.notice), any(f"site {number}" in one for one in told))[2], "it to be told")
+                self.assertNotIn(str(READING), " ".join(told))
+                self.assertIn("so you go on as soon as another number was found", " ".join(told))
+            self.assertEqual(self.assert_meet(ann, bob), b"one two ")
 
     def test_who_types_waits_for_no_search(self) -> None:
         note = self.opened(self.ann)
