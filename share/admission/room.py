@@ -16,10 +16,11 @@ class GivenBack:
         self.lacking: set[int] = set()
         self._turns: set[int] = set()
 
-    def give_back(self, row: Row) -> None:
-        """Notes that an entry isn't in memory any more."""
+    def give_back(self, row: Row, lacks: bool = True) -> None:
+        """Notes that an entry isn't in memory any more, and whether it has another turn when its chain goes on."""
         self._given_back.append(row)
-        self.lacking.add(row.entry.site)
+        if lacks:
+            self.lacking.add(row.entry.site)
 
     def given_back(self) -> list[Row]:
         """What was given back since this was last asked."""
@@ -67,8 +68,8 @@ class Room(GivenBack):
         if is_too_much and outside.may_be_dropped(entry.hash):
             self.give_back(outside.row(entry.hash))
 
-    def give_back(self, row: Row) -> None:
+    def give_back(self, row: Row, lacks: bool = True) -> None:
         """Takes an entry out of memory."""
         if row.entry.hash in self._outside:
             self._outside.remove(row.entry.hash)
-        super().give_back(row)
+        super().give_back(row, lacks)

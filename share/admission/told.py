@@ -109,11 +109,12 @@ class ToldOfMessages:
         return min(max(line.front, up_to), last), last
 
     def _waits(self, twig: Twig) -> bool:
-        """Whether messages that are in no line may yet count: one before them is missing, or their author's claim."""
+        """Whether messages that are in no line are said to wait: one before them is missing, or a claim of their number. Where somebody
+        else holds that, who has no claim of it holds nothing up: it costs nothing to write without one."""
         root, site = self._sayings.root(twig.numbers[0]), twig.site
         if not self._judge.has_begun or root is Root.LOOSE:
             return True
-        return root is Root.ROOTED and site not in self._judge.base.sites and (site, twig.author) not in self._judge.claims
+        return root is Root.ROOTED and site not in self._judge.base.sites and self._judge.claimant(site) is None
 
     # What builds on what was left out.
 

@@ -5,10 +5,11 @@ from contextlib import closing
 from datetime import datetime
 
 from share.cli import access, html
-from share.cli.output import print_bytes, print_json, print_text, report_missing
+from share.cli.output import print_bytes, print_json, print_text, report, report_missing
 from share.engine import server
 from share.format.history import Messages
 from share.format.operation import INSERT, TEXT
+from share.log.folder import stands_still
 from share.log.sqlite_file import WRITTEN_AHEAD, beside
 from share.program import replay, retyping
 from share.program.replay import Replays, HistoryStep, Wrote
@@ -94,7 +95,10 @@ def log(given: argparse.Namespace) -> int:
 
 def list_notes(given: argparse.Namespace) -> int:
     """Lists the notes that are here."""
-    found = [_listed(name, notes.path_of(name)) for name in notes.names()]
+    paths = {name: notes.path_of(name) for name in notes.names()}
+    found = [_listed(name, path) for name, path in paths.items()]
+    report(f"Another process, perhaps one that was stopped, holds {folder}. What it is at isn't seen."
+           for folder in sorted({path.parent for path in paths.values()}) if stands_still(folder))
     if given.json:
         return print_json({"notes": found}, [])
     for one in found:

@@ -55,14 +55,14 @@ class OtherEditors:
         if other is None:
             self._others[token] = _Other(self._new_who(), one)
         elif other.said != one:
-            if (other.said.cursor, other.said.anchor) != (one.cursor, one.anchor):
+            if (other.said.text, other.said.cursor, other.said.anchor) != (one.text, one.cursor, one.anchor):
                 other.searches, other.due = SEARCHES, 0.0
             other.said = one
 
     def _find(self, other: _Other, site: Site) -> None:
         """Finds where the characters are shown before the cursor and the other end. One that isn't here yet is searched
-        again; one that was deleted leaves its place."""
-        cursor, anchor = other.said.cursor, other.said.anchor
+        again; one that was deleted leaves its place. Of another text nothing is shown: its characters have the names of others here."""
+        cursor, anchor = (other.said.cursor, other.said.anchor) if other.said.text == site.text_number else (None, None)
         places = [self._place(site, one) for one in (cursor, anchor)]
         is_found = all(place is not None or one is None for place, one in zip(places, (cursor, anchor)))
         other.searches, other.due = 0 if is_found else other.searches - 1, time.monotonic() + SEARCH_SECONDS

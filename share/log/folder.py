@@ -1,6 +1,7 @@
 """Folders in which several processes make files and set them aside."""
 import contextlib
 import fcntl
+import math
 import os
 import pathlib
 import time
@@ -9,6 +10,9 @@ from collections.abc import Iterator
 Inode = tuple[int, int]
 # How long is waited for who makes a file, which takes some milliseconds unless that process was stopped; and between two tries.
 MOST_DISTURBED_SECONDS, TRY_LOCK_SECONDS = 5.0, 0.01
+# After it was waited in vain it isn't again for this long, and since when that is in which folders. Any thread may write it.
+IN_VAIN_SECONDS = 30.0
+_in_vain: dict[pathlib.Path, float] = {}
 
 
 def inode_of(path: pathlib.Path | str | int) -> Inode | None:
@@ -46,10 +50,25 @@ def undisturbed(folder: pathlib.Path) -> Iterator[None]:
         with contextlib.suppress(OSError):
             file = os.open(folder, os.O_RDONLY | os.O_DIRECTORY | os.O_CLOEXEC)
             stack.callback(os.close, file)
-            end = time.monotonic() + MOST_DISTURBED_SECONDS
-            while not _is_shared(file) and time.monotonic() < end:
-                time.sleep(TRY_LOCK_SECONDS)
+            _wait_for(file, folder)
         yield
+
+
+def stands_still(folder: pathlib.Path) -> bool:
+    """Whether it was waited in vain, just now, for another process that holds a folder."""
+    return time.monotonic() < _in_vain.get(folder, -math.inf) + IN_VAIN_SECONDS
+
+
+def _wait_for(file: int, folder: pathlib.Path) -> None:
+    """Waits until a folder that was opened is locked for this process, unless that was just in vain."""
+    end = time.monotonic() + (0.0 if stands_still(folder) else MOST_DISTURBED_SECONDS)
+    while not _is_shared(file):
+        if time.monotonic() >= end:
+            if not stands_still(folder):
+                _in_vain[folder] = end
+            return
+        time.sleep(TRY_LOCK_SECONDS)
+    _in_vain.pop(folder, None)
 
 
 def _is_shared(file: int) -> bool:

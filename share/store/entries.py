@@ -37,7 +37,7 @@ BACK = ("DELETE FROM entry WHERE hash IN (SELECT hash FROM withdrawn WHERE hash 
         "DELETE FROM withdrawn WHERE hash = ?")
 ADDED = "SELECT count(*), coalesce(sum(made), 0), max(place) FROM entry WHERE place > ?"
 ADDED_ONE_BY_ONE = "SELECT place, hash, made FROM entry WHERE place > ? ORDER BY place"
-WITHDRAW = "INSERT OR IGNORE INTO withdrawn (hash) SELECT hash FROM entry WHERE hash = ? AND made AND NOT offered"
+NEVER_GIVEN = "FROM entry WHERE hash IN ({}) AND made AND NOT offered AND hash NOT IN (SELECT hash FROM withdrawn)"
 # Of this person, by the bytes of their kinds. What the disk damaged may have another type.
 NEVER_OFFERED = """SELECT count(*) FROM entry WHERE made AND NOT offered AND hash NOT IN (SELECT hash FROM withdrawn) AND
                    hex(substr(CAST(raw AS BLOB), 2, 1)) IN ({})"""
@@ -217,7 +217,12 @@ class Entries:
         after all count as offered from now on."""
         with self._file.writing():
             self._sql.executemany("UPDATE entry SET offered = 1 WHERE hash = ?", ((one,) for one in in_log))
-            return [one for one in hashes if self._sql.execute(WITHDRAW, (one,)).rowcount]
+            wanted, gone = [*hashes], set[bytes]()
+            for begin in range(0, len(wanted), HASHES_AT_ONCE):
+                some = wanted[begin:begin + HASHES_AT_ONCE]
+                gone.update(of for of, in self._sql.execute(f"SELECT hash {NEVER_GIVEN.format(_marks(some))}", some))
+                self._sql.execute(f"INSERT OR IGNORE INTO withdrawn (hash) SELECT hash {NEVER_GIVEN.format(_marks(some))}", some)
+            return [of for of in wanted if of in gone]
 
     def offer(self, places: Sequence[int]) -> list[bytes]:
         """The bytes of the entries at these places, which are said to have been offered to a log from now on.

@@ -94,13 +94,14 @@ def seconds_for_others() -> float:
     return OTHERS_SECONDS * (1 + random.random())
 
 
-def told_of_numbers(site: int, broken: Sequence[Client], shared: Sequence[Client]) -> str:
-    """What the user is told of numbers that were given up, where this is the editor's now and others write under some."""
+def told_of_numbers(site: int | None, broken: Sequence[Client], shared: Sequence[Client]) -> str:
+    """What the user is told of numbers that were given up, where this is the editor's now, if it has one already, and others write under
+    some."""
+    goes_on = "as soon as another number was found" if site is None else f"as site {site}"
     if sites := ", ".join(str(one.site) for one in shared):
-        return (f"Another client writes as site {sites} too, or this disk has lost what was written there, so you go on as "
-                f"site {site}. ")
+        return f"Another client writes as site {sites} too, or this disk has lost what was written there, so you go on {goes_on}. "
     return (f"You typed after something that doesn't count any more, since two clients wrote it under one number. So you go "
-            f"on as site {site}. ") if broken else ""
+            f"on {goes_on}. ") if broken else ""
 
 
 def told_of_edits(own: int, others: int) -> str:

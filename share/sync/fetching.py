@@ -4,7 +4,7 @@ from collections.abc import Sequence
 from contextlib import closing
 
 from share.admission.ledger import Row
-from share.format.entry import Bad, Form, digests
+from share.format.entry import NO_HASH, Bad, Form, digests
 from share.log.base import START, InLog, Log
 from share.program.trace import Traced, trace
 from share.store.note_file import Disk
@@ -135,8 +135,10 @@ class Fetcher:
                 self._leave_out(one.place, f"Entry {one.place} of the log can't be one and was left out.")
         trace(Traced.FETCHED, entries=len(page), new=len(opened))
         self._known.came(disk, carried, opened, held.values())
-        # What stands there may be asked for by what is before it, where that came.
-        self._meeting.damaged(disk.entries.places_of(damaged))
+        # What stands there may be asked for by what is before it, where that came; a file knows no messages by their hashes, so of these
+        # it is asked anyway.
+        of_messages = self._form.names_messages
+        self._meeting.damaged([of for of in damaged if of != NO_HASH] if of_messages else disk.entries.places_of(damaged))
         if opened:
             self._threads.wake()
 

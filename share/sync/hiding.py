@@ -39,10 +39,9 @@ class Hider:
         """Looks at all again the next time, since the site began anew."""
         self._fronts = None
 
-    def hide(self) -> Told:
-        """Hides copies that were made here and aren't to be seen, or shows them again; what the text has become. Those of
-        others are hidden some seconds later."""
-        fronts = self._holdings.fronts_of_copies()
+    def hide(self, fronts: list[int]) -> Told:
+        """Hides copies that were made here and aren't to be seen, or shows them again, where what they stand for counts this far; what the
+        text has become. Those of others are hidden some seconds later."""
         is_due = self._hides_others is not None and time.monotonic() >= self._hides_others
         if fronts == (self._fronts or []) and not is_due or not self._may_hide():
             return []
@@ -82,24 +81,40 @@ class Hider:
 
 
 class Hiders:
-    """Hides and shows copies in all texts that are open. The editor's thread alone calls it."""
+    """Hides and shows copies in all texts: one that isn't open is opened where some of its copies are to be hidden or shown. The editor's
+    thread alone calls it."""
 
     def __init__(self, holdings: Holdings, form: Form, numbers: Numbers, texts: OpenTexts, rebaser: Rebaser):
         self._texts, self._known, self._rebaser = texts, (holdings, form, numbers), rebaser
         self._hiders: dict[int, Hider] = {}
+        # How far what copies stand for counted when it was last looked at texts that aren't open.
+        self._fronts: list[int] = []
 
     def hide(self) -> Told:
         """Hides copies that aren't to be seen, or shows them again; what the first text has become."""
         told: Told = []
+        fronts = self._known[0].fronts_of_copies()
+        self._open_more(fronts)
         for text, hider in self._each():
-            hidden = hider.hide()
+            hidden = hider.hide(fronts)
             told = hidden if text == TEXT else told
         return told
 
     def look_again(self) -> None:
         """Looks at all again the next time, since the sites began anew."""
+        self._fronts = []
         for _, hider in self._each():
             hider.look_again()
+
+    def _open_more(self, fronts: list[int]) -> None:
+        """Opens the texts that aren't open and have copies that are to be hidden or shown."""
+        holdings, form, numbers = self._known
+        if fronts == self._fronts or len(form.texts) == 1 or not numbers.own.stood:
+            return
+        self._fronts = fronts
+        for text in holdings.texts_of_copies().difference(one.replica.text for one in self._texts):
+            if any(wanted(holdings, text)):
+                self._texts.open_one(text)
 
     def _each(self) -> Iterator[tuple[int, Hider]]:
         for one in self._texts:

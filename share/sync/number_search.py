@@ -25,10 +25,12 @@ class NumberSearch:
     def __init__(self, form: RecordForm):
         self._form, self._author = form, form.new_author()
         self._search: ClaimSearch | None = None
+        # What was found and isn't kept yet.
+        self._found: FoundNumber | None = None
 
     def begin(self, taken: Collection[int]) -> None:
         """Searches for a number that isn't taken, unless that is done already."""
-        if self._search:
+        if self._search or self._found:
             return
         if len(taken) >= GREATEST_SITE:
             raise Trouble(f"All {GREATEST_SITE:,} numbers of this note are claimed. Copy it by bin/note renew.")
@@ -43,10 +45,24 @@ class NumberSearch:
             # It was closed meanwhile.
             return False
 
-    def take(self, taken: Collection[int]) -> FoundNumber | None:
-        """What it found. Where somebody has claimed that number meanwhile, or it ended with nothing, another one is searched for."""
-        if not self.has_ended():
-            return None
+    def is_ready(self) -> bool:
+        """Whether something was found, or a search has ended."""
+        return self._found is not None or self.has_ended()
+
+    def found(self, taken: Collection[int]) -> FoundNumber | None:
+        """What it found, until that is kept. Where somebody has claimed that number meanwhile, or it ended with nothing, another one is
+        searched for."""
+        if self._found is None:
+            if not self.has_ended():
+                return None
+            self._found = self._taken()
+        if self._found is None or self._found.site in taken:
+            self._found = None
+            self.begin(taken)
+        return self._found
+
+    def _taken(self) -> FoundNumber | None:
+        """What it ended with."""
         assert self._search
         try:
             found = self._search.found()
@@ -54,10 +70,11 @@ class NumberSearch:
             found = None
         author = self._author
         self.close()
-        if found is None or found.site in taken:
-            self.begin(taken)
-            return None
-        return FoundNumber(found.site, author, self._form.claim(found.site, author, found.counter))
+        return FoundNumber(found.site, author, self._form.claim(found.site, author, found.counter)) if found else None
+
+    def kept(self) -> None:
+        """Notes that what it found is kept."""
+        self._found = None
 
     def close(self) -> None:
         """Ends the search."""

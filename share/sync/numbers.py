@@ -24,6 +24,8 @@ from share.text.errors import Trouble
 LEAST_ROOM_LEFT, FULL = 2**20, (10, 23)
 # The pause before another number is looked for again where one is full.
 ANOTHER_SECONDS = 5
+# The pause before it is tried again to search for a number, or to keep one that was found.
+SEARCH_AGAIN_SECONDS = 1
 # A number that nobody can claim: where there is none left, a note is read under it.
 READING = 65_535
 
@@ -41,8 +43,9 @@ class Numbers:
         # Whether this editor's number can make no more edits; and why it has none, where it has none.
         self.is_full, self.why_none = False, ""
         self._another_after = 0.0
-        # Where a number costs a search.
+        # Where a number costs a search; and when one is searched for, or kept, again where that couldn't be done.
         self.search = NumberSearch(form) if isinstance(form, RecordForm) else None
+        self._search_again = 0.0
         # The numbers that were given up, or copied with the note, and that no other editor has.
         self._held: set[Who] = set()
         # What was made under them, is kept since others have it, and was let go for the log to be given it.
@@ -113,17 +116,28 @@ class Numbers:
         return client
 
     def take_found(self) -> bool:
-        """Keeps a number that was searched for; whether this editor, which had none, has it now."""
-        with suppress(Unkept, Trouble):
-            found = self.search.take(self._holdings.judge.claimed()) if self.search else None
-            if not found:
-                return False
-            is_for_this = self.own.site == READING and self._file.disk.lock(found.site)
-            client = self._keep(found)
-            if is_for_this:
-                self.own, self.why_none = client, ""
-                return True
-        return False
+        """Keeps a number that was searched for; whether this editor, which had none, has it now. What can't be kept, or searched for, now
+        is later."""
+        search, now = self.search, time.monotonic()
+        if not search or now < self._search_again or self.has_one and not search.is_ready():
+            return False
+        try:
+            taken = self._holdings.judge.claimed()
+            if not self.has_one:
+                search.begin(taken)
+            return (found := search.found(taken)) is not None and self._take(found, search)
+        except (Unkept, Trouble):
+            self._search_again = now + SEARCH_AGAIN_SECONDS
+            return False
+
+    def _take(self, found: FoundNumber, search: NumberSearch) -> bool:
+        """Keeps a number that was found; whether it is this editor's."""
+        is_for_this = not self.has_one and self._file.disk.lock(found.site)
+        client = self._keep(found)
+        search.kept()
+        if is_for_this:
+            self.own, self.why_none = client, ""
+        return is_for_this
 
     def claims_in_log(self, replicator: Replicator) -> set[Who]:
         """The numbers that can't be typed under yet and whose claims were read in the log."""

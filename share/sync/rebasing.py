@@ -172,7 +172,7 @@ class Rebaser:
     def _say_of(self, broken: Sequence[Client], words: str) -> None:
         """Tells of numbers that were given up, and of what became of what was made under them."""
         shared = [one for one in broken if self._holdings.is_anothers(one)]
-        numbers = told_of_numbers(self._numbers.own.site, broken, shared)
+        numbers = told_of_numbers(self._numbers.own.site if self._numbers.has_one else None, broken, shared)
         more = " Give each machine its own data folder, and don't copy it." if shared else ""
         if numbers or words:
             self._notices.tell(f"{numbers}{words}{more}")

@@ -92,6 +92,10 @@ class Recovered:
         return own + [min(counts_up_to(author, site, text), seq) for (of_site, of_author, of_text), of_seq, copy, _ in self._others
                       for author, site, seq, text in ((of_author, of_site, of_seq, of_text), copy)]
 
+    def texts(self) -> set[int]:
+        """The texts of what was typed again."""
+        return {text for _, _, text in self._said}
+
     def made_here(self, judge: Judging) -> Iterator[tuple[Copy, bool]]:
         """What was typed again here and counts, and whether each message of it is to be hidden."""
         return self._to_be_seen(judge, (_Typed(whose, seq, copy, one.last) for whose in sorted(self._own) for one in self._said[whose]

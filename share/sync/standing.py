@@ -160,6 +160,10 @@ class Standing:
         """What is to be looked at again where it changes: how far those count of which copies were made here."""
         return [min(counts_up_to(author, site, text), most) for (site, author, text), most in self._watched.items()] if self._own else []
 
+    def texts(self) -> set[int]:
+        """The texts of the copies that were made here."""
+        return {text for _, _, text in self._own_copies}
+
     def made_here(self, entry_of: EntryOf, rows: RowsByHash) -> Iterator[tuple[Copy, bool]]:
         """The copies that were made here and count, and whether each is to be hidden."""
         return self._to_be_seen(entry_of, lambda piece, seq: _counts(piece, seq, entry_of, rows), rows)

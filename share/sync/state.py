@@ -213,6 +213,10 @@ class Holdings(WhatWasLost):
         return [*self.standing.fronts(self.counts_up_to), *self.standing_for_all.fronts(self.counts_up_to),
                 *self.recovered.fronts(self.counts_up_to)]
 
+    def texts_of_copies(self) -> set[int]:
+        """The texts in which something is said to be a copy."""
+        return self.standing.texts() | self.standing_for_all.texts() | self.recovered.texts()
+
     def _extends(self, run: Sequence[Row]) -> bool:
         """Adds entries of messages, each of which follows the one before it, together, where nothing was said of them; whether it did."""
         is_plain = len(run) > 1 and not (self._withdrawn or self.standing.waits or self.standing_for_all.waits)
@@ -229,6 +233,9 @@ class Holdings(WhatWasLost):
         if is_own and not row.made and entry.kind.is_under_a_number:
             self._shared.add(of)
         self.judge.add_new(row)
+        if entry.kind.says_copies and entry.hash not in self.judge:
+            # There was no room for it.
+            return
         if is_own:
             self.standing.add(row, self.rows)
         self.standing_for_all.add(row._replace(made=True) if entry.kind.says_copies else row, self.rows)

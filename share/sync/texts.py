@@ -33,10 +33,14 @@ class OpenTexts:
 
     def __getitem__(self, text: int) -> OpenText:
         """A text, which is opened where it isn't."""
+        self.open_one(text)
+        return self._open[text]
+
+    def open_one(self, text: int) -> None:
+        """Opens a text, where it isn't open."""
         if text not in self._open:
             self.comes(self._holdings.count())
             self.open(text, self._holdings.judge.let_through_in_order(text))
-        return self._open[text]
 
     def __iter__(self) -> Iterator[OpenText]:
         """All that are open."""

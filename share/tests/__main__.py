@@ -17,6 +17,7 @@ from multiprocessing import connection
 from typing import NamedTuple
 
 from share.tests.byte_code import use_byte_code_of
+from share.tests.forms import FIRST_FORM_ALONE, is_second_form, of_second_form
 from share.tests.left_open import left_open, open_now
 from share.tests.processes import descendants, handles
 
@@ -35,6 +36,10 @@ MODULES = ["test_storm", "test_all_editors", "test_page", "test_of_files", "test
            "test_snapshot", "test_intake", "test_difference", "test_state", "test_chained", "test_links", "test_copied_numbers",
            "test_memory", "test_withdrawn", "test_held_up", "test_records", "test_claim_search", "test_message_judge",
            "test_composing", "test_rebasing", "test_record_judge", "test_second_notes"]
+# These run over notes of the second form, too, which has rules of its own for what they are about: numbers, copies, losses, what is
+# sent, who is on, and attacks. Any module does as "test_one:2".
+OVER_BOTH = frozenset(("test_carried", "test_copied_numbers", "test_copies", "test_left_out", "test_losses", "test_numbers",
+                       "test_presence", "test_security", "test_withdrawn"))
 # After this long a module is ended, on however busy a machine, unless one of these has its tests take as long as they are told to.
 MODULE_SECONDS = 1_800.0
 LONG_RUNS = "SHARE_STORM", "SHARE_ROUNDS", "SHARE_SECONDS"
@@ -79,21 +84,27 @@ class Running(NamedTuple):
 
 
 def run(module: str, told: pathlib.Path) -> Result:
-    """Runs a module. A skipped test failed, and so did a module that left something open."""
+    """Runs a module. A test that was left out failed, unless it is of the first form and this is the second, and so did a module that
+    left something open."""
     with open(told, "w", encoding="utf-8", errors="backslashreplace", buffering=1) as file:
         # Whatever ends the process, it is told what each thread was at.
         faulthandler.enable(file)
         before, begin = open_now(), time.monotonic()
-        tests = unittest.defaultTestLoader.loadTestsFromName(f"share.tests.{module}")
+        name, _, form = module.partition(":")
+        if form:
+            of_second_form()
+        tests = unittest.defaultTestLoader.loadTestsFromName(f"share.tests.{name}")
         result = unittest.TextTestRunner(file, verbosity=2).run(tests)
-        failed = {str(test): words for test, words in [*result.failures, *result.errors, *result.skipped]}
+        of_first_form = [test for test, why in result.skipped if why.startswith(FIRST_FORM_ALONE)]
+        skipped = [(test, why) for test, why in result.skipped if test not in of_first_form]
+        failed = {str(test): words for test, words in [*result.failures, *result.errors, *skipped]}
         faults = [f"FAIL: {test}: {what_failed(words)}" for test, words in failed.items()]
         if left := left_open(before):
             faults.append(f"FAIL: {module} left {left}")
             file.write(f"{faults[-1]}\n")
         file.write(f"{module}: {time.monotonic() - begin:.0f} s, {processor_seconds():.0f} of them of a processor\n")
         faulthandler.disable()
-    return Result(result.testsRun - len(failed), len(faults), told.read_text("utf-8"), faults)
+    return Result(result.testsRun - len(failed) - len(of_first_form), len(faults), told.read_text("utf-8"), faults)
 
 
 def what_failed(words: str) -> str:
@@ -192,6 +203,12 @@ def count(modules: Sequence[str], folder: pathlib.Path, seconds: float = MODULE_
     return 1 if failed or not passed else 0
 
 
+def all_modules() -> list[str]:
+    """All modules, those that run over both forms twice; where tests make notes of the second form anyway once."""
+    twice = frozenset[str]() if is_second_form() else OVER_BOTH
+    return [one for module in MODULES for one in (module, f"{module}:2")[:1 + (module in twice)]]
+
+
 def main() -> int:
     """Runs all modules, or those that are named."""
     stand = {path.stem for path in pathlib.Path(__file__).parent.glob("test_*.py")}
@@ -201,7 +218,8 @@ def main() -> int:
         use_byte_code_of(pathlib.Path(name) / "python")
         # What nearly all modules need is loaded once, before each has a process of its own.
         importlib.import_module("share.tests.support")
-        return count(sys.argv[1:] or MODULES, pathlib.Path(name), 10 * 86_400 if any(map(os.environ.get, LONG_RUNS)) else MODULE_SECONDS)
+        seconds = 10 * 86_400 if any(map(os.environ.get, LONG_RUNS)) else MODULE_SECONDS
+        return count(sys.argv[1:] or all_modules(), pathlib.Path(name), seconds)
 
 
 if __name__ == "__main__":

@@ -1,6 +1,7 @@
 """What somebody who has a note's link can send to hold up everybody who has it open: entries that are right by themselves.
 
-Each attack is one function that gives entries, or one that goes on as long as it is let. The entries are those of a sealed note.
+Each attack is one function that gives entries, or one that goes on as long as it is let. The entries are those of a sealed note, of either
+form; in one of the second form nobody claims all numbers, or those of others, for nothing.
 """
 from __future__ import annotations
 
@@ -16,9 +17,12 @@ from collections.abc import Callable, Iterable, Iterator, Sequence
 from typing import NamedTuple
 
 from share.format import chunk
-from share.format.entry import GREATEST_SITE, HEAD, MOST_BYTES, Author, Bad, Entry, FirstForm, Form, Kind, digest
+from share.format.entry import GREATEST_SITE, HEAD, MOST_BYTES, NO_HASH, Author, Bad, Entry, FirstForm, Form, Kind, digest
 from share.format.heartbeat import OF_BEFORE
-from share.format.operation import DELETE, INSERT, MOST_RANGES, PLAIN_LOOKS, Operation
+from share.format.operation import DELETE, INSERT, MOST_RANGES, PLAIN_LOOKS, TEXT, Operation
+from share.format.second.claim import found_among
+from share.format.second.form import RecordForm
+from share.format.second.record import RECORD_HEAD, RecordKind
 from share.text.names import Names
 
 # Of what somebody types at the front so many letters fit an entry, each by itself; of what is typed on, so many.
@@ -41,10 +45,9 @@ class Hostile:
     """Somebody with the link of a note, whose log is a file."""
 
     def __init__(self, form: Form, log: str):
-        assert isinstance(form, FirstForm)
         self.form, self.log = form, log
         self.rng = random.Random("attacks")
-        taken = {entry.site for entry in self.entries()}
+        self.taken = taken = {entry.site for entry in self.entries()}
         # The numbers that nobody has claimed, but for the one that stays nobody's as long as others are left.
         self.free = iter([site for site in [*range(GREATEST_SITE - 1, 0, -1), NOBODY] if site not in taken])
         # Stamps from here on are above those of the note as it is.
@@ -59,7 +62,8 @@ class Hostile:
     def claims(self) -> list[Entry]:
         """The claims that the log has."""
         with self._opened() as file:
-            raws = [raw for raw, in file.execute("SELECT raw FROM entry WHERE substr(raw, 2, 1) = x'01' ORDER BY place")]
+            kind = bytes([RecordKind.CLAIM if isinstance(self.form, RecordForm) else Kind.CLAIM])
+            raws = [raw for raw, in file.execute("SELECT raw FROM entry WHERE substr(raw, 2, 1) = ? ORDER BY place", (kind,))]
         return [one for one in self.form.open_many(raws) if not isinstance(one, Bad)]
 
     def send(self, raws: Iterable[bytes]) -> None:
@@ -91,19 +95,31 @@ class Hostile:
 
     def claim(self) -> tuple[Entry, Author]:
         """A claim of such a number."""
-        author = self.form.new_author()
-        return self.form.claim(self.site(), author), author
+        author, form = self.form.new_author(), self.form
+        if not isinstance(form, RecordForm):
+            return form.claim(self.site(), author), author
+        found = next(one for one in found_among(itertools.count(), form.note, author.name, {*self.taken, NOBODY}, form.zero_bits))
+        self.taken.add(found.site)
+        return form.claim(found.site, author, found.counter), author
 
     def entry(self, before: Entry, author: Author, runs: Sequence[Operation], on: bytes = b"") -> Entry:
         """An entry of messages that follow an entry."""
         writer = chunk.Writer()
         if not all(writer.add(run) for run in runs):
             raise ValueError("an entry has no room for so much")
+        if isinstance(self.form, RecordForm):
+            return self.form.messages(chunk.Packed((*runs,), bytes(writer.data)), before.name, author, {0: on} if on else {})
+        assert isinstance(self.form, FirstForm)
         kind = Kind.CHUNK_BUILDING if on else Kind.CHUNK
         return self.form._made(kind, before.site, runs[0].seq, sum(run.size for run in runs), before.hash, author, on, bytes(writer.data))
 
     def unknown(self, author: Author, before: Entry, size: int) -> bytes:
         """An entry of a kind that nobody knows."""
+        if isinstance(self.form, RecordForm):
+            head = RECORD_HEAD.pack(self.form.number, KIND_OF_NOBODY, self.form.note, author.name, before.site, TEXT, 0, 0, NO_HASH)
+            unsigned = self.form._unsigned(head, self.rng.randbytes(size))
+            return unsigned + self.form._signature(unsigned, author)
+        assert isinstance(self.form, FirstForm)
         head = HEAD.pack(self.form.number, KIND_OF_NOBODY, self.form.note, before.site, 1, 0, before.hash) + author.name
         return self.form._closed(head, self.rng.randbytes(size), author)
 
@@ -171,6 +187,7 @@ def loose(hostile: Hostile, sites: int = 60, many: int = 1_000) -> Iterator[byte
 
 def all_numbers(hostile: Hostile) -> Iterator[bytes]:
     """Claims of all numbers that are free, by authors whose claims are before most others."""
+    assert isinstance(hostile.form, FirstForm)
     authors = [hostile.form.new_author() for _ in range(256)]
     for site in hostile.free:
         yield hostile.form.claim(site, min(hostile.rng.sample(authors, TRIED), key=lambda author: _rank(site, author))).raw
@@ -202,6 +219,7 @@ def unknown_kinds(hostile: Hostile, small: int = 50_000, large: int = 2_000) -> 
 
 def claims_again(hostile: Hostile, stopped: threading.Event) -> None:
     """Each number that somebody claims is claimed, too, by who has it then."""
+    assert isinstance(hostile.form, FirstForm)
     done = {claim.hash: claim for claim in hostile.claims()}
     own: set[bytes] = set()
     first = [*done.values()]

@@ -11,7 +11,7 @@ from share.tests.naive_second import LEAP, ZEROS, Answer, Copied, Entry, Kind, P
 def told(answer: Answer) -> list[Saying]:
     """What doesn't count since something lesser holds in its place, or since it builds on such; without that of which a copy counts, or
     of which its author, who says of nothing what stands for it, says that it was made anew."""
-    lost = [one for one, why in answer.left_out.values() if why in (Why.HOLDER, Why.BRANCH, Why.BASE)
+    lost = [one for one, why in answer.left_out.values() if (why in (Why.HOLDER, Why.BRANCH, Why.BASE) or _is_anothers(answer, one, why))
             and not _counts_elsewhere(answer, one) and not _is_said_anew(answer, one)]
     for place in _built_on_what_was_left_out(answer):
         lost += held_up(answer, place, [entry for entry in answer.entries if not _tells_copies(answer, _who(entry))])
@@ -24,7 +24,12 @@ def incomplete(answer: Answer) -> int:
         return len(answer.said)
     waiting = _blocked(answer) - _built_on_what_was_left_out(answer)
     return (sum(len(held_up(answer, place, answer.entries)) for place in waiting)
-            + sum(why in (Why.LOOSE, Why.UNCLAIMED) for _, why in answer.left_out.values()))
+            + sum(why in (Why.LOOSE, Why.UNCLAIMED) and not _is_anothers(answer, one, why) for one, why in answer.left_out.values()))
+
+
+def _is_anothers(answer: Answer, one: Saying, why: Why) -> bool:
+    """Whether a message is of somebody who doesn't claim its number, which another one holds."""
+    return why is Why.UNCLAIMED and one.message.site in answer.holders
 
 
 def held_up(answer: Answer, place: Place, entries: Iterable[Entry]) -> list[Saying]:
@@ -56,7 +61,7 @@ def _built_on_what_was_left_out(answer: Answer) -> set[Place]:
     # The characters that were left out, as far as each number has them.
     ends: dict[Place, int] = {}
     for one, why in answer.left_out.values():
-        if why in (Why.HOLDER, Why.BRANCH, Why.BASE, Why.PLACE):
+        if why in (Why.HOLDER, Why.BRANCH, Why.BASE, Why.PLACE) or _is_anothers(answer, one, why):
             ends[one.place] = max(ends.get(one.place, 0), one.message.at + len(one.message.data))
     found: set[Place] = set()
     while more := {place for place in _blocked(answer) - found if _builds_on(answer, answer.following[place][0], ends, found)}:

@@ -27,7 +27,8 @@ class Note:
         self.session = session
         self.text = bytearray(session.text())
         self.cursor = self.top = 0
-        self.notice = ""
+        # What the user was told last, and all of it.
+        self.notice, self.told = "", list[str]()
         self._number = session.number
         self._done: list[Undo] = []
         # Whether what is typed next goes on with what was typed last, and is taken back with it.
@@ -76,6 +77,7 @@ class Note:
         changed = self._shows(self.session.arrived())
         self._forget_names_of_others()
         if notices := self.session.notices():
+            self.told += notices
             self.notice = notices[0] + (f" ({len(notices) - 1} more such.)" if len(notices) > 1 else "")
         return changed
 

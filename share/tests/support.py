@@ -17,21 +17,22 @@ from unittest import mock
 from share.admission.chains import rank
 from share.admission.judge import Judge
 from share.format.chunk import packed_in_parts
-from share.format.entry import Author, BuiltOn, Entry, Form, Plain
+from share.format.entry import NO_HASH, Author, BuiltOn, Entry, Form, Plain
 from share.format.operation import Operation
 from share.format.second.claim import found_among
 from share.format.second.form import RecordForm
 from share.format.second.key_link import link_of
-from share.format.second.record import Record
+from share.format.second.record import RECORD_HEAD, Record
 from share.log.base import START, Log
 from share.log.opening import open_log
 from share.program.process import Program
 from share.program.site import Edited, Site, Told
 from share.store import notes
-from share.store.note_file import SECOND, ZERO_BITS_OF_TESTS, Disk
+from share.store.note_file import Disk
 from share.store.read_only import found_in, text_of
 from share.sync.session import Session, Status
-from share.tests.naive import taking
+from share.tests.forms import is_second_form, of_second_form
+from share.tests.naive import newer, taking
 from share.tests.note import Note
 from share.tests.servers import RedisServer
 from share.tests.waiting import wait_for as wait_for
@@ -40,10 +41,8 @@ TOP = pathlib.Path(__file__).resolve().parents[2]
 NOTE = str(TOP / "bin" / "note")
 # Where a test sets no clock, how long its keys take on a busy machine decides no undo.
 os.environ.setdefault("VIALSHOAL_PAUSE", "100000")
-# Of which form the notes are that tests make. In the second one, tests search for claims of no zeros.
-IS_SECOND_FORM = notes.form_of_new() == SECOND
-if IS_SECOND_FORM:
-    os.environ.setdefault(ZERO_BITS_OF_TESTS, "0")
+if is_second_form():
+    of_second_form()
 # How often the locks are read before nobody has one.
 READINGS = 5
 ALPHABET = "abcdefgh  \r\t\\é߀ñ漢字🎉👍"
@@ -94,6 +93,13 @@ class Person:
             return open_log(disk.about.url, disk.form.note)
 
 
+def founders_search() -> contextlib.AbstractContextManager[object]:
+    """Who founds a note meanwhile has to search for a number that others can take."""
+    if not is_second_form():
+        return contextlib.nullcontext()
+    return mock.patch("share.store.founding.free_number", lambda taken: None)
+
+
 class Case(unittest.TestCase):
     """A test with a folder of its own. In the second form nobody can take the number of who founded a note: where a test has that done
     the founder has to search for one, as all others."""
@@ -101,10 +107,10 @@ class Case(unittest.TestCase):
     founders_have_numbers = True
 
     def setUp(self) -> None:
-        if IS_SECOND_FORM and not self.founders_have_numbers:
-            no_number = mock.patch("share.store.founding.free_number", lambda taken: None)
-            no_number.start()
-            self.addCleanup(no_number.stop)
+        if not self.founders_have_numbers:
+            searching = founders_search()
+            searching.__enter__()
+            self.addCleanup(searching.__exit__, None, None, None)
         self.folder = pathlib.Path(tempfile.mkdtemp(prefix="share-"))
         self.addCleanup(shutil.rmtree, self.folder, ignore_errors=True)
         os.environ["VIALSHOAL_DATA"] = str(self.folder / "data")
@@ -334,6 +340,15 @@ def claim_of(form: Form, site: int, author: Author | None = None) -> Entry:
         return form.claim(site, author)
     tried = found_among(itertools.count(random.getrandbits(48)), form.note, author.name, zero_bits=form.zero_bits)
     return form.claim(site, author, next(one for one in tried if one.site == site).counter)
+
+
+def newer_of(form: Form, before: Entry, author: Author, body: bytes = b"new") -> Entry:
+    """What a newer version of an author's wrote after an entry, of a kind that this version doesn't know."""
+    if not isinstance(form, RecordForm):
+        return newer(form, before, author, body)
+    head = RECORD_HEAD.pack(form.number, 99, form.note, author.name, before.site, before.text, 0, 0, NO_HASH)
+    unsigned = form._unsigned(head, body)
+    return form.open(unsigned + form._signature(unsigned, author))
 
 
 def claim_order(claim: Entry) -> bytes:

@@ -22,11 +22,11 @@ class Keys(Case):
         wait_for(lambda: note.session._replicator.is_up_to_date(), "it to be sent")
         hostile = Hostile(note.session._form, note.session._about.url)
         hostile.send(made(hostile))
-        there = len(hostile.entries())
+        there = [entry.hash for entry in hostile.entries()]
 
         def has_all() -> bool:
             note.take_in()
-            return not note.session.has_more() and note.session._file.disk.entries.size() == there
+            return not note.session.has_more() and len(note.session._file.disk.entries.places_of(there)) == len(there)
 
         wait_for(has_all, "all to come")
         return note

@@ -14,16 +14,17 @@ import threading
 import unittest
 from unittest import mock
 
-from share.format.link import read_link
+from share.format.second.key_link import link_of
 from share.log.base import Unreachable
 from share.log.sqlite import SqliteLog
 from share.program import patience
 from share.program.process import Ended, Program, command
 from share.store import read_only
-from share.tests.naive import entry_of, inserting, newer
+from share.tests.forms import is_second_form
+from share.tests.naive import entry_of, inserting
 from share.tests.note import Note
 from share.tests.servers import Hostile
-from share.tests.support import NOTE, TOP, Case, change, python, raws_of, type_at_the_end, wait_for, written
+from share.tests.support import NOTE, TOP, Case, change, claim_of, newer_of, python, raws_of, type_at_the_end, wait_for, written
 from share.tests.test_logs import WITHOUT_END
 from share.text.errors import NEWER
 
@@ -118,7 +119,7 @@ class BadInput(Case):
         self.addCleanup(hostile.close)
         note = self.opened(self.person("bob"), url=self.redis().url)
         written(note, "one ")
-        link = read_link(self.person("bob").link())
+        link = link_of(self.person("bob").link())
         for url, words in (hostile.url, "as a Redis server"), ("redis://127.0.0.1:1", "Connection refused"):
             run = self.note("note", "--print", VIALSHOAL_DATA=str(self.folder / "new"),
                             VIALSHOAL_LINK=link._replace(url=url).spelled())
@@ -248,8 +249,8 @@ class BadInput(Case):
     def test_an_entry_of_a_kind_that_a_later_version_has(self) -> None:
         with contextlib.closing(self.ann.disk()) as disk, contextlib.closing(self.ann.log()) as log:
             author = disk.form.new_author()
-            claim = disk.form.claim(7, author)
-            later = [newer(disk.form, claim, author, body).raw for body in (b"", b"new", b"newer")]
+            claim = claim_of(disk.form, 7, author)
+            later = [newer_of(disk.form, claim, author, body).raw for body in (b"", b"new", b"newer")]
             log.append(later)
         ann, bob = self.opened(self.ann), self.opened(self.person("bob"), link=self.ann.link())
         for note, words in (ann, "four "), (bob, "five "):
@@ -269,11 +270,12 @@ class BadInput(Case):
 
     def test_a_file_that_a_later_version_wrote(self) -> None:
         with contextlib.closing(self.ann.disk()) as disk:
-            [client], last = disk.own.clients(), disk.entries.rows()[-1].entry
-            later = [newer(disk.form, last, client.author, body) for body in (b"", b"new")]
-            # What comes after it doesn't count here, and isn't made anew: it counts there.
+            last = [row.entry for row in disk.entries.rows() if row.entry.kind.has_messages][-1]
+            (client,) = [one for one in disk.own.clients() if one.site == last.site]
+            later = [newer_of(disk.form, last, client.author, body) for body in (b"", b"new")]
+            # What comes after it doesn't count here, and isn't made anew: it counts there. In the second form nothing comes after it.
             follower = [inserting(client.site, last.last + 1, 2**16, None, 14, b"more ")]
-            later.append(entry_of(disk.form, later[0], follower, client.author))
+            later += [] if is_second_form() else [entry_of(disk.form, later[0], follower, client.author)]
             disk.keep(later, made=True)
         # It may keep it otherwise, too.
         change(self.ann.path(), "UPDATE entry SET sum = 7, body = 'words' WHERE hash = ?", later[1].hash)

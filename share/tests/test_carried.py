@@ -246,7 +246,7 @@ class Raced(Case):
         def raced(log: Any, after: str) -> list[InLog]:
             page: list[InLog] = read(log, after)
             if log.at_end and len(extra) < 3 and {one.raw for one in page}.isdisjoint(one.raw for one in extra):
-                extra.append(form.claim(7 + len(extra), form.new_author()))
+                extra.append(claim_of(form, 7 + len(extra)))
                 log.append([extra[-1].raw])
             return page
 

@@ -188,6 +188,8 @@ class Composed(Pages):
         self.first.run(LATER)
         self.addCleanup(self.first.run, NOW)
         self.first.shows("before akab\ncd")
+        # CodeMirror ends what is composed 20 ms after the focus came.
+        self.first.driver.execute_async_script("setTimeout(arguments[0], 50)")
         # The input method goes on behind it.
         compose(self.first, "n")
         self.first.command("Input.insertText", text="\u6f22")
@@ -226,6 +228,26 @@ class Composed(Pages):
         compose(self.first, "k", "ka")
         self.first.paste("pasted\n")
         self.show("akapasted\nb\ncd")
+
+    def test_it_is_scrolled_away_in_a_text_that_isnt_all_in_the_page(self) -> None:
+        lines = "\n".join(f"line {number}" for number in range(1_500))
+        for scrolled in "scroll", "vscrollbar":
+            with self.subTest(scrolled):
+                self.first.run(f"{MIRROR}.setValue(arguments[0])", f"ab\n{lines}")
+                self.second.shows(f"ab\n{lines}")
+                self.first.run(f"{MIRROR}.scrollTo(null, 0)")
+                self.first.to(1)
+                self.first.driver.execute_async_script("setTimeout(arguments[0], 100)")
+                compose(self.first, "k", "ka")
+                # What is composed goes on where it is seen.
+                self.first.run(f"{MIRROR}.getScrollerElement().scrollTop = 5")
+                self.first.driver.execute_async_script("setTimeout(arguments[0], 100)")
+                compose(self.first, "kan")
+                self.assertTrue(self.first.run(f"{MIRROR}.getValue().startsWith('ab')"))
+                self.first.run(f"document.querySelector('#text .CodeMirror-{scrolled}').scrollTop = 9000")
+                self.second.shows(f"akanb\n{lines}")
+                self.first.shows(f"akanb\n{lines}")
+                self.assertGreater(self.first.run(f"{MIRROR}.getScrollInfo().top"), 8000)
 
     def test_signs_that_stand_for_a_character(self) -> None:
         for text, at in ("x\ty", 2), ("x\t", 2), ("a\r", 2):

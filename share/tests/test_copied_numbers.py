@@ -8,8 +8,10 @@ import subprocess
 import unittest
 from unittest import mock
 
+from share.admission.ledger import Row
 from share.store.own import Client
 from share.tests.editors import Engines
+from share.tests.forms import of_first_form
 from share.tests.support import Person, take, type_at_the_end, wait_for, written
 
 TEXT = "one three two four "
@@ -82,7 +84,14 @@ class Renewed(Engines):
         # That the log is away may be told before the edit is made.
         editor.wait_for(lambda: [editor.notices("state")[-1][of] for of in ("log", "unsent")] == ["away", 1], "one edit to be unsent")
 
+    def made_under_them(self) -> list[Row]:
+        """What Ann's file has that she made under the copied numbers."""
+        with contextlib.closing(self.ann.disk()) as disk:
+            return [row for row in disk.entries.rows() if row.made and row.entry.site in self.numbers]
+
     def test_nothing_is_typed_under_them(self) -> None:
+        copied = self.made_under_them()
+        self.assertEqual([row for row in copied if row.entry.kind.has_messages], [])
         notes = [self.opened(self.ann) for _ in range(3)]
         with mock.patch.multiple("share.sync.numbers", MOST_OF_A_SITE=1_000, LEAST_ROOM_LEFT=100, ANOTHER_SECONDS=0):
             type_at_the_end(notes[0], "x" * 950)
@@ -94,9 +103,9 @@ class Renewed(Engines):
             notes += [self.opened(self.ann) for _ in range(3)]
         self.assertFalse(any(note.session.can_type for note in notes[-2:]))
         self.assertEqual({note.session.number for note in notes} & self.numbers, set())
-        with contextlib.closing(self.ann.disk()) as disk:
-            self.assertEqual([row for row in disk.entries.rows() if row.made and row.entry.site in self.numbers], [])
+        self.assertEqual(self.made_under_them(), copied)
 
+    @of_first_form("nobody can claim a number of what was copied into a note of the second one")
     def test_what_is_left_out_of_them_is_no_own_text(self) -> None:
         note = self.opened(self.ann)
         with mock.patch("share.sync.backoff.OTHERS_SECONDS", 1_000):
@@ -106,6 +115,7 @@ class Renewed(Engines):
             told = {(one["site"], one["own"]) for one in note.session.status().left_out}
             self.assertEqual(told, {(site, False) for site in self.numbers})
 
+    @of_first_form("there are no keys of what was copied into a note of the second one")
     def test_their_keys_are_in_her_file_alone(self) -> None:
         written(self.opened(self.ann), "")
         link = self.ann.link()

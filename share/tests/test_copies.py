@@ -14,6 +14,7 @@ from share.store.guarded import Unkept
 from share.store.note_file import Disk
 from share.sync.rebase import Done, rebase
 from share.tests.editors import Editor
+from share.tests.forms import of_first_form
 from share.tests.naive import entry_of
 from share.tests.note import Note
 from share.tests.support import Case, Person, are_alike, change, claim_against, claim_order, ons_of, type_at_the_end, wait_for, written
@@ -94,7 +95,7 @@ class PutBackTogether(Copied):
             os.rename(self.folder / f"{name}-kept", self.folder / name)
         word, _ = self.word_against(anna, old, "old ", holds)
         new = self.written_and_closed(anna, word)
-        self.assertEqual((new.before, new.hash < old.hash), (old.before, holds))
+        self.assertEqual((new.before, new.name < old.name), (old.before, holds))
         return anna, berta, word.strip()
 
     def assert_each_once(self, holds: bool) -> None:
@@ -366,6 +367,7 @@ class WithTheKeysAlone(Copied):
         self.assertEqual(sum(b"once " in one.data for one in note.session.messages()), 1)
 
 
+@of_first_form("a number of what was copied into a note of the second one is nobody's, and has no keys")
 class Renewed(Copied):
     """A note that was renewed has the numbers of the one before, whose keys are with who renewed it."""
 

@@ -1,6 +1,8 @@
 """What a reading of sharing found: files taken away under several editors of one person, numbers that are given up,
 full disks between two steps, damaged files, and names that aren't what they are taken for."""
+import argparse
 import contextlib
+import io
 import pathlib
 import shutil
 import subprocess
@@ -10,6 +12,7 @@ from typing import Any
 from unittest import mock
 
 from share.admission.chains import rank
+from share.cli import reading
 from share.format.operation import MOST_INSERTED
 from share.log.folder import held, inode_of
 from share.log.sqlite_file import WRITTEN_AHEAD, SqliteFile, beside
@@ -24,6 +27,7 @@ from share.sync.open_file import OpenFile
 from share.sync.session import Session
 from share.tests import test_numbers
 from share.tests.note import Note
+from share.tests.forms import is_second_form
 from share.tests.support import TOP, Case, Person, change, python, type_at_the_end, wait_for, written
 from share.text.errors import Trouble
 
@@ -226,6 +230,11 @@ class GivenUp(Case):
                 written(second, "S ")
                 wait_for(lambda: (first.take_in(), tried.called)[1], "another number to be tried")
                 # Nothing of hers is lost, but nothing more is sent under a number under which somebody else writes.
+                if not is_second_form():
+                    type_at_the_end(first, "last ")
+                # Where a number costs a search nothing is typed before one is kept, and that is told.
+                wait_for(lambda: (first.take_in(), first.session.can_type or first.session.status().trouble)[1], "it to be told")
+            if is_second_form():
                 type_at_the_end(first, "last ")
             wait_for(lambda: (second.take_in(), first.take_in(), b"last" in second.text)[2], "what was typed to come")
         self.assertEqual(sorted(self.assert_meet(first, second).split()), sorted(b"one two three F S last".split()))
@@ -359,6 +368,23 @@ class Replaced(Case):
             note.session.close()
             disk.close()
             self.assertEqual(self.person().text(), b"words ")
+
+    def test_notes_are_listed_beside_one_who_stopped_and_that_is_told(self) -> None:
+        person = self.person()
+        for name in "one", "two", "three", "four":
+            person.open(name).session.close()
+        said, began = io.StringIO(), time.monotonic()
+        with held(person.path("one").parent), mock.patch("share.log.folder.MOST_DISTURBED_SECONDS", 1.0), person.here(), \
+                mock.patch.object(reading, "print_text") as printed, contextlib.redirect_stderr(said):
+            reading.list_notes(argparse.Namespace(json=False))
+        self.assertEqual([words.args[0].split()[0] for words in printed.call_args_list], ["four", "one", "three", "two"])
+        # It is waited for once, and not for each note.
+        self.assertLess(time.monotonic() - began, 3)
+        self.assertRegex(said.getvalue(), f"^note: Another process, perhaps one that was stopped, holds {person.path('one').parent}")
+        # Once it is gone nothing is told.
+        with person.here(), mock.patch.object(reading, "print_text"), contextlib.redirect_stderr(said := io.StringIO()):
+            reading.list_notes(argparse.Namespace(json=False))
+        self.assertEqual(said.getvalue(), "")
 
     def test_who_opens_it_meanwhile_has_written_nothing(self) -> None:
         note = self.opened(self.person())

@@ -22,7 +22,7 @@ from share.sync.session import Status
 from share.tests.editors import Engines
 from share.tests.naive import entry_of, in_entries
 from share.tests.note import Note
-from share.tests.support import NOTE, Carried, Case, Person, edit_at_random, take, type_at_the_end, wait_for, written
+from share.tests.support import NOTE, Carried, Case, Person, claim_of, edit_at_random, take, type_at_the_end, wait_for, written
 from share.text.line import Line
 
 MISSING = 3
@@ -155,7 +155,7 @@ class Taken(Three):
         with contextlib.closing(self.anna.disk()) as disk:
             form = disk.form
         author = form.new_author()
-        other = form.claim(site, author)
+        other = claim_of(form, site, author)
         with contextlib.closing(self.anna.log()) as log:
             log.append([other.raw, entry_of(form, other, typed_at(site, b"Another's. "), author).raw])
         self.carol.open().session.close()
@@ -174,7 +174,7 @@ class Taken(Three):
             form = disk.form
             (author,) = [one.author for one in disk.own.clients() if one.site == site]
             line = next(row.entry for row in disk.entries.rows() if row.entry.site == site and row.entry.size)
-            before = next(row.entry for row in disk.entries.rows() if row.entry.hash == line.before)
+            before = next(row.entry for row in disk.entries.rows() if row.entry.name == line.before)
         with contextlib.closing(self.anna.log()) as log:
             log.append([smaller(form, before, author, line).raw])
         self.assertEqual([(one["site"] == site, one["text"]) for one in left_out(self.carol)].count((True, SENTENCE)), 1)
@@ -237,7 +237,7 @@ class Told(Engines):
     """What editors are told of it."""
 
     def test_the_state_says_so_and_the_engine_types_it_again(self) -> None:
-        anna, bob = self.others("anna", "bob")
+        bob, anna = self.others("bob", "anna")
         anna.type("Anna's words. ")
         bob.shows("Anna's words. ")
         anna.settle()
@@ -374,7 +374,7 @@ def smaller(form: Form, before: Entry, author: Author, than: Entry) -> Entry:
     for number in range(100_000):
         data = b"%06d. " % number
         one = entry_of(form, before, [first._replace(data=data)], author)
-        if one.hash < than.hash:
+        if one.name < than.names[0]:
             return one
     raise AssertionError("none holds")
 

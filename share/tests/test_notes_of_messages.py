@@ -13,6 +13,8 @@ from unittest import mock
 from share.admission.ledger import Row
 from share.format import entry
 from share.format.entry import Bad, Copied, EntryKind, Kind
+from share.format.second.record import RecordKind
+from share.tests.forms import is_second_form, of_first_form
 from share.tests.note import Note
 from share.tests.servers import RedisServer
 from share.tests.support import Case, are_alike, change, raws_of, type_at_the_end, wait_for, written
@@ -79,9 +81,11 @@ class Before(Case):
     def test_a_renewed_note_has_chunks_alone(self) -> None:
         self.assertEqual(self.note("renew", "diary", VIALSHOAL_DATA=str(self.ann.data)).returncode, 0)
         note = self.opened(self.ann, "diary")
-        self.assertEqual((note.text.decode(), self.kinds(note)), (self.texts["diary"], {Kind.CHUNK}))
+        kinds: set[EntryKind] = {RecordKind.BASE} if is_second_form() else {Kind.CHUNK}
+        self.assertEqual((note.text.decode(), self.kinds(note)), (self.texts["diary"], kinds))
 
 
+@of_first_form("versions of before know nothing of the second one")
 class AtVersionsOfBefore(Case):
     """Versions that don't know chunks keep and carry what has them, and say so."""
 

@@ -16,7 +16,7 @@ import unittest
 from aiohttp import web
 
 from share.tests.pages import Pages, Server, kept
-from share.tests.support import NOTE, TOP, engine_of, take, type_at_the_end, wait_for, written
+from share.tests.support import NOTE, TOP, engine_of, founders_search, take, type_at_the_end, wait_for, written
 from share.tests.waiting import PATIENCE
 from share.text.rope import swapped
 
@@ -452,7 +452,8 @@ class Alone(Pages):
         self.assert_kept(self.data, window)
 
     def test_it_says_what_is_left_out(self) -> None:
-        other = self.opened(self.person("other"), url=self.file_log())
+        with founders_search():
+            other = self.opened(self.person("other"), url=self.file_log())
         written(other, "theirs\n")
         window = self.window(self.server(VIALSHOAL_LINK=self.person("other").link()))
         window.shows("theirs\n")

@@ -1,5 +1,6 @@
 """What is said of who is on, of cursors and of lacking entries: what was said before is nothing, whoever says it again."""
 import contextlib
+import itertools
 import pathlib
 import secrets
 import time
@@ -8,15 +9,19 @@ from collections.abc import Sequence
 from typing import Any
 from unittest import mock
 
+from share.engine.others import OtherEditors
 from share.format import heartbeat, presence
 from share.format.heartbeat import OF_BEFORE, Lack, Said, Way
+from share.format.operation import TEXT
 from share.format.presence import MOST_PRESENCE, Present
 from share.format.sealed import NONCE_BYTES, TAG_BYTES
 from share.log.base import ON_SECONDS
 from share.log.redis import MEET_SCRIPT, RedisLog
 from share.log.resp import Answer, Wire, Word
+from share.program.site import Site
 from share.sync.heard import Heard, Others, Shows, Voices
 from share.tests.support import Case, damage, type_at_the_end, wait_for, written
+from share.text.change import Change
 
 ME, OTHER = heartbeat.new_token(), heartbeat.new_token()
 LACK = Lack(Way.IT, bytes(range(32)))
@@ -235,6 +240,28 @@ class OnAServer(Case):
         wait_for(lambda: not replicator.shown(), "the cursor to be gone")
         says_again()
         self.assertEqual(replicator.shown(), [])
+
+
+class OfEachText(Case):
+    """A note of the second form has up to 16 texts, and editors show the first."""
+
+    def test_a_cursor_is_shown_in_its_own_text_alone(self) -> None:
+        site, others = Site(1), OtherEditors(itertools.count().__next__)
+        self.addCleanup(site.close)
+        site.insert(0, b"words")
+        one = Present(bytes(16), bytes(16), 7, "#000000", (1, 2), (1, 0), "Bo")
+
+        def shown() -> list[tuple[object, object]]:
+            return [(line["at"], line.get("anchor")) for line in others.cursors(lambda place: place)]
+
+        # Characters of each text have the same names.
+        for text in TEXT, 2, 16, TEXT, 2:
+            others.heard([presence.presence_of(one._replace(text=text))], site)
+            self.assertEqual(shown(), [(3, 1)] if text == TEXT else [])
+            others.moved(Change(0, 0, b"x"), None)
+            self.assertEqual(len(shown()), text == TEXT)
+        # Who has it is on all the same.
+        self.assertEqual([line["name"] for line in others.people()], ["Bo"])
 
 
 class Damaged(Case):

@@ -9,7 +9,7 @@ from contextlib import closing
 
 from share.format.operation import DELETE
 from share.tests.naive import about, entry_of
-from share.tests.support import NOTE, Case, Person, change, type_at_the_end, written
+from share.tests.support import NOTE, Case, Person, change, claim_of, type_at_the_end, written
 
 INCOMPLETE = 3
 SOMEBODY = 65_534
@@ -121,7 +121,7 @@ class Printing(Case):
     def test_a_message_that_is_wrong(self) -> None:
         with closing(self.ann.disk()) as disk:
             author = disk.form.new_author()
-            claim = disk.form.claim(9, author)
+            claim = claim_of(disk.form, 9, author)
             bad = entry_of(disk.form, claim, [about(DELETE, 9, 1, 1, [(9, 0, 1)])], author)
         with closing(self.ann.log()) as log:
             log.append([claim.raw, bad.raw])

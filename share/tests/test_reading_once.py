@@ -24,6 +24,7 @@ from share.sync.session import Session
 from share.sync.state import Holdings
 from share.tests import naive
 from share.tests.editors import Engines
+from share.tests.forms import is_second_form
 from share.tests.naive import about, chunk_of, entry_of, inserting
 from share.tests.support import Case, Person
 from share.tests.waiting import wait_for
@@ -179,12 +180,19 @@ class OwnKeys(Case):
 class Letters(Engines):
     """A letter is typed, beside others."""
 
+    def numbers_of(self, name: str) -> int:
+        """How many numbers somebody has that the log has the claims of."""
+        with contextlib.closing(self.person(name).disk()) as disk:
+            return sum(one.stood for one in disk.own.clients())
+
     def test_who_types_it_reads_and_packs_it_once(self) -> None:
         author = Here(self.person("anna"), url=self.file_log())
         self.addCleanup(author.engine.close)
         author.until(author.is_sent, "a number")
         author.mirror.edit([(0, 0, WORDS)])
         author.until(author.is_sent, "words to be sent")
+        if is_second_form():
+            author.until(lambda: self.numbers_of("anna") > 1, "a number in advance")
         for at in 4, 5, len(WORDS) + 2:
             # After a jump, after the letter before it, and at the end.
             with Counts().counting() as counts:
@@ -202,6 +210,12 @@ class Letters(Engines):
         receiver = Here(self.person("berta"), link=self.person("anna").link())
         self.addCleanup(receiver.engine.close)
         receiver.until(lambda: receiver.mirror.text == WORDS, "the words")
+        if is_second_form():
+            assert (session := receiver.engine.session)
+            judge = session._holdings.judge
+            receiver.until(lambda: len(judge.claimed()) > 3, "a number in advance for each")
+        # Judged message by message, they are packed for the program.
+        packed = int(is_second_form())
         for text in "x", "y":
             with Counts().counting() as counts:
                 author.type(text)
@@ -209,7 +223,7 @@ class Letters(Engines):
                 receiver.until(lambda: receiver.mirror.text == author.text, "the letter")
                 for _ in range(20):
                     receiver.turn()
-            self.assertEqual((counts.read, counts.packed, counts.unpacked, counts.hashed), (0, 0, 1, 1))
+            self.assertEqual((counts.read, counts.packed, counts.unpacked, counts.hashed), (0, packed, 1, 1))
             self.assertEqual(counts.verbs(), [b"unpack", b"where"])
 
 

@@ -303,6 +303,19 @@ class Lacking(unittest.TestCase):
         self.assertEqual((judge.front(1), judge.front(2), judge.front(7)), (7, 4, 4))
         self.assertEqual(judge.claimed(), {1, 2, 7})
 
+    def test_what_nobody_claims_waits_where_the_number_is_free_alone(self) -> None:
+        ada, bob, eve = (Author(bytes([number]) * 32, b"") for number in (1, 2, 3))
+        form, opening, _ = founded(ada.name)
+        bobs, strangers = Writer(form, bob, 2).type(b"bob"), [Writer(form, eve, site).type(b"a remark") for site in (1, 2)]
+        judge = RecordJudge([opening, *bobs, *strangers[0], *strangers[1]], form=form)
+        # Ada founded the note, so nobody else ever has her number: what is written under it holds nothing up.
+        self.assertEqual((judge.incomplete(), [(one.site, one.messages) for one in judge.left_out()]), (11, [(1, 8)]))
+        judge.add(claim(form, bob, 2))
+        self.assertEqual((judge.front(2), judge.incomplete()), (3, 0))
+        self.assertEqual([(one.site, one.author, one.messages) for one in judge.left_out()], [(1, eve.name, 8), (2, eve.name, 8)])
+        # A claim may have been lost, so it is asked for all the same.
+        self.assertEqual(judge.missing(9), [form.keys.claim_name(eve.name, site) for site in (1, 2)])
+
 
 def based(author: Author, messages: Sequence[Operation]) -> tuple[PlainRecords, Record, Founding, list[Record]]:
     """A note that begins with messages: its form, its opening, what that says, and the records of the base, each of one message."""
@@ -465,6 +478,30 @@ class WithRoom(unittest.TestCase):
         least = min(claims, key=lambda record: record.rank)
         self.assertEqual(judge.holder(9), least.author)
         self.assertTrue(self.kept(judge, claims) < 29 and judge.dropped())
+
+    def said(self, number: int, many: int, site: int | None = None) -> list[Record]:
+        """What an author says under a number, each of many messages that were copied."""
+        author, site = self.authors[number], site or number + 1
+        stretches = tuple((3 * seq, 2 * seq, 1) for seq in range(1, 50))
+        return [self.form.copies(Copied(author.name, site, author.name, site, stretches), author, site, bytes([1, at // 256, at % 256]) * 10
+                                 + b"of") for at in range(many)]
+
+    def test_what_is_said_of_copies_has_a_part_too(self) -> None:
+        strangers, eves, bobs = self.said(3, 300), self.said(2, 300), self.said(1, 1)
+        judge = RecordJudge([self.opening, *(claim(self.form, self.authors[at], at + 1) for at in (1, 2))], form=self.form, room=2**20)
+        handed(judge, [*strangers, *eves, *bobs])
+        # Whoever says more than there is room for takes nothing from who holds another number.
+        self.assertEqual(self.kept(judge, bobs), 1)
+        self.assertTrue(0 < self.kept(judge, strangers) < 20 and 0 < self.kept(judge, eves) < 20, "what is said is bounded")
+        self.assertEqual({row.entry.hash for row in judge.dropped()}, {one.hash for one in [*strangers, *eves] if one.hash not in judge})
+        # It has no other turn: nothing makes room for it.
+        handed(judge, self.typed(2, 9))
+        judge.count()
+        self.assertEqual(judge.turns(), set())
+        # What is said here is always kept.
+        for one in self.said(0, 100):
+            judge.add(one, made=True)
+        self.assertEqual(self.kept(judge, self.said(0, 100)), 100)
 
     def test_the_base_is_found_with_no_room_at_all(self) -> None:
         letters = [run for record in Writer(self.form, self.authors[3], 4).type(b"words of before") for run in record.operations]

@@ -10,6 +10,7 @@ import unittest
 from unittest import mock
 
 from share.tests import __main__ as running
+from share.tests.forms import is_second_form, of_first_form
 from share.tests.processes import descendants
 from share.tests.support import Case, alive, wait_for
 
@@ -40,6 +41,22 @@ def some_that_pass_and_fail() -> unittest.TestSuite:
             self.skipTest("nothing is skipped")
 
     return of(Some)
+
+
+def some_of_either_form() -> unittest.TestSuite:
+    """A test over notes of either form, and one of the first form."""
+
+    class Either(unittest.TestCase):
+        """The same."""
+
+        def test_it(self) -> None:
+            self.assertIn(os.environ.get("VIALSHOAL_FORM", "1"), "12")
+
+        @of_first_form("nothing else has it")
+        def test_of_the_first(self) -> None:
+            self.assertFalse(is_second_form())
+
+    return of(Either)
 
 
 def one_that_is_killed() -> unittest.TestSuite:
@@ -107,6 +124,11 @@ class Modules(Case):
         faults = ["FAIL: test_three .*: AssertionError: 'what' != 'else'", "FAIL: test_four .*: nothing is skipped", "FAIL: test_three "]
         for line, wanted in zip(said[-5:], faults):
             self.assertRegex(line, wanted)
+
+    def test_what_is_of_the_first_form_is_left_out_over_the_second(self) -> None:
+        status, said = self.run_all("some_of_either_form:2", "some_of_either_form:2")
+        self.assertEqual((status, said[-1]), (0, "2 passed, 0 failed"))
+        self.assertEqual(sum("skipped 'of the first form: nothing else has it'" in line for line in said), 2)
 
     def test_one_that_is_killed(self) -> None:
         status, said = self.run_all("one_that_is_killed", "some_that_pass_and_fail")

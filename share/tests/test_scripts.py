@@ -8,6 +8,7 @@ import subprocess
 from share.cli.html import page
 from share.cli.line_changes import line_changes
 from share.tests.editors import Editor
+from share.tests.forms import is_second_form
 from share.tests.support import NOTE, Case, Person, raws_of, wait_for
 from share.tests.terminals import Answering
 from share.text.looks import Run
@@ -28,9 +29,14 @@ class Verbs(Case):
     said = ""
 
     def numbers(self, person: Person) -> int:
-        """How many numbers somebody has claimed."""
+        """How many numbers somebody has spent."""
         with contextlib.closing(person.disk()) as disk:
-            return len(disk.own.clients())
+            sites = {one.site for one in disk.own.clients()}
+            if is_second_form():
+                # One more is claimed in advance.
+                self.assertLessEqual(len(sites), 2)
+                sites &= {row.entry.site for row in disk.entries.rows() if row.entry.kind.has_messages}
+            return len(sites)
 
     def test_texts_go_in_and_out(self) -> None:
         text = "tea\njam\r\nhoney\rfig\n\n🎉\0é\n"

@@ -6,13 +6,20 @@ import time
 import unittest
 from unittest import mock
 
+from share.admission.judges import judge_of
 from share.format.link import NEWER_LINK, read_link
 from share.format.second.key_link import read_key_link
+from share.program.site import Site
 from share.store import notes
+from share.store.guarded import Unkept
 from share.store.note_file import NOTE_APPLICATIONS, SECOND
+from share.store.own import OwnTables
+from share.store.read_only import found_in
+from share.sync import number_search
 from share.sync.number_search import NONE_FOUND_YET
+from share.sync.numbers import READING, Numbers
 from share.tests.note import Note
-from share.tests.support import Case, Person, type_at_the_end, wait_for, written
+from share.tests.support import Case, Person, take, type_at_the_end, wait_for, written
 from share.text.errors import Trouble
 
 MARGIN = 2
@@ -115,6 +122,56 @@ class SecondForm(Case):
         self.assertEqual(cy.text(), b"one two ")
         self.assertEqual(self.note("cat", "note", "--text", "2", VIALSHOAL_DATA=str(cy.data)).stdout, "a remark")
 
+    def left_out(self, *names: str) -> list[Person]:
+        """People of these names, who have a note in whose margin a remark was left out, since a stranger bought its author's number."""
+        ann, bob = self.both(self.file_log())
+        bob.session.insert(0, b"a remark", MARGIN)
+        self.assert_margin(ann, b"a remark")
+        number = bob.session.number
+        for one in ann, bob:
+            one.session.close()
+        people = [self.person(name) for name in names]
+        for person in people:
+            self.opened_to_type(person, self.ann.link()).session.close()
+        take(self.bob, number)
+        return people
+
+    def opened_to_type(self, person: Person, link: str | None = None) -> Note:
+        """A note in which somebody can type and has all."""
+        note = self.opened(person, link=link)
+        wait_for(lambda: (note.take_in(), note.session.can_type and note.session._replicator.is_up_to_date())[1], "a number, and the log")
+        return note
+
+    def margin_of(self, person: Person) -> str:
+        """What a person's file alone shows of the margin."""
+        found = found_in(person.path())
+        messages = judge_of(found.about.form(), found.entries).let_through_in_order(MARGIN)
+        with contextlib.closing(Site(1, messages, text=MARGIN)) as site:
+            return site.text().decode()
+
+    def test_what_was_left_out_of_the_margin_is_typed_again_there(self) -> None:
+        (cy,) = self.left_out("cy")
+        run = self.note("recover", "--lost", "note", VIALSHOAL_DATA=str(cy.data))
+        self.assertEqual((run.returncode, run.stderr), (0, ""))
+        self.assertIn("a remark", run.stdout)
+        self.assertEqual((self.margin_of(cy), cy.text()), ("a remark", b"one two "))
+        # It is told no more, and typed once.
+        self.assertNotIn("a remark", self.note("recover", "--lost", "note", VIALSHOAL_DATA=str(cy.data)).stdout)
+        self.assertEqual(self.margin_of(cy), "a remark")
+
+    def test_copies_in_a_margin_that_isnt_open_are_hidden(self) -> None:
+        people = self.left_out("cy", "di")
+        notes = [self.opened_to_type(person) for person in people]
+        for note in notes:
+            wait_for(lambda one=note: (one.take_in(), one.session.lost())[1], "it to be left out")
+        for note in notes:
+            # Nothing of the other one's is taken in yet.
+            note.session.recover()
+        for note in notes:
+            note.session.close()
+        notes = [self.opened_to_type(person) for person in people]
+        wait_for(lambda: (self.assert_meet(*notes), {*map(self.margin_of, people)})[1] == {"a remark"}, "it to be there once", 30)
+
     def test_a_version_of_before_refuses_it_in_words(self) -> None:
         self.both(self.file_log())
         link = self.ann.link()
@@ -159,6 +216,31 @@ class SecondForm(Case):
                 note.session.insert(0, b"x")
         type_at_the_end(note, "three ")
         self.assertIsNone(note.session.status().trouble)
+
+    def test_a_number_that_cant_be_kept_or_searched_for_now_is_later(self) -> None:
+        self.both(self.file_log())
+        faults = (OwnTables, "add_client", Unkept("full")), (number_search, "ClaimSearch", Trouble("There is no room for a process."))
+        for number, (where, what, why) in enumerate(faults):
+            with self.subTest(what), mock.patch("share.sync.session.OPEN_SECONDS", 0):
+                with mock.patch.object(where, what, side_effect=why) as tried:
+                    note = self.opened(self.person(f"cy-{number}"), link=self.ann.link())
+                    wait_for(lambda: (note.take_in(), tried.called)[1], "it to be tried")
+                    self.assertFalse(note.session.can_type)
+                    self.assertTrue(note.session.status().trouble)
+                wait_for(lambda: (note.take_in(), note.session.can_type)[1], "a number", 20)
+                type_at_the_end(note, "three ")
+
+    def test_who_loses_a_number_while_no_other_is_there_is_told_so(self) -> None:
+        with mock.patch.object(Numbers, "claim_in_advance", lambda *_: None):
+            ann, bob = self.both(self.file_log())
+            with mock.patch("share.sync.number_search.can_read", lambda *_: False):
+                number, told = bob.session.number, list[str]()
+                take(self.bob, number)
+                wait_for(lambda: (bob.take_in(), told.append(bob.notice), not bob.session.can_type)[2], "the number to be lost")
+                wait_for(lambda: (bob.take_in(), told.append(bob.notice), any(f"site {number}" in one for one in told))[2], "it to be told")
+                self.assertNotIn(str(READING), " ".join(told))
+                self.assertIn("so you go on as soon as another number was found", " ".join(told))
+            self.assertEqual(self.assert_meet(ann, bob), b"one two ")
 
     def test_who_types_waits_for_no_search(self) -> None:
         note = self.opened(self.ann)

@@ -13,21 +13,25 @@ import stat
 import subprocess
 import threading
 import unittest
+from dataclasses import replace
 from unittest import mock
 
-from share.admission.chains import rank
-from share.format.entry import MOST_BYTES, Author, Entry, Form
+from share.admission.chain import last_of_others
+from share.admission.record_judge import RecordJudge
+from share.format.entry import GREATEST_SITE, MOST_BYTES, Author, BuiltOn, Entry, Form
 from share.format.heartbeat import OF_BEFORE
-from share.format.link import Link, read_link
+from share.format.link import Link
 from share.format.operation import DELETE, Operation
+from share.format.second.key_link import link_of
+from share.format.second.keys import FOUNDING, key_of_founding
 from share.log.redis import RedisLog
-from share.store.note_file import About
+from share.store.note_file import SECOND, About
+from share.tests.forms import is_second_form
 from share.tests.naive import about, entry_of, inserting
 from share.tests.note import Note
 from share.tests.servers import Hostile
 from share.tests.servers import RedisServer as Server
-from share.tests.support import (NOTE, TOP, Case, Person, python, raws_of, type_at_the_end, wait_for,
-                                 written)
+from share.tests.support import NOTE, TOP, Case, Person, claim_of, claim_order, python, raws_of, type_at_the_end, wait_for, written
 
 HUGE = 100_000_000
 # More than the 100 MB of one entry that must not be held.
@@ -97,6 +101,8 @@ def insertion(site: int, seq: int, stamp: int, at: int, data: bytes) -> Operatio
 class Shared(Case):
     """Each test has a note on a server, in which Ann wrote two words."""
 
+    founders_have_numbers = False
+
     def setUp(self) -> None:
         super().setUp()
         self.server = Server(self.folder / "redis")
@@ -106,7 +112,8 @@ class Shared(Case):
         for words in "one ", "two ":
             written(self.note_of_ann, words)
         self.link = self.ann.link()
-        self.about = About(True, read_link(self.link).secret, self.server.url)
+        link = link_of(self.link)
+        self.about = About(True, link.secret, self.server.url, link.form_number)
         self.form: Form = self.about.form()
 
     @property
@@ -134,9 +141,11 @@ class Shared(Case):
     def peer(self, site: int, *messages: Operation) -> tuple[Author, list[Entry]]:
         """Somebody with the link who claims a number and sends messages."""
         author = self.form.new_author()
-        made = [self.form.claim(site, author)]
+        made = [claim_of(self.form, site, author)]
         for message in messages:
-            made.append(entry_of(self.form, made[-1], [message], author))
+            # What it says to build on is of no number, either.
+            on: BuiltOn = {0: bytes(32)} if is_second_form() and last_of_others([message]) else b""
+            made.append(entry_of(self.form, made[-1], [message], author, on))
         return author, made
 
     def assert_others_go_on(self, shows: bytes = b"one two ") -> Note:
@@ -168,7 +177,7 @@ class Operators(Shared):
         tapped = Tapped(self.server.port)
         self.addCleanup(tapped.close)
         note = self.opened(self.ann, url=tapped.url)
-        bob = self.opened(self.person(name), link=read_link(self.link)._replace(url=tapped.url).spelled())
+        bob = self.opened(self.person(name), link=link_of(self.link)._replace(url=tapped.url).spelled())
         for words in "marzipan", "gooseberry":
             written(note, words)
         self.assert_meet(note, bob)
@@ -217,9 +226,9 @@ class Operators(Shared):
             return [row.entry.raw for row in disk.entries.rows()]
 
     def test_an_operator_forges_nothing(self) -> None:
-        forger = About(True, bytes(range(32))).form()
+        forger = replace(self.about, secret=bytes(range(32))).form()
         author = forger.new_author()
-        claim = forger.claim(7, author)
+        claim = claim_of(forger, 7, author)
         forged = entry_of(forger, claim, [insertion(7, 1, 1, 0, b"forged")], author)
         for made in claim, forged:
             # With the note's identity in place of the other one's.
@@ -280,9 +289,9 @@ class Peers(Shared):
     """What somebody with the link can't do."""
 
     def test_entries_of_another_note_are_left_out(self) -> None:
-        other = About(True, bytes(32)).form()
+        other = replace(self.about, secret=bytes(32)).form()
         author = other.new_author()
-        claim = other.claim(7, author)
+        claim = claim_of(other, 7, author)
         self.append(claim.raw, entry_of(other, claim, [insertion(7, 1, 1, 0, b"other")], author).raw)
         bob = self.assert_others_go_on()
         self.assertRegex(bob.notice, "of another note|left out")
@@ -330,27 +339,32 @@ class Peers(Shared):
 
     def test_a_number_that_is_taken_costs_no_text(self) -> None:
         session, site = self.note_of_ann.session, self.note_of_ann.session.number
-        claims = [self.form.claim(site, self.form.new_author()) for _ in range(12)]
+        claims = [claim_of(self.form, site) for _ in range(12)]
         self.append(*(one.raw for one in claims))
         # Her number is in question only once the claims have come to her.
         wait_for(lambda: all(map(session.has_sent, claims)), "the claims to come to Ann")
         wait_for(lambda: (self.note_of_ann.take_in(), session.status().can_type)[1], "Ann to have a number")
-        holder = min([*claims, self.claim_of_ann(site)], key=rank)
+        holder = min([*claims, self.claim_of_ann(site)], key=claim_order)
         self.assertEqual(session.number == site, holder not in claims)
         self.assert_others_go_on()
 
     def claim_of_ann(self, site: int) -> Entry:
         """The claim with which Ann got a number."""
         with contextlib.closing(self.ann.disk()) as disk:
-            (author,) = [one.author for one in disk.own.clients() if one.site == site]
-        return self.form.claim(site, author)
+            (author,) = [one.author.name for one in disk.own.clients() if one.site == site]
+            claims = (row.entry for row in disk.entries.rows() if row.entry.kind.is_claim)
+            return next(claim for claim in claims if (claim.site, claim.author) == (site, author))
 
     def test_claims_of_all_numbers_keep_a_newcomer_out(self) -> None:
         numbers = range(1, 3)
-        with mock.patch("share.sync.numbers.GREATEST_SITE", len(numbers)):
+        with contextlib.ExitStack() as patches:
+            if is_second_form():
+                # What that costs no test can pay.
+                patches.enter_context(mock.patch.object(RecordJudge, "claimed", lambda judge: {*range(1, GREATEST_SITE + 1)}))
+            patches.enter_context(mock.patch("share.sync.numbers.GREATEST_SITE", len(numbers)))
             # Of many claims of each number the one that wins.
-            claims = [[self.form.claim(site, self.form.new_author()) for _ in range(3_000)] for site in numbers]
-            self.append(*(min(of_site, key=rank).raw for of_site in claims))
+            claims = [[claim_of(self.form, site) for _ in range(1 if is_second_form() else 3_000)] for site in numbers]
+            self.append(*(min(of_site, key=claim_order).raw for of_site in claims))
             carol = self.opened(self.person("carol"), link=self.link)
             self.assert_comes_to(carol, b"one two ")
             wait_for(lambda: {*numbers} <= {*carol.session._holdings.judge.claimed()}, "the claims")
@@ -378,7 +392,8 @@ class Groups(Case):
         with contextlib.closing(self.person("bob").log()) as log:
             first = raws_of(log)[0]
             assert first
-            form = About(False, first[2:18]).form()
+            form = (About(False, key_of_founding(first[-FOUNDING.size:]), form_number=SECOND) if is_second_form()
+                    else About(False, first[2:18])).form()
             forged = entry_of(form, last, [insertion(last.site, last.last + 1, 9, 4, b"forged ")], Author(last.author, b""))
             log.append([forged.raw])
         self.assert_comes_to(bob, b"forged one ")
@@ -432,7 +447,7 @@ class Accounts(Case):
         terminal.press(b"\n")
         wait_for(lambda: (terminal.read(), b"all sent" in terminal.shown)[1], "the editor")
         link = person.link()
-        secrets = [b"gooseberry", link.split(":")[3].split("@")[0].encode()[:20], read_link(link).secret]
+        secrets = [b"gooseberry", link.split(":")[3].split("@")[0].encode()[:20], link_of(link).secret]
         of_server = server.process.pid
         running = [path for path in pathlib.Path("/proc").glob("[0-9]*/cmdline") if path.parent.name != str(of_server)]
         for path in running:

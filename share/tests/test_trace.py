@@ -11,6 +11,7 @@ from share.store.guarded import Unkept
 from share.store.note_file import Disk
 from share.tests import test_copies
 from share.tests.editors import Engines
+from share.tests.forms import is_second_form
 from share.tests.support import Case, change, type_at_the_end, wait_for, written
 from share.text.errors import Trouble
 
@@ -64,8 +65,12 @@ class Sharing(Case):
             for note in anna, berta:
                 note.session.close()
         self.assertTrue(self.kept.has(Traced.READ_FROM_FRONT, Traced.GIVEN), self.kept.path.read_text())
-        self.assertTrue(self.kept.has(Traced.NOTE_OPENED, Traced.EDIT, Traced.GIVEN, Traced.NUMBER_CLAIMED, Traced.READ_FROM_FRONT,
-                                      Traced.FETCHED, Traced.COUNTED, Traced.NOTE_CLOSED, Traced.NOTE_CLOSED), self.kept.path.read_text())
+        claimed = Traced.NUMBER_CLAIMED
+        # Where a number costs a search that is done by itself.
+        self.assertTrue(self.kept.has(claimed), self.kept.path.read_text())
+        self.assertTrue(self.kept.has(Traced.NOTE_OPENED, Traced.EDIT, Traced.GIVEN, *([] if is_second_form() else [claimed]),
+                                      Traced.READ_FROM_FRONT, Traced.FETCHED, Traced.COUNTED, Traced.NOTE_CLOSED, Traced.NOTE_CLOSED),
+                        self.kept.path.read_text())
         self.assertEqual(self.kept.events().count(Traced.NOTE_OPENED), 2)
         self.assertEqual({line[2] for line in self.kept.lines()}, {str(os.getpid())})
 
@@ -181,7 +186,9 @@ class Rebased(unittest.TestCase):
         kept = Kept(case.folder)
         with kept.here():
             second = case.alone()
-            self.assertTrue(kept.has(Traced.NUMBER_CLAIMED, Traced.NUMBER_GIVEN_UP, Traced.SITE_BEGUN_ANEW, Traced.EDIT,
+            of_numbers = [Traced.NUMBER_CLAIMED, Traced.NUMBER_GIVEN_UP]
+            # Where a number costs a search the old one is given up first.
+            self.assertTrue(kept.has(*(of_numbers[::-1] if is_second_form() else of_numbers), Traced.SITE_BEGUN_ANEW, Traced.EDIT,
                                      Traced.REBASED), kept.path.read_text())
             case.assert_shown("one behind two", second, case.opened(case.anna))
             wait_for(lambda: kept.has(Traced.REBASED, Traced.COUNTED, Traced.HIDDEN), "the copy to be hidden")

@@ -12,6 +12,7 @@ from unittest import mock
 
 from share.format.entry import digest
 from share.log.sqlite import SqliteLog
+from share.log.sqlite_file import SqliteFile
 from share.sync.known import Known
 from share.sync.numbers import Numbers
 from share.tests.naive import entry_of
@@ -60,6 +61,18 @@ class CopiedUnsent(Case):
         self.assertNotIn("Made anew", " ".join([notes[0].notice, *notes[0].session.notices()]))
         with contextlib.closing(self.copy.disk()) as disk:
             self.assertEqual(disk.entries.withdrawn(), [])
+
+    def test_the_file_is_asked_of_many_at_once(self) -> None:
+        with contextlib.closing(self.copy.disk()) as disk:
+            author = disk.form.new_author()
+            made = [disk.form.claim(site, author).hash for site in range(1, 1_201)]
+            disk.keep([disk.form.claim(site, author) for site in range(1, 1_201)], True)
+            disk.entries.offer([disk.entries.places_of(made[:1])[made[0]]])
+            with mock.patch.object(SqliteFile, "execute", autospec=True, side_effect=SqliteFile.execute) as asked:
+                self.assertEqual(disk.entries.withdraw([*made, bytes(32)]), made[1:])
+            self.assertLess(asked.call_count, 10)
+            self.assertEqual({of for _, of in disk.entries.withdrawn()}, {*made[1:]})
+            self.assertEqual(disk.entries.withdraw(made), [])
 
     def test_what_the_log_has_is_not_made_anew(self) -> None:
         self.sends("three ")

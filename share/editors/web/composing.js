@@ -8,8 +8,11 @@ const QUIET_MS = 30_000;
 const SIGNS_OF_LIFE = ["compositionstart", "compositionupdate", "beforeinput", "keydown"];
 // The key code of a key that an input method takes.
 const TAKEN = 229;
+// What a text is scrolled by.
+const SCROLLED = ".CodeMirror-scroll, .CodeMirror-vscrollbar";
 
 export class Composing {
+  #cm;
   #input;
   #field;
   // The elements that stand for one character each, by what they show.
@@ -18,6 +21,7 @@ export class Composing {
   #seen = 0;
 
   constructor(cm) {
+    this.#cm = cm;
     this.#input = cm.display.input;
     this.#field = cm.getInputField();
     cm.on("renderLine", (_, __, line) => line.querySelectorAll(SIGN).forEach((sign) => this.#signs.set(sign, sign.textContent)));
@@ -29,6 +33,18 @@ export class Composing {
     cm.on("blur", () => this.#over());
     // CodeMirror would draw what they change before it reads.
     for (const kind of ["paste", "cut", "drop"]) cm.on(kind, () => this.end());
+    // Before CodeMirror hears of it, which takes lines that aren't seen out of the page.
+    cm.getWrapperElement().addEventListener("scroll", (event) => this.#scrolled(event.target), true);
+  }
+
+  /** Reads back what the browser has on a line that isn't seen any more, in a text that isn't in the page as a whole. */
+  #scrolled(by) {
+    if (!this.isOn || !by.matches(SCROLLED) || this.#cm.getOption("viewportMargin") === Infinity) return;
+    const [{ line }, top] = [this.#cm.getCursor(), by.scrollTop];
+    const [first, last] = [top, top + by.clientHeight].map((height) => this.#cm.lineAtHeight(height, "local"));
+    if (line >= first && line <= last) return;
+    this.end();
+    this.#cm.scrollTo(null, top);
   }
 
   /** @param {string} kind @param {(event: any) => void} does */
