@@ -35,7 +35,7 @@ MODULES = ["test_storm", "test_all_editors", "test_page", "test_of_files", "test
            "test_snapshot", "test_intake", "test_difference", "test_state", "test_chained", "test_links", "test_copied_numbers",
            "test_memory", "test_withdrawn", "test_held_up", "test_records", "test_claim_search", "test_message_judge",
            "test_composing", "test_rebasing", "test_record_judge", "test_second_notes", "test_version_of_before",
-           "test_second_losses"]
+           "test_second_losses", "test_letters"]
 # After this long a module is ended, on however busy a machine, unless one of these has its tests take as long as they are told to.
 MODULE_SECONDS = 1_800.0
 LONG_RUNS = "SHARE_STORM", "SHARE_ROUNDS", "SHARE_SECONDS"
