@@ -26,6 +26,7 @@ AT_A_TIME = 2 * (os.cpu_count() or 2) + 2
 MODULES = ["test_storm", "test_all_editors", "test_page", "test_of_files", "test_page_use", "test_web", "test_bad_input",
            "test_engine_edits", "test_editor", "test_looks", "test_engine", "test_logs", "test_closing", "test_installing", "test_copies",
            "test_rewriting", "test_damage", "test_engine_faults", "test_running", "test_killed", "test_unsent", "test_slow_editor",
+           "test_version_of_before", "test_second_losses", "test_letters",
            "test_scripts", "test_terminal", "test_security", "test_opening", "test_losses", "test_judge", "test_numbers", "test_attacks",
            "test_left_out", "test_first_start", "test_second_form", "test_entry", "test_keystrokes", "test_alike", "test_channel",
            "test_old_notes", "test_file_faults", "test_joining", "test_printing", "test_wire", "test_spelling", "test_carried",
@@ -34,8 +35,7 @@ MODULES = ["test_storm", "test_all_editors", "test_page", "test_of_files", "test
            "test_effects", "test_undo", "test_layout_and_changes", "test_sealed", "test_transform", "test_notes_of_messages",
            "test_snapshot", "test_intake", "test_difference", "test_state", "test_chained", "test_links", "test_copied_numbers",
            "test_memory", "test_withdrawn", "test_held_up", "test_records", "test_claim_search", "test_message_judge",
-           "test_composing", "test_rebasing", "test_record_judge", "test_second_notes", "test_version_of_before",
-           "test_second_losses", "test_letters"]
+           "test_composing", "test_rebasing", "test_record_judge", "test_second_notes"]
 # After this long a module is ended, on however busy a machine, unless one of these has its tests take as long as they are told to.
 MODULE_SECONDS = 1_800.0
 LONG_RUNS = "SHARE_STORM", "SHARE_ROUNDS", "SHARE_SECONDS"

@@ -14,9 +14,10 @@ from unittest import mock
 from share.admission.ledger import Row
 from share.admission.letters import Letters
 from share.format.chunk import packed
-from share.format.entry import Author, Entry
+from share.format.entry import NO_HASH, Author, Copied, Entry
 from share.format.operation import DELETE, INSERT, PLAIN_LOOKS, Operation
 from share.format.second.form import RecordForm
+from share.format.second.record import Record
 from share.store import letters
 from share.store.founding import begun
 from share.store.note_file import SECOND, Disk, make_note
@@ -85,6 +86,8 @@ class Found:
             while self.holdings.has_more:
                 self.holdings.read(disk, parts.choice([300, 5_000, 20_000]))
                 self.holdings.count()
+                # What was told may be so no more once more came.
+                self.holdings.judge.left_out()
             self.damaged, self.left = disk.entries.damaged, disk.entries.places()
 
     def counted(self, form: RecordForm, portion: Sequence[Any]) -> Iterator[Letters | Sequence[Any]]:
@@ -99,7 +102,8 @@ class Found:
         # Each after its causes, in an order that hangs on how much is read at a time.
         counting = {text: sorted(judge.let_through_in_order(text)) for text in (1, 2)}
         anothers = {client.site: holdings.is_anothers(client) for client in holdings.clients.values()}
-        told = judge.left_out(), judge.incomplete(), holdings.lost(), holdings.broken()
+        told = judge.left_out(), judge.incomplete(), holdings.lost(), holdings.broken(), {
+            of: judge.row(of) for row in judge.rows() for of in (*row.entry.names, row.entry.hash) if isinstance(row.entry, Record)}
         return counting, self.damaged, self.left, [*judge.rows()], told, anothers
 
 
@@ -118,6 +122,8 @@ class Alike(Case):
         for _ in range(chance.randint(1, 12)):
             writer = chance.choice(writers)
             made += [writer.entry(claims[writer.site == 65_000], chance) for _ in range(chance.randint(1, 60))]
+        for _ in range(chance.choice([0, 3])):
+            made.insert(chance.randrange(1, len(made)), self.word(form, chance, [clients[0].author, other], made))
         made = [one for one in made if chance.random() < 0.998]
         if chance.random() < 0.3:
             chance.shuffle(made)
@@ -125,6 +131,15 @@ class Alike(Case):
         own = [*clients, *([Client(65_000, other, stood=True)] if is_own[65_000] else [])]
         make_note(path, about, [Row(0, one, is_own.get(one.site, True) and chance.random() < 0.999) for one in made], own)
         return path
+
+    def word(self, form: RecordForm, chance: random.Random, authors: Sequence[Author], made: Sequence[Entry]) -> Record:
+        """That some messages were made anew, or are copies of others."""
+        of, by = chance.choices([one for one in made if one.size], k=2)
+        author = next(one for one in authors if one.name == of.author)
+        if chance.random() < 0.5:
+            return form.anew_up_to(of.name, author, of.site, of.text)
+        said = Copied(of.author, of.site, by.author, by.site, ((of.first, by.first, 1),), chance.choice([NO_HASH, by.name]))
+        return form.copies(said, author, of.site, chance.choice([NO_HASH, of.name]), of.text)
 
     def assert_alike(self, path: pathlib.Path, chance: random.Random) -> int:
         """That it is the same by both ways; how often some were put together."""
