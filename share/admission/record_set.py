@@ -7,6 +7,7 @@ from collections.abc import Callable, Iterable, Iterator, Sequence
 
 from share.admission.judging import Counted, Judging
 from share.admission.ledger import Row, Who
+from share.admission.letters import Letters
 from share.admission.message_judge import MessageJudge
 from share.admission.one_text import Turn
 from share.admission.record_room import RecordRoom
@@ -106,6 +107,8 @@ class RecordSet(Judging):
             self._records.add(row, entry)
 
     def extend(self, run: Sequence[Row]) -> bool:
+        if isinstance(run, Letters):
+            return self._extend_by_letters(run)
         entries = [entry for row in run if isinstance(entry := row.entry, Record)]
         first, hashes = entries[0], [of for entry in entries for of in entry.hashes]
         ons = [on for entry in entries for on in entry.ons]
@@ -117,6 +120,17 @@ class RecordSet(Judging):
             numbers, new = numbers[entry.size:], numbers[:entry.size]
             self._records.add(row, entry, new)
         self._words.come(first.text, hashes)
+        return True
+
+    def _extend_by_letters(self, run: Letters) -> bool:
+        """Adds letters, where nothing was said of them; whether it did."""
+        first = run.entry(0)
+        assert isinstance(first, Record)
+        numbers = self._messages.extend(first, run.operations(), run.names, [b""] * len(run))
+        if numbers is None:
+            return False
+        self._records.extend(run, first, numbers)
+        self._words.come(first.text, run.names)
         return True
 
     def _claim(self, entry: Record, number: int) -> None:

@@ -5,9 +5,11 @@ its messages, which are here anyway.
 """
 from array import array
 from collections.abc import Iterable, Sequence
+from itertools import accumulate
 
 from share.admission.hashes import HASH_BYTES, Hashes
 from share.admission.ledger import Row, Who
+from share.admission.letters import Letters
 from share.admission.sayings import Sayings, Whose
 from share.format.entry import NO_HASH
 from share.format.second.form import RecordForm
@@ -55,6 +57,27 @@ class Records(Hashes):
         self._enter((entry.hash,), number)
         _note(self._having, new, number)
         return number
+
+    def extend(self, these: Letters, first: Record, messages: range) -> None:
+        """Adds letters, of which this is the first record, with the numbers of their messages, which are the last ones."""
+        number, many, tail = len(self), len(these), self._form.tail_bytes
+        numbers = range(number, number + many)
+        self._hashes += b"".join(these.hashes)
+        self._of.setdefault((first.site, first.author), array("I")).extend(numbers)
+        self._whose.extend([self._client(Whose(first.author, first.site, first.text))] * many)
+        self._kinds += these.kinds
+        self._made += bytes([these.made]) * many
+        self._types_on += these.types_on
+        self._firsts.extend(these.firsts)
+        self._sizes.extend(these.sizes)
+        self._places.extend(these.places)
+        self._lasts.extend(messages)
+        kept, begin = [raw[len(raw) - tail:] + body for raw, body in zip(these.raws, these.bodies)], len(self._kept)
+        self._kept += b"".join(kept)
+        self._ends.extend([begin + end for end in accumulate(map(len, kept))])
+        self._enter(these.hashes, number)
+        self._having.extend([0] * (messages.start - len(self._having)))
+        self._having.extend(range(number + 1, number + many + 1))
 
     def add_base(self, number: int, messages: Sequence[int]) -> None:
         """Notes that a record is the first that has messages of the base."""

@@ -9,8 +9,10 @@ from typing import NamedTuple
 from share.admission.ledger import Row, Chained
 from share.format.entry import MOST_BYTES, NO_HASH, Bad, Entry, EntryKind, FirstForm, Form, digest
 from share.format.keystrokes import Keystrokes
+from share.format.second.form import RecordForm
 from share.store.guarded import GuardedFile
 from share.store.chained import LEAST_ROWS, KeptEntry, put_together
+from share.store.letters import put_letters_together
 
 ENTRIES_SCHEMA = """
     CREATE TABLE entry (place INTEGER PRIMARY KEY AUTOINCREMENT, hash BLOB NOT NULL UNIQUE, raw BLOB NOT NULL,
@@ -247,7 +249,7 @@ class Entries:
         form, looks = self._form, self._looks
         if len(portion) >= LEAST_ROWS and isinstance(form, FirstForm) and isinstance(looks, Keystrokes):
             return put_together(form, looks, portion)
-        return [portion]
+        return put_letters_together(form, portion) if len(portion) >= LEAST_ROWS and isinstance(form, RecordForm) else [portion]
 
     def _portion(self, after: int, most: float) -> tuple[list[KeptEntry], int]:
         """The first of the entries after a place, as the file has them, and their bytes."""

@@ -18,12 +18,14 @@ from share.admission.runs import runs
 from share.format.entry import Bad, Copy, Entry, FirstForm, Form, OneByOne, digest
 from share.format.keystrokes import Keystrokes
 from share.format.operation import TEXT
+from share.format.second.form import RecordForm
 from share.log.folder import inode_of, undisturbed
 from share.log.sqlite_file import FAULTS, Busy, Malformed, SqliteFile
 from share.program.site import Site
 from share.store.chained import KeptEntry, put_together
 from share.store.entries import GREATEST_PLACE
 from share.store.guarded import Damaged
+from share.store.letters import put_letters_together
 from share.store.locks import noted_beside, place_noted
 from share.store.note_file import NOTE_APPLICATIONS, SECOND, About, about_of, noted_of, unsent_of
 from share.store.old import copied
@@ -241,10 +243,10 @@ def _rows_of(file: SqliteFile, columns: str, broken: list[str]) -> Iterator[Any]
 
 
 def _put_together(form: Form, looks: OneByOne, portion: Sequence[KeptEntry]) -> Iterable[Chained | Sequence[KeptEntry]]:
-    """Rows, those of the first form put together that follow one another."""
+    """Rows, those put together that follow one another."""
     if isinstance(form, FirstForm) and isinstance(looks, Keystrokes):
         return put_together(form, looks, portion)
-    return [portion]
+    return put_letters_together(form, portion) if isinstance(form, RecordForm) else [portion]
 
 
 def _as_kept(form: Form, looks: OneByOne, portion: Sequence[KeptEntry], wrong: Faults) -> Iterator[Row]:

@@ -27,6 +27,7 @@ AT_A_TIME = 2 * (os.cpu_count() or 2) + 2
 MODULES = ["test_storm", "test_all_editors", "test_page", "test_of_files", "test_page_use", "test_web", "test_bad_input",
            "test_engine_edits", "test_editor", "test_looks", "test_engine", "test_logs", "test_closing", "test_installing", "test_copies",
            "test_rewriting", "test_damage", "test_engine_faults", "test_running", "test_killed", "test_unsent", "test_slow_editor",
+           "test_version_of_before", "test_second_losses", "test_letters",
            "test_scripts", "test_terminal", "test_security", "test_opening", "test_losses", "test_judge", "test_numbers", "test_attacks",
            "test_left_out", "test_first_start", "test_second_form", "test_entry", "test_keystrokes", "test_alike", "test_channel",
            "test_old_notes", "test_file_faults", "test_joining", "test_printing", "test_wire", "test_spelling", "test_carried",

@@ -1,11 +1,15 @@
 """Measures how long a key takes at an engine that has a note of 1 MB open: from the request to its answer, and to
 another editor's notice, of the same person and of another one with the same log.
 
-    python3 -m share.tests.engine_keys
+    python3 -m share.tests.engine_keys [FORM ..]
+
+Notes are of the first form, or of those that are named, by turns.
 """
+import os
 import pathlib
 import random
 import shutil
+import sys
 import tempfile
 import time
 from collections.abc import Callable
@@ -46,27 +50,35 @@ def measure(what: str, writer: Editor, reader: Editor) -> None:
 
 
 def main() -> None:
-    """Makes the note, opens it in three editors, and types."""
-    folder = pathlib.Path(tempfile.mkdtemp(prefix="share-"))
-    try:
-        log = str(folder / "shared" / "note.log")
-        first = Editor(folder / "ada", log=log)
-        first.wait_for(lambda: first.notices("state") and first.notices("state")[-1]["types"], "a number")
-        begin = time.perf_counter()
-        first.edit((0, 0, "".join(LINE.format(number) for number in range(SIZE // len(LINE.encode())))))
-        first.settle()
-        print(f"typed in one go: {SIZE:,} bytes in {time.perf_counter() - begin:.1f} s")
-        second = Editor(folder / "ada")
-        with Person(folder / "ada").here():
-            link = notes.link_to("note")
-        third = Editor(folder / "bo", link=link)
-        third.wait_for(lambda: third.text == first.text, "the note")
-        measure("one engine", first, second)
-        measure("two people, a log in a file", first, third)
-        for editor in first, second, third:
-            editor.close()
-    finally:
-        shutil.rmtree(folder)
+    """Measures in notes of the forms that are named."""
+    os.environ["VIALSHOAL_ZERO_BITS"] = "0"
+    for form in sys.argv[1:] or ["1"]:
+        os.environ["VIALSHOAL_FORM"] = form
+        folder = pathlib.Path(tempfile.mkdtemp(prefix="share-"))
+        try:
+            of_one_note(folder, form)
+        finally:
+            shutil.rmtree(folder)
+
+
+def of_one_note(folder: pathlib.Path, form: str) -> None:
+    """Makes a note, opens it in three editors, and types."""
+    log = str(folder / "shared" / "note.log")
+    first = Editor(folder / "ada", log=log)
+    first.wait_for(lambda: first.notices("state") and first.notices("state")[-1]["types"], "a number")
+    begin = time.perf_counter()
+    first.edit((0, 0, "".join(LINE.format(number) for number in range(SIZE // len(LINE.encode())))))
+    first.settle()
+    print(f"form {form}, at a load of {os.getloadavg()[0]:.0f}: typed in one go: {SIZE:,} bytes in {time.perf_counter() - begin:.1f} s")
+    second = Editor(folder / "ada")
+    with Person(folder / "ada").here():
+        link = notes.link_to("note")
+    third = Editor(folder / "bo", link=link)
+    third.wait_for(lambda: third.text == first.text, "the note")
+    measure("one engine", first, second)
+    measure("two people, a log in a file", first, third)
+    for editor in first, second, third:
+        editor.close()
 
 
 if __name__ == "__main__":

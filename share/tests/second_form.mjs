@@ -252,6 +252,7 @@ async function sealedNote(bits) {
   entries.push({ what: 'claim', raw: await claiming(note, bob, claims.bob) }, { what: 'claim', raw: await claiming(note, cy, claims.cy) });
   entries.push(...await conversation(note, ada, bob, claims.bob.site));
   const last = entries[entries.length - 1].hashes?.[0] ?? ZEROS;
+  entries.push(...await more(note, ada, bob, cy, claims.bob.site, claims.cy.site, entries));
   const says = join(bob.name, number(claims.bob.site, 2), ada.name, number(1, 2), last, [1, 2, 1], varint(300), [0, 5]);
   entries.push({ what: 'anew', raw: await entry(note, 'anew', bob, { site: claims.bob.site, of: 1, before: last }, new Uint8Array(0)) });
   entries.push({ what: 'copies', raw: await entry(note, 'copies', bob, { site: claims.bob.site, of: 1, before: last }, says) });
@@ -279,14 +280,71 @@ async function conversation(note, ada, bob, site) {
   return [first, whole, begin, end, margin, reply].map((one) => ({ what: 'messages', ...one }));
 }
 
-/** A note on one machine, that began with nothing. */
-async function plainNote() {
-  const author = { name: await chosen('plain author') };
-  const founding = join(await chosen('plain secret'), ZEROS, author.name, number(1, 2));
+/** What builds on two others at once, the greatest text, and words about the margin.
+ * @param {Note} note @param {Author} ada @param {Author} bob @param {Author} cy @param {number} bobs @param {number} cys their numbers
+ * @param {{ hashes?: Uint8Array[] }[]} entries */
+async function more(note, ada, bob, cy, bobs, cys, entries) {
+  const [typed, answered, , , margin, reply] = entries.slice(-6).map(({ hashes = [] }) => hashes);
+  const lasts = [{ site: 1, range: [1, 15, 1], hash: typed[2] }, { site: bobs, range: [bobs, 0, 1], hash: answered[0] }];
+  lasts.sort((one, other) => one.site - other.site);
+  const on = await hmac(note.hash, join([2], ...lasts.map(({ hash }) => hash)));
+  const both = await written(note, cy, ZEROS, [naming(2, [1, cys, 1, 14], lasts.map(({ range }) => range))], { 0: on });
+  const last = await written(note, bob, ZEROS, [inserting([16, bobs, 1, 1], null, 0, 'the last text')]);
+  const anew = await entry(note, 'anew', ada, { site: 1, of: 2, before: reply[0] }, new Uint8Array(0));
+  const says = join(ada.name, number(1, 2), bob.name, number(bobs, 2), margin[0], [1, 1, 1]);
+  const copies = await entry(note, 'copies', ada, { site: 1, of: 2 }, says);
+  return [{ what: 'messages', ...both }, { what: 'messages', ...last }, { what: 'anew', raw: anew }, { what: 'copies', raw: copies }];
+}
+
+/** A note on one machine, that began with a copy, in which two wrote.
+ * @param {number} bits of a claim that are zero */
+async function plainNote(bits) {
+  const [author, other] = [{ name: await chosen('plain author') }, { name: await chosen('plain other') }];
+  const secret = await chosen('plain secret');
+  const copied = [inserting([1, 5, 1, 1], null, 0, 'tea ')];
+  const hashes = await baseHashes(secret, copied);
+  const founding = join(secret, hashes[1], author.name, number(1, 2));
   const note = await noteOf(founding, false);
-  const opening = await entry(note, 'opening', { name: note.public }, {}, founding);
-  const typed = await written(note, author, ZEROS, [inserting([1, 1, 1, 1], null, 0, 'a'), inserting([1, 1, 2, 2], [1, 0], 1, 'b')]);
-  return { note, founding, entries: [{ what: 'opening', raw: opening }, { what: 'messages', ...typed }] };
+  const own = { name: note.public };
+  const claim = await claimed(note, other, bits);
+  const { site } = claim;
+  const typed = await written(note, author, ZEROS, [inserting([1, 1, 1, 2], [5, 3], 0, 'a'), inserting([1, 1, 2, 3], [1, 0], 1, 'b')]);
+  const on = await hmac(note.hash, join([2], typed.hashes[1]));
+  const answer = await written(note, other, ZEROS, [inserting([1, site, 1, 4], [1, 1], 0, 'c')], { 0: on });
+  const place = { site, of: 1, before: answer.hashes[0] };
+  const says = join(other.name, number(site, 2), author.name, number(1, 2), typed.hashes[1], [1, 2, 1]);
+  return {
+    note,
+    founding,
+    claim,
+    other,
+    entries: [
+      { what: 'opening', raw: await entry(note, 'opening', own, {}, founding) },
+      { what: 'base', raw: await entry(note, 'base', own, { site: 5, of: 1, first: 1, count: 1 }, chunk(copied)), hashes: [hashes[1]] },
+      { what: 'claim', raw: await claiming(note, other, claim) },
+      { what: 'messages', ...typed },
+      { what: 'messages', ...answer },
+      { what: 'anew', raw: await entry(note, 'anew', other, place, new Uint8Array(0)) },
+      { what: 'copies', raw: await entry(note, 'copies', other, place, says) },
+      { what: 'renewed', raw: await entry(note, 'renewed', author, { site: 1 }, text.encode('\u00c9va')) },
+    ],
+  };
+}
+
+/** What an editor says of itself, whose cursor and the other end of whose selection are in a text.
+ * @param {Uint8Array} engine @param {Uint8Array} editor @param {number} site @param {number[]} colour @param {number} of
+ * @param {number[]} cursor @param {number[]} anchor @param {string} name */
+function isOn(engine, editor, site, colour, of, cursor, anchor, name) {
+  const places = [cursor, anchor].flatMap(([at, offset]) => [...number(at, 2), ...number(offset, 4)]);
+  const said = join(engine, editor, number(site, 2), colour, [3 + 16 * (of - 1)], places, name);
+  return join(said, new Uint8Array(210 - said.length));
+}
+
+/** What an engine says it lacks.
+ * @param {Uint8Array} token @param {number} count @param {number} asks @param {[number, Uint8Array][]} lacks @param {number} hears */
+function lacking(token, count, asks, lacks, hears) {
+  const said = join(token, number(count, 4), number(asks, 4), ...lacks.map(([way, of]) => join([way], of)));
+  return join(said, new Uint8Array(189 - said.length), [hears], new Uint8Array(26));
 }
 
 /** @param {{ what: string, raw: Uint8Array, hashes?: Uint8Array[] }[]} entries */
@@ -299,10 +357,16 @@ const keys = (note) => ({ key: hex(note.key), hash: hex(note.hash), seal: hex(no
 const bits = 8;
 const made = await sealedNote(bits);
 const { note } = made;
-const plain = await plainNote();
-const data = join('somebody is on');
+const plain = await plainNote(bits);
 const beside = join([5], note.identity);
-const nonce = (await hmac(note.nonce, join(beside, data))).slice(0, 12);
+/** @param {Uint8Array} data */
+const presence = async (data) => {
+  const nonce = (await hmac(note.nonce, join(beside, data))).slice(0, 12);
+  return { data: hex(data), raw: hex(join(nonce, await boxed(note.presence, nonce, data, beside))) };
+};
+const token = join((await chosen('engine')).slice(0, 8), number(7, 8));
+const counted = join(token.slice(0, 8), new Uint8Array(8));
+const editing = (await chosen('editor')).slice(0, 16);
 const challenge = await chosen('challenge');
 const origin = 'https://notes.example';
 const bob = made.authors.bob.name;
@@ -313,11 +377,14 @@ const found = {
   sealed: { founding: hex(made.founding), ...keys(note), entries: shown(made.entries) },
   authors: Object.fromEntries(Object.entries(made.authors).map(([word, one]) => [word, { secret: hex(one.secret), name: hex(one.name) }])),
   claims: Object.fromEntries(Object.entries({ ...made.claims, full }).map(([word, one]) => [word, { ...one, rank: hex(one.rank) }])),
-  asked: { author: hex(bob), site: 258, name: hex(await hmac(note.hash, join([0], bob, number(258, 2)))) },
+  asked: { author: hex(bob), site: 258, name: hex(await hmac(note.hash, join([0], bob, number(258, 2)))),
+    opening: hex(await hmac(note.hash, join([0]))) },
   plain: { founding: hex(plain.founding), ...keys(plain.note), entries: shown(plain.entries) },
-  presence: { data: hex(data), raw: hex(join(nonce, await boxed(note.presence, nonce, data, beside))) },
+  presence: await presence(isOn(token, editing, made.claims.bob.site, [0xc0, 0x39, 0x2b], 2, [9, 6], [0, 0], 'B\u00f6b')),
+  lacking: await presence(lacking(counted, 8, 3, [[1, await chosen('lacked')], [2, await chosen('before')]], 2)),
   proof: { challenge: hex(challenge), origin, signature: hex(await signature(note.appending, join('vialshoal 2 append', note.identity,
     challenge, origin))) },
+  page: (await link(note.key, origin, 's')).replace(/(.*)@(.*)/, '$2/#$1'),
   links: [{ form: 's', key: hex(note.key), url: origin, link: await link(note.key, origin, 's') },
     { form: 'p', key: hex(plain.note.key), url: '/srv/notes/plan.log', link: await link(plain.note.key, '/srv/notes/plan.log', 'p') }],
 };

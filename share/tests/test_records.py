@@ -19,8 +19,9 @@ from hypothesis import strategies as st
 from share.format import link, presence
 from share.format.chunk import MOST_CHUNK, Packed, packed, packed_in_parts
 from share.format.entry import MOST_BYTES, Author, Bad, Copied, Form, Plain
+from share.format.heartbeat import Hears, Lack, Said, Way, heartbeat_of, read_heartbeat, token_of
 from share.format.operation import Operation
-from share.format.presence import MOST_PRESENCE, Present
+from share.format.presence import COUNT, MOST_PRESENCE, Present, presence_of, read_presence
 from share.format.sealed import Sealed
 from share.format.second import claim, signature
 from share.format.second.append import challenged, may_append
@@ -256,15 +257,29 @@ class Vectors(unittest.TestCase):
             self.assertEqual(next(found_among(range(begin, 2**64), note, author, zero_bits=bits)), (said["counter"], said["site"]))
 
     def test_presence_proof_and_names_of_claims(self) -> None:
-        form, said = self.forms["sealed"], self.all["presence"]
+        form, on = self.forms["sealed"], dict[str, bytes]()
         assert isinstance(form, SealedRecords)
-        self.assertEqual(form.presence(bytes.fromhex(said["data"])).hex(), said["raw"])
-        self.assertEqual((form.present(bytes.fromhex(said["raw"])) or b"").hex(), said["data"])
+        for word in "presence", "lacking":
+            said = self.all[word]
+            on[word] = bytes.fromhex(said["data"])
+            self.assertEqual((form.presence(on[word]).hex(), form.present(bytes.fromhex(said["raw"]))), (said["raw"], on[word]))
+        token, bob = on["lacking"][:8], self.all["claims"]["bob"]["site"]
+        editing = Present(token + COUNT.pack(0, 7), on["presence"][16:32], bob, "#c0392b", (9, 6), (0, 0), "B\xf6b", 2)
+        self.assertEqual((read_presence(on["presence"]), presence_of(editing)), (editing, on["presence"]))
+        engine = Said(token_of(token), 8, 3, [Lack(way, hashlib.sha256(b"chosen for a vector: " + word).digest())
+                                              for way, word in ((Way.IT, b"lacked"), (Way.AFTER, b"before"))], Hears.CHANNEL_FROM_NOW)
+        self.assertEqual((read_heartbeat(on["lacking"]), heartbeat_of(engine)), (engine, on["lacking"]))
         said = self.all["proof"]
         self.assertEqual(form.proof(bytes.fromhex(said["challenge"]), said["origin"]).hex(), said["signature"])
         said = self.all["asked"]
         self.assertEqual(form.keys.claim_name(bytes.fromhex(said["author"]), said["site"]).hex(), said["name"])
-        self.assertEqual(form.keys.opening_name(), Note(form.keys.key).digest(b"\0"))
+        self.assertEqual(form.keys.opening_name().hex(), said["opening"])
+        link = read_key_link(self.all["page"])
+        self.assertEqual((link.page(), link.key, link.url), (self.all["page"], form.keys.key, self.all["links"][0]["url"]))
+
+    def test_there_is_each_kind_in_either_form(self) -> None:
+        for word in self.forms:
+            self.assertEqual({one["what"] for one in self.all[word]["entries"]}, {kind.name.lower() for kind in RECORD_KINDS.values()})
 
     def test_keys_come_by_hkdf(self) -> None:
         for use in "hash", "seal", "base", "anything":

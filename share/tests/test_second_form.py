@@ -112,10 +112,13 @@ class Vectors(unittest.TestCase):
     def test_all_of_it_counts(self) -> None:
         answer = judged(self.sealed, self.raws(), self.bits)
         self.assertEqual((answer.left_out, answer.bad), ({}, set()))
-        bob = self.all["claims"]["bob"]["site"]
+        bob, cy = (self.all["claims"][word]["site"] for word in ("bob", "cy"))
         self.assertEqual({place: len(said) for place, said in counted(answer).items()}, {
-            (7, 1): 2, (9, 1): 1, (9, 2): 1, (1, 1): 3, (1, 2): 1, (bob, 1): 5, (bob, 2): 1})
+            (7, 1): 2, (9, 1): 1, (9, 2): 1, (1, 1): 3, (1, 2): 1, (bob, 1): 5, (bob, 2): 1, (cy, 1): 1, (bob, 16): 1})
         self.assertEqual(len(judged(self.sealed, self.raws()).counted().get((bob, 1), [])), 0)
+        plain = Note(bytes.fromhex(self.all["plain"]["key"]), PLAIN)
+        answer = judged(plain, self.raws("plain"), self.bits)
+        self.assertEqual((answer.left_out, answer.bad, sorted(len(said) for said in counted(answer).values())), ({}, set(), [1, 1, 2]))
 
     def test_claims_are_the_first_that_a_search_finds(self) -> None:
         for word, said in self.all["claims"].items():
@@ -126,9 +129,9 @@ class Vectors(unittest.TestCase):
                 self.assertEqual(searched(self.sealed.identity, author.name, self.bits), (said["counter"], said["site"]))
 
     def test_presence_proof_links_and_names_of_claims(self) -> None:
-        said = self.all["presence"]
-        self.assertEqual(second.presence(self.sealed, bytes.fromhex(said["data"])).hex(), said["raw"])
-        self.assertEqual(second.present(self.sealed, bytes.fromhex(said["raw"])).hex(), said["data"])
+        for said in self.all["presence"], self.all["lacking"]:
+            self.assertEqual(second.presence(self.sealed, bytes.fromhex(said["data"])).hex(), said["raw"])
+            self.assertEqual(second.present(self.sealed, bytes.fromhex(said["raw"])).hex(), said["data"])
         said = self.all["proof"]
         self.assertEqual(second.proof(self.sealed, bytes.fromhex(said["challenge"]), said["origin"]).hex(), said["signature"])
         said = self.all["asked"]

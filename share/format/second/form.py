@@ -187,6 +187,10 @@ class PlainRecords(RecordForm):
     def _signature(self, unsigned: bytes, author: Author) -> bytes:
         return b""
 
+    def body(self, raw: bytes) -> bytes:
+        # It was seen that it isn't damaged.
+        return raw[BEFORE_BOX:]
+
     def _opened(self, raw: bytes) -> bytes:
         head, body = raw[:BEFORE_NONCE], raw[BEFORE_BOX:]
         if raw[BEFORE_NONCE:BEFORE_BOX] != self.keys.nonce_of(head + body):

@@ -79,6 +79,16 @@ class NoteKeys:
         """The hash of an author's message after the one that has a hash, and of what it builds on."""
         return self.digest(OF_A_MESSAGE + author + before + message + on)
 
+    def hashes_after(self, author: bytes, before: bytes, messages: Iterable[bytes]) -> list[bytes]:
+        """The hashes of an author's messages, each after the one before it, which build on nothing else."""
+        begin, found = OF_A_MESSAGE + author, list[bytes]()
+        for message in messages:
+            # As in `digest` and `message_hash`: to call these takes a third of the time.
+            of = self._hashing.copy()
+            of.update(begin + before + message)
+            found.append(before := of.digest())
+        return found
+
     def built_on(self, hashes: list[bytes]) -> bytes:
         """What a message builds on that mentions what messages with these hashes inserted last, in the order of their sites."""
         return self.digest(OF_WHAT_IT_BUILDS_ON + b"".join(hashes))

@@ -17,6 +17,8 @@ GREATEST_TEXT = 16
 CLAIM_ZEROS = bytes(24)
 # How many messages say what they build on; and of each its index, and that.
 MANY_ONS, ON_FIELD = struct.Struct(">H"), struct.Struct(">H32s")
+# How bodies begin of which none does, as nearly all do.
+NO_ONS = MANY_ONS.pack(0)
 
 
 class RecordKind(EntryKind):
@@ -117,8 +119,10 @@ class Record(NamedTuple):
     @property
     def ons(self) -> tuple[bytes, ...]:
         """What each of its messages builds on, empty where one doesn't say it."""
-        ons = _ons_by_index(self.body) if self.kind is RecordKind.MESSAGES else {}
-        return tuple(ons.get(index, b"") for index in range(self.size)) if ons else (b"",) * self.size
+        if self.kind is not RecordKind.MESSAGES or self.body.startswith(NO_ONS):
+            return (b"",) * self.size
+        ons = _ons_by_index(self.body)
+        return tuple(ons.get(index, b"") for index in range(self.size))
 
     @property
     def counter(self) -> int:
@@ -157,7 +161,8 @@ def record_of(keys: NoteKeys, raw: bytes, body: bytes, of: bytes) -> Record:
     _, number, _, author, site, text, first, size, before = RECORD_HEAD.unpack_from(raw)
     kind, hashes = RECORD_KINDS.get(number, RecordKind.NEWER), tuple[bytes, ...]()
     if kind is RecordKind.MESSAGES:
-        hashes = _chained(keys, author, before, unpacked(body[_chunk_begin(body):], text), _ons_by_index(body))
+        begin = _chunk_begin(body)
+        hashes = _chained(keys, author, before, unpacked(body[begin:], text), _ons_by_index(body) if begin > MANY_ONS.size else {})
     return Record(kind, author, site, text, first, size if kind is not RecordKind.NEWER else 0, before, body, raw, of, hashes)
 
 
@@ -197,6 +202,8 @@ def body_of_messages(chunk: bytes, ons: Mapping[int, bytes]) -> bytes:
 
 def _chained(keys: NoteKeys, author: bytes, before: bytes, operations: Iterable[Operation], ons: Mapping[int, bytes]) -> tuple[bytes, ...]:
     """The hash of each of an author's messages after the one that has a hash."""
+    if not ons:
+        return tuple(keys.hashes_after(author, before, (message for operation in operations for message in operation.spellings())))
     found = list[bytes]()
     for operation in operations:
         for message in operation.spellings():
@@ -207,6 +214,8 @@ def _chained(keys: NoteKeys, author: bytes, before: bytes, operations: Iterable[
 
 def _chunk_begin(body: bytes) -> int:
     """Where the chunk of a body of messages begins."""
+    if body.startswith(NO_ONS):
+        return len(NO_ONS)
     return MANY_ONS.size + ON_FIELD.size * int.from_bytes(body[:MANY_ONS.size], "big")
 
 
