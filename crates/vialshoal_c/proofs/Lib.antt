@@ -1,5 +1,6 @@
 mod Filling
 mod Handing
+mod Held
 mod Names
 mod Places
 mod Putting

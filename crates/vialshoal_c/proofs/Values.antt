@@ -6,11 +6,11 @@ use seplogic.Ra.Ura.{Ura}
 use mir.Syntax.{impl, tnil, dnil}
 use mir.Raw.{raw as bare}
 use mir.Val.{Val, vptr, vstruct, vcons, vnil, of_list, has_ty, WT}
-use base.Logic.{via, never, fst∗, snd∗, guard_i}
+use base.Logic.{ent, guard, via, never, fst∗, snd∗, guard_i}
 use base.Fml.{Fml}
 use base.Fraction.{full_share}
 use types.Logic.{Logic, sem}
-use types.Kit.{Item, Goal, Seq, Step, step, ‵, given, ◌$◌, move, drop, fsplit, fjoin, fpick, fpack, feq_i, feq_l, learn, use1}
+use types.Kit.{Item, Goal, Seq, Step, step, ‵, given, ◌$◌, ◌∵◌, !, qed, by, done, move, drop, fsplit, fjoin, fpick, fpack, feq_i, feq_l, learn, use1}
 use contract.Monad.{fact_use}
 use denote.RattleType.{RattleType, Valss}
 use denote.Builtin.{RawPtr}
@@ -75,35 +75,32 @@ module _ (R Z : RattleType) (L : Laws Z) (g : Ghosts Z.Denot) where
 abbrev pub word : Val → Val
 word v = vstruct (vcons v vnil)
 
-module _ {M : Type 1} {𝓤 : Ura M} {𝓛 : Logic 𝓤} {K : Type 0} {Γ : List (Item 𝓤)} {G : Goal 𝓤 𝓛.H} where
+module _ {M : Type 1} {𝓤 : Ura M} (𝓛 : Logic 𝓤) where
   -- a handle by value: what it owns, behind its pointer
-  pub handle_out : K → (d : handle.the_row.Denot) (vs : List Val)
-      → (vs ≡ word (ptr_val d.at) ∷ [] → Seq K 𝓛 (‵ (owned session.the_row d.at d.value) ∷ Γ) G)
-      → Seq K 𝓛 (‵ (handle.the_row.own_val d vs) ∷ Γ) G
-  handle_out t d vs k =
-      fsplit t $ fpick t (λ vss. fsplit t $ feq_l t (λ ev. fsplit t $ feq_l t (λ ep. drop t $ k
-      (subst (λ (ps : List Val). vs ≡ vstruct (of_list (ps ++ [])) ∷ []) ep ev))))
+  pub handle_opens : (d : handle.the_row.Denot) (vs : List Val)
+      → ent 𝓤 (sem 𝓛 (handle.the_row.own_val d vs)) (guard 𝓤 (vs ≡ word (ptr_val d.at) ∷ []) (sem 𝓛 (owned session.the_row d.at d.value)))
+  handle_opens d vs = qed 𝓛 (‵ (handle.the_row.own_val d vs) ∷ []) ∵
+      fsplit ! $ fpick ! (λ vss. fsplit ! $ feq_l ! (λ ev. fsplit ! $ feq_l ! (λ ep. drop ! $
+      by ! (guard_i 𝓤 _ _ (subst (λ (ps : List Val). vs ≡ vstruct (of_list (ps ++ [])) ∷ []) ep ev)))))
 
-  pub handle_in : K → (d : handle.the_row.Denot)
-      → Step K 𝓛 (‵ (handle.the_row.own_val d (word (ptr_val d.at) ∷ [])) ∷ Γ) G (‵ (owned session.the_row d.at d.value) ∷ Γ) G
-  handle_in t d = step (λ s. let v : Val = word (ptr_val d.at) in
-      nothing t $ feq_i t (List Val) (ptr_val d.at ∷ []) (ptr_val d.at ∷ []) refl $ fjoin t $ feq_i t (List Val) (v ∷ []) (v ∷ []) refl $ fjoin t $
-      fpack t (Valss (RawPtr ∷ [])) (within (shape handle.the_type) (d.at, tt) (v ∷ [])) (ptr_val d.at ∷ [], tt) $ fjoin t $ s)
+  pub handle_shuts : (d : handle.the_row.Denot) → ent 𝓤 (sem 𝓛 (owned session.the_row d.at d.value)) (sem 𝓛 (handle.the_row.own_val d (word (ptr_val d.at) ∷ [])))
+  handle_shuts d = let v : Val = word (ptr_val d.at) in qed 𝓛 (‵ (owned session.the_row d.at d.value) ∷ []) ∵
+      nothing ! $ feq_i ! (List Val) (ptr_val d.at ∷ []) (ptr_val d.at ∷ []) refl $ fjoin ! $ feq_i ! (List Val) (v ∷ []) (v ∷ []) refl $ fjoin ! $
+      fpack ! (Valss (RawPtr ∷ [])) (within (shape handle.the_type) (d.at, tt) (v ∷ [])) (ptr_val d.at ∷ [], tt) $ fjoin ! $ done !
 
   -- a past handle alike
-  pub past_out : K → (d : past_handle.the_row.Denot) (vs : List Val)
-      → (vs ≡ word (ptr_val d.at) ∷ [] → Seq K 𝓛 (‵ (owned past.the_row d.at d.value) ∷ Γ) G)
-      → Seq K 𝓛 (‵ (past_handle.the_row.own_val d vs) ∷ Γ) G
-  past_out t d vs k =
-      fsplit t $ fpick t (λ vss. fsplit t $ feq_l t (λ ev. fsplit t $ feq_l t (λ ep. drop t $ k
-      (subst (λ (ps : List Val). vs ≡ vstruct (of_list (ps ++ [])) ∷ []) ep ev))))
+  pub past_opens : (d : past_handle.the_row.Denot) (vs : List Val)
+      → ent 𝓤 (sem 𝓛 (past_handle.the_row.own_val d vs)) (guard 𝓤 (vs ≡ word (ptr_val d.at) ∷ []) (sem 𝓛 (owned past.the_row d.at d.value)))
+  past_opens d vs = qed 𝓛 (‵ (past_handle.the_row.own_val d vs) ∷ []) ∵
+      fsplit ! $ fpick ! (λ vss. fsplit ! $ feq_l ! (λ ev. fsplit ! $ feq_l ! (λ ep. drop ! $
+      by ! (guard_i 𝓤 _ _ (subst (λ (ps : List Val). vs ≡ vstruct (of_list (ps ++ [])) ∷ []) ep ev)))))
 
-  pub past_in : K → (d : past_handle.the_row.Denot)
-      → Step K 𝓛 (‵ (past_handle.the_row.own_val d (word (ptr_val d.at) ∷ [])) ∷ Γ) G (‵ (owned past.the_row d.at d.value) ∷ Γ) G
-  past_in t d = step (λ s. let v : Val = word (ptr_val d.at) in
-      nothing t $ feq_i t (List Val) (ptr_val d.at ∷ []) (ptr_val d.at ∷ []) refl $ fjoin t $ feq_i t (List Val) (v ∷ []) (v ∷ []) refl $ fjoin t $
-      fpack t (Valss (RawPtr ∷ [])) (within (shape past_handle.the_type) (d.at, tt) (v ∷ [])) (ptr_val d.at ∷ [], tt) $ fjoin t $ s)
+  pub past_shuts : (d : past_handle.the_row.Denot) → ent 𝓤 (sem 𝓛 (owned past.the_row d.at d.value)) (sem 𝓛 (past_handle.the_row.own_val d (word (ptr_val d.at) ∷ [])))
+  past_shuts d = let v : Val = word (ptr_val d.at) in qed 𝓛 (‵ (owned past.the_row d.at d.value) ∷ []) ∵
+      nothing ! $ feq_i ! (List Val) (ptr_val d.at ∷ []) (ptr_val d.at ∷ []) refl $ fjoin ! $ feq_i ! (List Val) (v ∷ []) (v ∷ []) refl $ fjoin ! $
+      fpack ! (Valss (RawPtr ∷ [])) (within (shape past_handle.the_type) (d.at, tt) (v ∷ [])) (ptr_val d.at ∷ [], tt) $ fjoin ! $ done !
 
+module _ {M : Type 1} {𝓤 : Ura M} {𝓛 : Logic 𝓤} {K : Type 0} {Γ : List (Item 𝓤)} {G : Goal 𝓤 𝓛.H} where
   -- what a handle owns is nothing, at null, or a box, whose pointer may be tested
   pub either : K → (R : RattleType) (p : Ptr) (v : Option R.Denot) → (v ≡ None → p ≡ null_ptr → Seq K 𝓛 Γ G)
       → ((b o : ℕ) (a : Global) (x : R.Denot) → v ≡ Some x → p ≡ block_ptr b o → Testable (block_ptr b o)

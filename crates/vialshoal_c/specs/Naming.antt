@@ -1,5 +1,5 @@
 -- What the calls that edit by names answer and do.
-use Rattle.std.specs.Prelude.{◌≡◌, ℕ, ◌+◌, ◌&&◌, Bool, nat_lt, nat_le, MatchBool, if◌then◌else◌, List, length, map}
+use Rattle.std.specs.Prelude.{◌≡◌, ℕ, ◌+◌, ◌&&◌, Bool, nat_lt, nat_le, MatchBool, if◌then◌else◌, List, map}
 use Rattle.std.specs.Prelude.{Option, Some, None, Result}
 use Rattle.std.specs.List.{list_all}
 use Rattle.char_files.specs.declared.TheConstants.{MAX_FILE}

@@ -1,7 +1,7 @@
-use Rattle.std.proofs.Common.{◌≡◌, ◌+◌, ◌≤◌, ◌++◌, ℕ, List, length, drop, ap, subst, sym, ◌∙◌, rules}
+use Rattle.std.proofs.Common.{◌≡◌, ◌+◌, ◌++◌, ℕ, List, length, ap, subst, sym, ◌∙◌, rules}
 use Rattle.taken_text.specs.Rows.{RowSeen, chars_of_rows}
 use Rattle.char_files.specs.Chars.{char_bytes}
-use Rattle.vialshoal_c.proofs.Putting.{IsPut, has_room, put_begins, put_ends, put_more}
+use Rattle.vialshoal_c.proofs.Putting.{IsPut, has_room, put_more}
 use Rattle.taken_text.proofs.RowChars.{bytes_next}
 use Rattle.vialshoal_c.proofs.showing.fill_with_bytes.Goals as goal
 

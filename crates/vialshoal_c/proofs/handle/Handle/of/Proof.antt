@@ -1,31 +1,20 @@
 -- `of` keeps the pointer of a loose box.
-use Rattle.std.proofs.Common.{◌≡◌, List, [], ◌∷◌, ◌++◌, refl, sym, subst}
-use mir.Val.{Val, vptr}
-use base.Logic.{SProp, ent, emp, id⊢}
-use base.Fml.{ftrue}
-use prog.Wp.{WpFn}
-use types.Kit.{‵, raw, ◌⊛◌, ◌$◌, ◌∵◌, !, qed, by, move, keep, drop, split, fsplit, fjoin, fpack, suffices, use0}
-use types.Run.{stop, fld, of_opd, no_more, and_then, returns, enter}
-use types.ByLocal.{alloc_all, pass_all, free_all, look_at, get, get_in, sets}
-use types.Part.{agg, sub, whole}
-use contract.Monad.{fact, fact_i}
-use contract.Running.{tables}
+use Rattle.std.proofs.Common.{◌∷◌, []}
 use denote.Exit.{yes}
-use denote.RattleType.{RattleType, owns}
-use denote.Signature.{types_at, plain}
-use denote.RawPtr.{block_ptr, ptr_val}
-use denote.Steps.{nothing}
+use denote.RattleType.{RattleType}
+use denote.RawPtr.{Ptr, ptr_val}
+use denote.Signature.{plain}
 use denote.Triple.Walked.{Stays, stay_dropped, walk_of, Goes-dropped}
+use Rattle.std.proofs.Common.{refl}
 use Rattle.std.specs.Prelude.{Some}
-use Rattle.std.specs.declared.alloc.Global.{Global}
 use Rattle.std.specs.contracts.alloc.Global as heap
 use Rattle.std.proofs.alloc.Global.TheLaws as heap_laws
 use Rattle.std.specs.contracts.impls.GlobalAllocator.TheImpl.{ghosts}
-use Rattle.std_alloc.specs.Box.Ownership.{box_owns}
 use Rattle.std.proofs.raw_atomic.Walks.{proved_at, leaves}
-use Rattle.vialshoal_c.proofs.Values.{both, word, Loose, loose_good, loose_out, handle_in}
-use Rattle.vialshoal_c.specs.contracts.handle.Handle as handle
+use Rattle.vialshoal_c.proofs.Held.{of_runs}
+use Rattle.vialshoal_c.proofs.Values.{word, Loose, handle_shuts}
 use Rattle.vialshoal_c.specs.contracts.session.Session as session
+use Rattle.vialshoal_c.specs.contracts.handle.Handle as handle
 use Rattle.vialshoal_c.specs.contracts.handle.Handle.of.{ended, clauses}
 use Rattle.vialshoal_c.specs.contracts.handle.Handle.of.Key.{name as #self}
 use Rattle.vialshoal_c.proofs.handle.Handle.of.Statement.{statement}
@@ -33,24 +22,9 @@ use Rattle.vialshoal_c.proofs.handle.Handle.of.Code as code
 
 pub of_spec : {M : Type 1} → statement M
 of_spec 𝓤 𝓛 𝓜 𝓡 wired =
-    let H = 𝓛.H in let 𝓣 = tables 𝓤 H 𝓜 𝓡 𝓡.env in let c = clauses 𝓛 𝓜.mem 𝓡.returns in let fn = code.function in
-    let R : RattleType = session.the_row in let Z : RattleType = heap.the_row in let LZ = heap_laws.the_row_laws in
-    let Lr : RattleType = Loose R Z LZ ghosts in
+    let c = clauses 𝓛 𝓜.mem 𝓡.returns in let Lr : RattleType = Loose session.the_row heap.the_row heap_laws.the_row_laws ghosts in
     let hs : Stays ended.signature.params ended.kept = (stay_dropped (plain (λ _. Lr)) yes, tt) in
-    proved_at 𝓛 ended hs c 𝓜 𝓡 (Goes-dropped 𝓛 0 (plain (λ _. Lr)) yes (λ κs x f. refl), tt) #self fn (code.unfolded 𝓤 H 𝓜 𝓡 wired) (λ z are.
-    let v = z.0.3.0 in let Post : Val → SProp 𝓤 = (walk_of 𝓛 ended hs c).post z in let Run : List Val → SProp 𝓤 = λ ws. WpFn 𝓤 H 𝓣.C 𝓣.Λ fn ws Post in
-    qed 𝓛 ((‵ ftrue ⊛ ‵ (owns (types_at ended.signature.params z.0.0) z.0.3 z.0.4)) ∷ raw ((c z.0.0 z.0.3).requires z.1) ∷ []) ∵
-    split ! $ move ! (1 ∷ []) $ fsplit ! $ loose_out R Z LZ ghosts ! v z.0.4.0 (λ b o h e ws fits.
-    let w : Val = both (vptr b o) h in let typed = loose_good R Z LZ ghosts b o h fits in
-    let d : handle.the_row.Denot = record { at = block_ptr b o; value = Some v.value } in
-    move ! (1 ∷ []) $ drop ! $
-    suffices ! (Run (w ∷ [])) (subst (λ (us : List Val). ent 𝓤 (Run (w ∷ [])) (Run us)) (sym (λ i. ws i ++ [])) (id⊢ 𝓤 (Run (w ∷ [])))) $
-    enter ! 𝓣.C 𝓣.Λ fn (w ∷ []) Post $ alloc_all ! (λ l. pass_all ! refl (typed, tt) $
-    sets ! (of_opd ! (get_in ! (fld ! refl (stop !)) (sub ! 0 refl (whole !)))) refl (tt, tt) $
-    sets ! (of_opd ! (get ! refl)) refl (tt, tt) $
-    sets ! (agg ! (and_then ! (get ! refl) (no_more !))) refl (tt, (tt, tt)) $
-    fpack ! Global (λ a. box_owns (ghosts.dealloc_token a) R (block_ptr b o) v.value) v.alloc $ handle_in ! d $
-    use0 𝓛 (raw (fact 𝓤 (d.value ≡ Some v.value))) (fact_i 𝓤 (d.value ≡ Some v.value) (emp 𝓤) refl) $
-    nothing ! $ nothing ! $ fjoin ! $
-    returns ! (look_at ! 0 refl) $ free_all ! refl $ keep ! (4 ∷ 0 ∷ 2 ∷ 1 ∷ []) $
-    by ! (leaves 𝓛 ended hs c z (word (ptr_val (block_ptr b o))) d (tt, tt) (tt, tt)))))
+    proved_at 𝓛 ended hs c 𝓜 𝓡 (Goes-dropped 𝓛 0 (plain (λ _. Lr)) yes (λ κs x f. refl), tt) #self code.function (code.unfolded 𝓤 𝓛.H 𝓜 𝓡 wired) (λ z are.
+    let v = z.0.3.0 in let held : Ptr → handle.the_row.Denot = λ p. record { at = p; value = Some v.value } in
+    of_runs 𝓤 𝓛 𝓜 𝓡 session.the_row handle.struct.name ((walk_of 𝓛 ended hs c).post z) ((c z.0.0 z.0.3).requires z.1) v z.0.4.0 (λ p. handle.the_row.own_val (held p) (word (ptr_val p) ∷ []))
+    (λ p. handle_shuts 𝓛 (held p)) (λ p. leaves 𝓛 ended hs c z (word (ptr_val p)) (held p) (tt, tt) (tt, tt)))

@@ -1,35 +1,17 @@
 -- `into_loose` tests the pointer, and has the box again where there is one.
-use Rattle.std.proofs.Common.{◌≡◌, List, [], ◌∷◌, ◌++◌, refl, sym, ap, ◌∙◌, subst, lit<}
-use mir.Val.{Val, vptr, vcons, vnil}
-use base.Logic.{SProp, ent, emp, id⊢}
-use base.Fml.{ftrue}
-use prog.Wp.{WpFn}
-use types.Kit.{‵, raw, ◌⊛◌, at_ret, ◌$◌, ◌∵◌, !, qed, by, move, keep, split, join, fsplit, fjoin, suffices, use0, use1, rewrite}
-use types.Run.{stop, fld, lit, of_opd, bin, no_more, and_then, first, branches, exec, returns, enter}
-use types.ByLocal.{alloc_all, pass_all, free_all, look_at, get, get_in, sets, sets_last, env}
-use types.Part.{agg, sub, whole}
-use types.Match.{live}
-use contract.Monad.{fact, fact_i}
-use contract.Running.{tables}
+use Rattle.std.proofs.Common.{refl}
 use denote.Exit.{yes}
-use denote.RattleType.{RattleType, owns}
-use denote.Signature.{types_at, type_at, plain}
-use denote.RawPtr.{Ptr, block_ptr, null_ptr, ptr_val, tests_null}
-use denote.Steps.{nothing}
 use denote.Param.{layout}
+use denote.Signature.{plain}
 use denote.Triple.Walked.{Stays, stay_dropped, walk_of, Goes-dropped}
-use Rattle.std.specs.Prelude.{Option, Some, None, IfSome, IfNone}
 use Rattle.std.specs.contracts.alloc.Global as heap
 use Rattle.std.proofs.alloc.Global.TheLaws as heap_laws
-use Rattle.std.specs.contracts.impls.GlobalAllocator.TheImpl.{ghosts}
-use Rattle.core.proofs.alloc.Shapes.{after}
-use Rattle.core.proofs.cell.Inside.{Good, one}
-use Rattle.core.proofs.option.Made.{Some-of, none_of}
-use Rattle.std_alloc.proofs.ResultValues.{and_tt}
+use Rattle.core.proofs.cell.Inside.{one}
 use Rattle.std.proofs.raw_atomic.Walks.{proved_at, leaves}
-use Rattle.vialshoal_c.proofs.Values.{both, word, Loose, loose_good, loose_in, past_out, either}
-use Rattle.vialshoal_c.specs.contracts.past_handle.PastHandle as past_handle
+use Rattle.vialshoal_c.proofs.Held.{into_loose_runs}
+use Rattle.vialshoal_c.proofs.Values.{past_opens}
 use Rattle.texts.specs.contracts.past.Past as past
+use Rattle.vialshoal_c.specs.contracts.past_handle.PastHandle as past_handle
 use Rattle.vialshoal_c.specs.contracts.past_handle.PastHandle.into_loose.{ended, clauses}
 use Rattle.vialshoal_c.specs.contracts.past_handle.PastHandle.into_loose.Key.{name as #self}
 use Rattle.vialshoal_c.proofs.past_handle.PastHandle.into_loose.Statement.{statement}
@@ -37,48 +19,9 @@ use Rattle.vialshoal_c.proofs.past_handle.PastHandle.into_loose.Code as code
 
 pub into_loose_spec : {M : Type 1} → statement M
 into_loose_spec 𝓤 𝓛 𝓜 𝓡 wired =
-    let H = 𝓛.H in let 𝓣 = tables 𝓤 H 𝓜 𝓡 𝓡.env in let c = clauses 𝓛 𝓜.mem 𝓡.returns in let fn = code.function in
-    let R : RattleType = past.the_row in let Z : RattleType = heap.the_row in let LZ = heap_laws.the_row_laws in let Hr : RattleType = past_handle.the_row in
-    let Lr : RattleType = Loose R Z LZ ghosts in
-    let hs : Stays ended.signature.params ended.kept = (stay_dropped (plain (λ _. Hr)) yes, (stay_dropped (plain (λ _. Z)) yes, tt)) in
-    proved_at 𝓛 ended hs c 𝓜 𝓡 (Goes-dropped 𝓛 0 (plain (λ _. Hr)) yes (λ κs x f. refl), (Goes-dropped 𝓛 0 (plain (λ _. Z)) yes (λ κs x f. refl), tt)) #self fn (code.unfolded 𝓤 H 𝓜 𝓡 wired) (λ z are.
-    let d = z.0.3.0 in let a = z.0.3.1.0 in let Post : Val → SProp 𝓤 = (walk_of 𝓛 ended hs c).post z in let Run : List Val → SProp 𝓤 = λ ws. WpFn 𝓤 H 𝓣.C 𝓣.Λ fn ws Post in
-    let Out : RattleType = type_at ended.signature.result z.0.0 in
-    let h = one (layout Z) z.0.4.1.0 ((LZ.lawful 𝓛).typed a z.0.4.1.0 are.1.0) in
-    qed 𝓛 ((‵ ftrue ⊛ ‵ (owns (types_at ended.signature.params z.0.0) z.0.3 z.0.4)) ∷ raw ((c z.0.0 z.0.3).requires z.1) ∷ []) ∵
-    split ! $ move ! (1 ∷ []) $ fsplit ! $ past_out ! d z.0.4.0 (λ ws. move ! (1 ∷ []) $ fsplit ! $
-    rewrite ! 0 (λ (us : List Val). ‵ (Z.own_val a us)) h.1 refl $
-    -- [the allocator; nothing; what the handle owns; the tokens; the `requires`]
-    move ! (2 ∷ []) $ either ! R d.at d.value
-    (λ no is. let w : Val = word (ptr_val null_ptr) in let nothing_there : Option Lr.Denot = None in
-    suffices ! (Run (w ∷ h.0 ∷ [])) (subst (λ (us : List Val). ent 𝓤 (Run (w ∷ h.0 ∷ [])) (Run us)) (sym (λ i. (ws ∙ ap (λ (p : Ptr). word (ptr_val p) ∷ []) is) i ++ (h.1 i ++ []))) (id⊢ 𝓤 (Run (w ∷ h.0 ∷ [])))) $
-    enter ! 𝓣.C 𝓣.Λ fn (w ∷ h.0 ∷ []) Post $ alloc_all ! (λ l. pass_all ! refl ((tt, (record { fits = lit< tt }, tt)), (h.2, tt)) $ let Ev = env fn.locals l in
-    sets ! (of_opd ! (get_in ! (fld ! refl (stop !)) (sub ! 0 refl (whole !)))) refl (tt, record { fits = lit< tt }) $
-    sets ! (bin ! (get ! refl) (lit ! tt) tt) refl (tt, tt) $ first ! $ branches ! (get ! refl)
-    (λ _. sets_last ! (agg ! (and_then ! (lit ! tt) (no_more !))) refl (tt, (record { fits = lit< tt }, tt)) $ exec ! 𝓣.C 𝓣.Λ Ev (after 3 fn.body) (at_ret Ev Post) $
-    sets ! (of_opd ! (get ! refl)) refl (tt, (record { fits = lit< tt }, tt)) $
-    use0 𝓛 (‵ (Out.own_val None (live 0 vnil ∷ []))) (none_of 𝓛 Lr) $
-    use0 𝓛 (raw (fact 𝓤 (IfSome nothing_there (λ (x : Lr.Denot). d.value ≡ Some x.value)))) (fact_i 𝓤 _ (emp 𝓤) tt) $
-    use0 𝓛 (raw (fact 𝓤 (IfNone nothing_there (d.value ≡ None)))) (fact_i 𝓤 _ (emp 𝓤) no) $ join ! $
-    nothing ! $ nothing ! $ fjoin ! $ nothing ! $ fjoin ! $
-    returns ! (look_at ! 0 refl) $ free_all ! refl $ keep ! (5 ∷ 0 ∷ 2 ∷ 1 ∷ []) $
-    by ! (leaves 𝓛 ended hs c z (live 0 vnil) None (tt, (tt, tt)) (tt, (tt, tt))))
-    (λ wrong. absurd wrong)))
-    (λ b o a' x some is test. let p : Ptr = block_ptr b o in let w : Val = word (ptr_val p) in let made : Val = both (vptr b o) h.0 in
-    let typed = loose_good R Z LZ ghosts b o h.0 h.2 in let v₁ : Val = live 1 (vcons made vnil) in let m : Lr.Denot = record { at = p; alloc = a; value = x } in
-    let good : Good (layout Out) v₁ = (and_tt _ typed.0, (record { fits = lit< tt }, (typed.1, tt))) in
-    suffices ! (Run (w ∷ h.0 ∷ [])) (subst (λ (us : List Val). ent 𝓤 (Run (w ∷ h.0 ∷ [])) (Run us)) (sym (λ i. (ws ∙ ap (λ (q : Ptr). word (ptr_val q) ∷ []) is) i ++ (h.1 i ++ []))) (id⊢ 𝓤 (Run (w ∷ h.0 ∷ [])))) $
-    enter ! 𝓣.C 𝓣.Λ fn (w ∷ h.0 ∷ []) Post $ alloc_all ! (λ l. pass_all ! refl ((tt, (tt, tt)), (h.2, tt)) $ let Ev = env fn.locals l in
-    sets ! (of_opd ! (get_in ! (fld ! refl (stop !)) (sub ! 0 refl (whole !)))) refl (tt, tt) $
-    sets ! (bin ! (get ! refl) (lit ! tt) (tests_null p test)) refl (tt, tt) $ first ! $ branches ! (get ! refl)
-    (λ wrong. absurd wrong)
-    (λ _. sets ! (of_opd ! (get ! refl)) refl (tt, tt) $
-    sets ! (agg ! (and_then ! (get ! refl) (and_then ! (get ! refl) (no_more !)))) refl typed $
-    sets_last ! (agg ! (and_then ! (lit ! tt) (and_then ! (get ! refl) (no_more !)))) refl good $
-    exec ! 𝓣.C 𝓣.Λ Ev (after 3 fn.body) (at_ret Ev Post) $ sets ! (of_opd ! (get ! refl)) refl good $
-    loose_in R Z LZ ghosts ! b o h.0 a x $ use1 𝓛 (‵ (Out.own_val (Some m) (v₁ ∷ []))) (Some-of 𝓛 Lr m made) $
-    use0 𝓛 (raw (fact 𝓤 (IfSome (Some m) (λ (y : Lr.Denot). d.value ≡ Some y.value)))) (fact_i 𝓤 _ (emp 𝓤) some) $
-    use0 𝓛 (raw (fact 𝓤 (IfNone (Some m) (d.value ≡ None)))) (fact_i 𝓤 _ (emp 𝓤) tt) $ join ! $
-    nothing ! $ nothing ! $ fjoin ! $ nothing ! $ fjoin ! $
-    returns ! (look_at ! 0 refl) $ free_all ! refl $ keep ! (4 ∷ 0 ∷ 2 ∷ 1 ∷ []) $
-    by ! (leaves 𝓛 ended hs c z v₁ (Some m) (tt, (tt, tt)) (tt, (tt, tt))))))))
+    let c = clauses 𝓛 𝓜.mem 𝓡.returns in
+    let hs : Stays ended.signature.params ended.kept = (stay_dropped (plain (λ _. past_handle.the_row)) yes, (stay_dropped (plain (λ _. heap.the_row)) yes, tt)) in
+    proved_at 𝓛 ended hs c 𝓜 𝓡 (Goes-dropped 𝓛 0 (plain (λ _. past_handle.the_row)) yes (λ κs x f. refl), (Goes-dropped 𝓛 0 (plain (λ _. heap.the_row)) yes (λ κs x f. refl), tt)) #self code.function (code.unfolded 𝓤 𝓛.H 𝓜 𝓡 wired) (λ z are.
+    let d = z.0.3.0 in let a = z.0.3.1.0 in let h = one (layout heap.the_row) z.0.4.1.0 ((heap_laws.the_row_laws.lawful 𝓛).typed a z.0.4.1.0 are.1.0) in
+    into_loose_runs 𝓤 𝓛 𝓜 𝓡 past.the_row past_handle.struct.name ((walk_of 𝓛 ended hs c).post z) ((c z.0.0 z.0.3).requires z.1) d.at d.value a z.0.4.0 z.0.4.1.0 (past_handle.the_row.own_val d z.0.4.0) h.0 h.1 h.2
+    (past_opens 𝓛 d z.0.4.0) (λ w r. leaves 𝓛 ended hs c z w r (tt, (tt, tt)) (tt, (tt, tt))))
