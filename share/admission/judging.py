@@ -52,6 +52,11 @@ class Judging(ABC):
     def row(self, of: bytes) -> Row | None:
         """The entry that has a hash, or a message that is named so; None where it isn't in memory."""
 
+    def begins(self, claim: bytes) -> list[bytes]:
+        """The hashes of the entries with which the chains of somebody begin, by what names his claim, where a claim isn't what is before
+        them."""
+        return []
+
     # What comes, and what counts of it.
 
     @abstractmethod

@@ -8,7 +8,7 @@ from share.admission.ledger import Row, Who
 from share.admission.left_out import LeftOut, without_copied
 from share.admission.record_chains import RecordChains
 from share.admission.record_set import Prefers
-from share.admission.sayings import Root
+from share.admission.sayings import Root, Whose
 from share.format.entry import Entry
 from share.format.operation import TEXT, Operation
 from share.format.second.form import RecordForm
@@ -83,6 +83,15 @@ class RecordJudge(RecordChains):
         texts = [one for text in sorted(self._messages.texts) if (one := self._text(text))]
         lines = [one.lines[site] for one in texts for site in sorted(one.passage.ended)]
         return [message for line in lines for message in line.branch.between(line.front, line.front + 1)]
+
+    def begins(self, claim: bytes) -> list[bytes]:
+        number = self._by_name.get(claim)
+        if number is None:
+            return []
+        entry = self._records.entry(number)
+        site, author = (found.number, found.founder) if (found := entry.founding) else (entry.site, entry.author)
+        firsts = (self._sayings.least(Whose(author, site, text)) for text in self._sayings.texts(author, site))
+        return [self._records.hash(self._records.having(first)) for first in firsts if first is not None]
 
     def renewed(self) -> list[tuple[Who, bytes]]:
         return sorted((who, name) for who, name in self._words.renewed() if self.holder(who[0]) == who[1])

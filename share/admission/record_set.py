@@ -163,6 +163,7 @@ class RecordSet(Judging):
         before = self.holder(founding.number) if founding else None
         self._messages.add(entry)
         if founding:
+            self._by_name.setdefault(self._form.keys.claim_name(founding.founder, founding.number), number)
             self._room.changed_hands(founding.number, before, self.holder(founding.number))
             unlinked, self._unlinked = self._unlinked, []
             for one in unlinked:

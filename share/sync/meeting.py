@@ -3,6 +3,7 @@ import random
 import threading
 import time
 from collections.abc import Callable, Iterable, Iterator, Sequence
+from itertools import chain
 
 from share.format import heartbeat
 from share.format.entry import Form
@@ -42,8 +43,9 @@ class Meeting:
         # What others have asked for; whether one couldn't say what it lacks; and from when on this is looked at again.
         self._lock = threading.Lock()
         self._wanted: dict[Lack, None] = {}
-        # The hashes of what others want and name otherwise, which the editor's thread knows.
+        # The hashes of what others want and name otherwise, which the editor's thread knows; and what it may be that is before it.
         self._found: list[bytes] = []
+        self._after: dict[Lack, None] = {}
         self._is_asked, self._answers_again = False, 0.0
 
     def is_on(self, many: int) -> None:
@@ -98,6 +100,8 @@ class Meeting:
         with self._lock:
             for one in asked.lacks[:MOST_WANTED - len(self._wanted)]:
                 self._wanted[one] = None
+            if self._form.names_messages:
+                self._after |= {one: None for one in asked.lacks[:MOST_WANTED - len(self._after)] if one.way is Way.AFTER}
             self._is_asked |= asked.all
         if asked.lacks and self._form.names_messages:
             self._wake()
@@ -111,25 +115,27 @@ class Meeting:
         places = {*disk.entries.places_of(found + [one.hash for one in wanted if one.way is Way.IT]).values()}
         return sorted(places | {*disk.entries.places_after([one.hash for one in wanted if one.way is Way.AFTER], WANTED_AT_ONCE)}), reads
 
-    def find(self, hash_of: Callable[[bytes], bytes | None]) -> None:
-        """Finds what others want and ask for by what names a message, where a file knows its entries by their hashes."""
-        if self._wanted and self._form.names_messages:
+    def find(self, found: Callable[[Lack], list[bytes]]) -> None:
+        """Finds what others want and ask for by what names a message or a claim, where a file knows its entries by their hashes."""
+        if (self._wanted or self._after) and self._form.names_messages:
             with self._lock:
-                found = {one: hash_of(one.hash) for one in self._wanted if one.way is Way.IT}
-                self._found += filter(None, found.values())
-                for one in found:
+                named = [one for one in self._wanted if one.way is Way.IT]
+                self._found += chain.from_iterable(map(found, [*named, *self._after]))
+                self._after.clear()
+                for one in named:
                     del self._wanted[one]
 
     def _take_wanted(self) -> tuple[list[Lack], bool]:
         """What others want and is to be looked for now."""
         with self._lock:
             # What is named by a message is found by the editor's thread.
-            later = [one for one in self._wanted if one.way is Way.AFTER or self._form.names_messages]
+            named = [one for one in self._wanted if one.way is Way.IT and self._form.names_messages]
+            later = [one for one in self._wanted if one.way is Way.AFTER]
             wanted, reads = [*self._wanted], False
             if (later or self._is_asked) and time.monotonic() >= self._answers_again:
                 self._answers_again = time.monotonic() + WHOLE_ANSWER_SECONDS
                 reads, self._is_asked, later = self._is_asked, False, []
-            self._wanted = dict.fromkeys(later)
+            self._wanted = dict.fromkeys([*named, *later])
             return [one for one in wanted if one not in self._wanted], reads
 
     def _ask_for_more(self) -> None:

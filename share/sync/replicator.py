@@ -6,7 +6,7 @@ from contextlib import closing
 from itertools import count
 
 from share.format.entry import Entry, Form
-from share.format.heartbeat import new_token
+from share.format.heartbeat import Lack, new_token
 from share.log.base import ON_SECONDS, Log, Unreachable
 from share.store.note_file import Disk
 from share.sync.backoff import Losses
@@ -189,9 +189,9 @@ class Replicator:
         often does so ever more rarely."""
         self._meeting.ask(lacked)
 
-    def find(self, hash_of: Callable[[bytes], bytes | None]) -> None:
+    def find(self, found: Callable[[Lack], list[bytes]]) -> None:
         """Finds what others have asked for by what names a message; the giver gives it again."""
-        self._meeting.find(hash_of)
+        self._meeting.find(found)
 
     def read_from_front(self) -> None:
         """Reads the log from its front, and gives it what it lacks. Any thread may call it."""

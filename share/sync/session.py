@@ -235,7 +235,7 @@ class Session(EditedNote):
     def _ask_for_what_is_missing(self) -> None:
         """Asks the others for what is missing, finds what they ask for, and has the log be read again for what the disk damaged."""
         judge = self._holdings.judge
-        self._replicator.find(self._holdings.hash_of)
+        self._replicator.find(self._holdings.found)
         if not self._holdings.has_more and judge.is_lacking():
             self._replicator.ask(lambda: judge.missing(MOST_MISSING))
         if self._file.lacks:

@@ -7,6 +7,7 @@ from share.admission.judging import Counted
 from share.admission.ledger import Row, Chained, Who
 from share.admission.runs import runs
 from share.format.entry import Copy, Entry, Form
+from share.format.heartbeat import Lack, Way
 from share.store.note_file import Disk
 from share.store.own import Anew, Client
 from share.sync.backlog import Backlog
@@ -162,10 +163,12 @@ class Holdings(WhatWasLost):
         """Whether somebody else writes under a number, or has it."""
         return who(client) in self._shared or self.judge.holder(client.site) not in (None, client.author.name)
 
-    def hash_of(self, name: bytes) -> bytes | None:
-        """The hash of what is named so, or has a message that is; None where it isn't in memory."""
-        row = self.judge.row(name)
-        return row.entry.hash if row else None
+    def found(self, lack: Lack) -> list[bytes]:
+        """The hashes of what others lack and name by a message, or as what begins after a claim."""
+        if lack.way is Way.AFTER:
+            return self.judge.begins(lack.hash)
+        row = self.judge.row(lack.hash)
+        return [row.entry.hash] if row else []
 
     def claim_of(self, client: Client) -> Entry | None:
         """The claim of a number of this person, where it has one that is here."""

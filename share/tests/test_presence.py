@@ -268,9 +268,16 @@ class Damaged(Case):
     """An entry of a log is damaged while who has the right one is on."""
 
     def test_the_last_entry_of_its_author(self) -> None:
+        self.comes_back("one ", "two ")
+
+    def test_the_first_entry_of_its_author(self) -> None:
+        self.comes_back("two ")
+
+    def comes_back(self, *typed: str) -> None:
+        """That the last of the entries of one comes to another one who joins."""
         path = pathlib.Path(self.file_log())
         ann = self.opened(self.person("ann"), url=str(path))
-        for words in "one ", "two ":
+        for words in typed:
             written(ann, words)
         wait_for(lambda: damage(path, b"two ", b"twx "), "it to be there")
         before = ann.session._replicator.reading()
@@ -278,11 +285,17 @@ class Damaged(Case):
         told.append(bob.notice)
         notices = bob.session.notices
         bob.session.notices = lambda: [told.append(one) or one for one in notices()]
-        self.assert_comes_to(bob, b"one two ")
+        wait_for(lambda: (ann.take_in(), bob.take_in(), bytes(bob.text) == "".join(typed).encode())[2], "it to come")
         wait_for(lambda: (bob.take_in(), "damaged and was left out" in " ".join(told))[1], "it to be told")
         type_at_the_end(bob, "three ")
-        self.assertEqual(self.assert_meet(ann, bob), b"one two three ")
+        self.assertEqual(self.assert_meet(ann, bob).decode(), f"{''.join(typed)}three ")
         self.assertEqual(ann.session._replicator.reading(), before)
+
+
+class DamagedOfOthers(Damaged):
+    """The same of who didn't found the note."""
+
+    founders_have_numbers = False
 
 
 if __name__ == "__main__":

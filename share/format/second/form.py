@@ -102,6 +102,13 @@ class RecordForm(Form):
     def author(self, raw: bytes) -> bytes:
         return raw[2 + IDENTITY_BYTES:2 + IDENTITY_BYTES + POINT_BYTES]
 
+    def before_of(self, raw: bytes) -> bytes:
+        before = super().before_of(raw)
+        if before != NO_HASH or self.kind(raw) is not RecordKind.MESSAGES:
+            return before
+        # Before the first messages there is a claim.
+        return self.keys.claim_name(self.author(raw), int.from_bytes(raw[self.site_at:self.site_at + 2], "big"))
+
     def whole(self, head: bytes, body: bytes, tail: bytes) -> bytes:
         """The bytes of a record that was opened before, by its head, its body and its last bytes."""
         return self._unsigned(head, body) + tail
