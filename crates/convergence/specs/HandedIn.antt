@@ -76,10 +76,10 @@ count_refused why = if is_handed_in (Err why) then 1 else 0
 
 -- Of a chunk that was answered so, these operations were handed in: all; or those before the one that was refused, and
 -- that one too, if it counts; and none of bytes that are no chunk of the text, or that weren't read for want of memory.
-abbrev pub AreHandedIn : List ℕ → Result Unpacked UnpackRefusal → List Operation → Type 0
-AreHandedIn bytes (Ok counts) handed =
+abbrev pub AreHandedInOf : List ℕ → Result Unpacked UnpackRefusal → List Operation → Type 0
+AreHandedInOf bytes (Ok counts) handed =
     (text : ℕ) × (ps : List Placed) × IsChunkOf text ps bytes × (handed ≡ operations_of ps)
-AreHandedIn bytes (Err refusal) handed =
+AreHandedInOf bytes (Err refusal) handed =
     ((why : Refusal) × (refusal ≡ Untouched why) × (is_handed_in (Err why) ≡ false) × (handed ≡ []))
     ⊎ ((text : ℕ) × (ps : List Placed) × IsChunkOf text ps bytes × (done : ℕ) × (why : Refusal)
     × (refusal ≡ refusal_after done why) × (handed ≡ take (done + count_refused why) (operations_of ps)))
@@ -88,7 +88,7 @@ AreHandedIn bytes (Err refusal) handed =
 abbrev pub KeptByUnpacking : Type 0
 KeptByUnpacking = (t new : TextState) (bytes : List ℕ) (result : Result Unpacked UnpackRefusal) (all : List Operation)
     → IsText t → AccountsFor t all → (Unpacks t bytes result new ⊎ UnpacksShort t bytes result new)
-    → (handed : List Operation) × AreHandedIn bytes result handed
+    → (handed : List Operation) × AreHandedInOf bytes result handed
     × (AreIdentified (all ++ handed) → AccountsFor new (all ++ handed))
 
 -- draining leaves all kept

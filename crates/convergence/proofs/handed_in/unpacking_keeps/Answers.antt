@@ -15,7 +15,7 @@ use Rattle.text_chunks.specs.Unpacking.{HandsIn, HandsInAll, StaysWhole, TakesOp
 use Rattle.text_chunks.specs.Unpacking.{nothing_unpacked, refusal_after}
 use Rattle.text_chunks.specs.declared.unpacked.UnpackRefusal.{UnpackRefusal}
 use Rattle.text_chunks.specs.declared.unpacked.Unpacked.{Unpacked}
-use Rattle.convergence.specs.HandedIn.{AccountsFor, AreHandedIn, KeptByTakingOps, count_refused, is_handed_in}
+use Rattle.convergence.specs.HandedIn.{AccountsFor, AreHandedInOf, KeptByTakingOps, count_refused, is_handed_in}
 use Rattle.set_laws.proofs.Lengths.{part_identified}
 use Rattle.convergence.proofs.Kept.{both_parts, same_kept}
 use Rattle.convergence.proofs.Messages.{text_after_op}
@@ -115,20 +115,20 @@ module _ (taking : KeptByTakingOps) where
   module _ (t new : TextState) (bytes : List ℕ) (result : Result Unpacked UnpackRefusal) (all : List Operation)
       (text : IsText t) (keeps : AccountsFor t all) where
     abbrev IsKept : Type 0
-    IsKept = (handed : List Operation) × AreHandedIn bytes result handed
+    IsKept = (handed : List Operation) × AreHandedInOf bytes result handed
         × (AreIdentified (all ++ handed) → AccountsFor new (all ++ handed))
 
     -- where nothing was handed in
     kept_whole : (why : Refusal) → is_handed_in (Err why) ≡ false → StaysWhole t why result new → IsKept
     kept_whole why none (answer, same) = (
       [],
-      subst (λ (r : Result Unpacked UnpackRefusal). AreHandedIn bytes r []) (sym answer) (inl (why, refl, none, refl)),
+      subst (λ (r : Result Unpacked UnpackRefusal). AreHandedInOf bytes r []) (sym answer) (inl (why, refl, none, refl)),
       λ known. same_kept t new all keeps same,
     )
 
     -- what is told of a chunk's operations is told of the bytes
     told : (number : ℕ) (ps : List Placed) → IsChunkOf number ps bytes → (answer : Result Unpacked UnpackRefusal)
-        (handed : List Operation) → AreOfTheRest 0 (operations_of ps) answer handed → AreHandedIn bytes answer handed
+        (handed : List Operation) → AreOfTheRest 0 (operations_of ps) answer handed → AreHandedInOf bytes answer handed
     told number ps chunk (Ok counts) handed are = (number, ps, chunk, are)
     told number ps chunk (Err refusal) handed (more, why, is, are) =
         inr (
