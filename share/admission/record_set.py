@@ -116,9 +116,7 @@ class RecordSet(Judging):
         numbers = self._messages.extend(first, operations, hashes, ons)
         if numbers is None:
             return False
-        for row, entry in zip(run, entries):
-            numbers, new = numbers[entry.size:], numbers[:entry.size]
-            self._records.add(row, entry, new)
+        self._records.extend(run, entries, numbers)
         self._words.come(first.text, hashes)
         return True
 
@@ -129,7 +127,7 @@ class RecordSet(Judging):
         numbers = self._messages.extend(first, run.operations(), run.names, [b""] * len(run))
         if numbers is None:
             return False
-        self._records.extend(run, first, numbers)
+        self._records.extend_by_letters(run, first, numbers)
         self._words.come(first.text, run.names)
         return True
 

@@ -58,26 +58,43 @@ class Records(Hashes):
         _note(self._having, new, number)
         return number
 
-    def extend(self, these: Letters, first: Record, messages: range) -> None:
-        """Adds letters, of which this is the first record, with the numbers of their messages, which are the last ones."""
+    def extend(self, rows: Sequence[Row], entries: Sequence[Record], messages: range) -> None:
+        """Adds records of messages that follow one another, with the numbers of their messages, which are the last ones."""
+        number, tail = len(self), self._form.tail
+        sizes = [one.size for one in entries]
+        self._firsts.extend([one.first for one in entries])
+        self._places.extend([row.place for row in rows])
+        self._made += bytes([row.made for row in rows])
+        self._types_on += bytes([row.types_on for row in rows])
+        self._add_columns(entries[0], [one.hash for one in entries], [tail(one.raw) + one.body for one in entries], sizes, messages)
+        self._having.extend([at for at, size in enumerate(sizes, number + 1) for _ in range(size)])
+
+    def extend_by_letters(self, these: Letters, first: Record, messages: range) -> None:
+        """The same with letters, of which this is the first record."""
         number, many, tail = len(self), len(these), self._form.tail_bytes
-        numbers = range(number, number + many)
-        self._hashes += b"".join(these.hashes)
-        self._of.setdefault((first.site, first.author), array("I")).extend(numbers)
-        self._whose.extend([self._client(Whose(first.author, first.site, first.text))] * many)
-        self._kinds += these.kinds
+        self._firsts.extend(these.firsts)
+        self._places.extend(these.places)
         self._made += bytes([these.made]) * many
         self._types_on += these.types_on
-        self._firsts.extend(these.firsts)
-        self._sizes.extend(these.sizes)
-        self._places.extend(these.places)
-        self._lasts.extend(messages)
-        kept, begin = [raw[len(raw) - tail:] + body for raw, body in zip(these.raws, these.bodies)], len(self._kept)
+        kept = [raw[len(raw) - tail:] + body for raw, body in zip(these.raws, these.bodies)]
+        self._add_columns(first, these.hashes, kept, these.sizes, messages)
+        self._having.extend(range(number + 1, number + many + 1))
+
+    def _add_columns(self, first: Record, hashes: Sequence[bytes], kept: Sequence[bytes], sizes: Sequence[int], messages: range) -> None:
+        """Adds of records of one author, number and text their hashes, what can't be computed again, and their messages, which nobody had
+        before."""
+        number, many = len(self), len(hashes)
+        self._hashes += b"".join(hashes)
+        self._of.setdefault((first.site, first.author), array("I")).extend(range(number, number + many))
+        self._whose.extend([self._client(Whose(first.author, first.site, first.text))] * many)
+        self._kinds += bytes([first.kind]) * many
+        self._sizes.extend(sizes)
+        self._lasts.extend(accumulate(sizes[1:], initial=messages.start + sizes[0] - 1))
+        begin = len(self._kept)
         self._kept += b"".join(kept)
         self._ends.extend([begin + end for end in accumulate(map(len, kept))])
-        self._enter(these.hashes, number)
+        self._enter(hashes, number)
         self._having.extend([0] * (messages.start - len(self._having)))
-        self._having.extend(range(number + 1, number + many + 1))
 
     def add_base(self, number: int, messages: Sequence[int]) -> None:
         """Notes that a record is the first that has messages of the base."""
