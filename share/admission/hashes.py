@@ -25,6 +25,19 @@ class Hashes:
         found = self._index[self._seat(of, hash(of) & MARK_MASK)]
         return (found & NUMBER_MASK) - 1 if found else None
 
+    def has_any(self, hashes: Iterable[bytes]) -> bool:
+        """Whether one of some hashes is here."""
+        index, mask = self._index, self._mask
+        for of in hashes:
+            mark = hash(of) & MARK_MASK
+            seat = mark >> NUMBER_BITS & mask
+            # As in `_seat`: to call that for each takes longer than all the rest.
+            while found := index[seat]:
+                if found & MARK_MASK == mark and self.hash((found & NUMBER_MASK) - 1) == of:
+                    return True
+                seat = seat + 1 & mask
+        return False
+
     def hash(self, number: int) -> bytes:
         """The hash that has a number."""
         return bytes(self._hashes[HASH_BYTES * number:HASH_BYTES * (number + 1)])

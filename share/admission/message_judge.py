@@ -132,13 +132,13 @@ class MessageJudge:
         client, sayings = Whose(begin.author, begin.site, begin.text), self.sayings
         if not self.has_begun or self.holder(client.site) != client.author:
             return None
-        text, number = self._text(client.text), sayings.number
+        text = self._text(client.text)
         end = text.end(client.site)
         place = (NO_HASH, 1) if end is None else (sayings.hash(end), sayings.seq(end) + 1)
-        if (begin.before, begin.first) != place or client.site in text.passage.blocked or client.site in text.passage.ended or any(
-                number(of) is not None for of in hashes):
+        if (begin.before, begin.first) != place or client.site in text.passage.blocked or client.site in text.passage.ended or (
+                sayings.has_any(hashes)):
             return None
-        numbers = self.sayings.extend(client, end, operations, hashes, ons)
+        numbers = sayings.extend(client, end, operations, hashes, ons)
         text.extend(client.site, numbers)
         return numbers
 
