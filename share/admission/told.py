@@ -182,10 +182,10 @@ class ToldOfMessages:
         """The stretches of messages, from a seq on, that don't count in another branch; looked at again once they may."""
         one = self._judge.texts.get(twig.text)
         line = one.lines.get(twig.site) if one else None
+        if line is None or line.front < twig.last:
+            self._beyond.setdefault((twig.site, twig.text), []).append(twig)
         if line is None:
             return [(begin, twig.last)]
-        if line.front < twig.last:
-            self._beyond.setdefault((twig.site, twig.text), []).append(twig)
         left = [(begin, twig.last)]
         for seq in _equal(twig, line, begin, line.front):
             first, last = left.pop()

@@ -389,6 +389,19 @@ class LeftOutByOnesOwnKey(unittest.TestCase):
         self.assertEqual(self.told(), [(2, 5, 6, 2)])
 
 
+class WithTheSameMessages(unittest.TestCase):
+    """Somebody writes under a number that another one holds, who has written nothing yet."""
+
+    def test_it_is_told_until_the_holder_has_the_same(self) -> None:
+        form, opening, _ = founded(bytes([1]) * 32)
+        judge, (own, others) = RecordJudge([opening], form=form), (
+            Writer(form, Author(bytes([who]) * 32, b""), 1).type(b"ab") for who in (1, 2))
+        handed(judge, others)
+        self.assertEqual(sum(one.messages for one in judge.left_out()), 2)
+        handed(judge, own)
+        self.assertEqual(judge.left_out(), [])
+
+
 class WithRoom(unittest.TestCase):
     """How much of what doesn't count is in memory."""
 
