@@ -126,8 +126,8 @@ class RecordChains(RecordSet):
             self._in_texts[text] = state, self._told.in_text(text)
         return self._in_texts[text][1]
 
-    def _twig(self, entry: Entry) -> Twig:
-        """A record's messages, which are here."""
+    def _twig(self, entry: Entry) -> Twig | None:
+        """Those of a record's messages that are here; none are of one that was withdrawn."""
         assert isinstance(entry, Record)
         numbers = [number for of in entry.hashes if (number := self._message(of)) is not None]
-        return Twig(self._sayings, Whose(entry.author, entry.site, entry.text), numbers, None)
+        return Twig(self._sayings, Whose(entry.author, entry.site, entry.text), numbers, None) if numbers else None

@@ -30,11 +30,14 @@ class RecordJudge(RecordChains):
 
     def is_copied(self, entry: Entry, seq: int) -> bool:
         copies = self.copies_in(entry.text)
-        return copies.speak_of(entry.author, entry.site) and any(
-            first <= seq <= last for first, last in copies.stretches(self._twig(entry), self._in_text(entry.text)))
+        some = self._twig(entry) if copies.speak_of(entry.author, entry.site) else None
+        return some is not None and any(
+            first <= seq <= last for first, last in copies.stretches(some, self._in_text(entry.text)))
 
     def not_copied(self, entry: Entry) -> list[Operation]:
         some = self._twig(entry)
+        if some is None:
+            return [*entry.messages]
         left = without_copied([(some.first, some.last)], some, self.copies_in(entry.text), self._in_text(entry.text))
         return [message for message in some.messages if any(first <= message.seq <= last for first, last in left)]
 

@@ -383,6 +383,13 @@ class LeftOutByOnesOwnKey(unittest.TestCase):
                          [False, True, True, True, False, False])
         self.assertEqual([len(self.judge.not_copied(record)) for record in self.first.made], [1, 0, 0, 0, 1, 1])
 
+    def test_nothing_is_said_of_what_was_withdrawn(self) -> None:
+        handed(self.judge, [*self.first.made, *self.other.made])
+        withdrawn = self.first.type(b"g")[0]
+        handed(self.judge, [self.form.made_anew(self.first.made[3], self.bob)])
+        self.assertFalse(self.judge.is_copied(withdrawn, withdrawn.first))
+        self.assertEqual(self.judge.not_copied(withdrawn), [*withdrawn.messages])
+
     def test_who_made_it_anew_says_so(self) -> None:
         handed(self.judge, [*self.first.made, *self.other.made])
         handed(self.judge, [self.form.made_anew(self.first.made[3], self.bob)])
