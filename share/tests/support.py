@@ -19,7 +19,7 @@ from share.admission.judge import Judge
 from share.format.chunk import packed_in_parts
 from share.format.entry import NO_HASH, Author, BuiltOn, Entry, Form, Plain
 from share.format.operation import Operation
-from share.format.second.claim import found_among
+from share.format.second.claim import CLAIMED_BYTES, found_among, rank_of
 from share.format.second.form import RecordForm
 from share.format.second.key_link import link_of
 from share.format.second.record import RECORD_HEAD, Record
@@ -357,8 +357,13 @@ def claim_order(claim: Entry) -> bytes:
 
 
 def claim_against(form: Form, own: Entry) -> Entry:
-    """A claim of a stranger that holds against another one."""
-    return next(one for one in (claim_of(form, own.site) for _ in itertools.count()) if claim_order(one) < claim_order(own))
+    """A claim of a stranger that holds against another one. It takes long where that one's rank is small, and so only ranks are made."""
+    if not isinstance(form, RecordForm):
+        return next(one for one in (claim_of(form, own.site) for _ in itertools.count()) if claim_order(one) < claim_order(own))
+    author, held = form.new_author(), claim_order(own)
+    counters = itertools.count(random.getrandbits(48))
+    return form.claim(own.site, author, next(
+        counter for counter in counters if held[:CLAIMED_BYTES] <= rank_of(form.note, author.name, counter) < held))
 
 
 def ons_of(entry: Entry) -> BuiltOn:
