@@ -11,7 +11,7 @@ from share.format.entry import Bad, digests
 from share.format.keystrokes import End
 from share.format.operation import INSERT, PLAIN_LOOKS, Operation
 from share.format.second.form import RecordForm
-from share.format.second.record import NO_ONS, RECORD_HEAD, RecordKind, hashes_of
+from share.format.second.record import NO_ONS, RECORD_HEAD, RecordKind, message_hashes
 from share.store.chained import LEAST_CHAINED, KeptEntry
 
 RECORD_HEAD_WITHOUT_NOTE = struct.Struct(">xB16x32sHBIH32s")
@@ -72,7 +72,7 @@ def _letters(form: RecordForm, portion: Sequence[KeptEntry], kept: Kept) -> Iter
 def _together(form: RecordForm, portion: Sequence[KeptEntry], kept: Kept, begin: int, operation: Operation) -> Letters:
     """The rows from one on that have these letters; raises an error where one doesn't name the one before it."""
     of, (_, author, *_, before) = slice(begin, begin + operation.size), kept.heads[begin]
-    names = hashes_of(form.keys, author, before, [operation], {})
+    names = message_hashes(form.keys, author, before, [operation], {})
     if [before, *names[:-1]] != [head[-1] for head in kept.heads[of]]:
         raise ValueError("doesn't follow")
     return Letters(form, [one[0] for one in portion[of]], kept.hashes[of], kept.raws[of], kept.bodies[of], kept.made[begin], operation,

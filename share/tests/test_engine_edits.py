@@ -350,7 +350,7 @@ class Wrong(Engines):
 
     def test_without_a_number_nothing_can_be_typed(self) -> None:
         first = self.editor("ada", log=self.file_log())
-        wait_for(lambda: (first.read(0.02), first.notices("state")[-1]["types"])[1], "a number")
+        first.wait_for(lambda: first.notices("state") and first.notices("state")[-1]["types"], "a number")
         link = self.person("ada").link()
         os.rename(self.folder / "shared", self.folder / "away")
         (self.folder / "shared").write_bytes(b"")

@@ -248,7 +248,7 @@ with_folder('a note is opened by its name, and by a session', function(open, fol
   again:quit()
   again = Child.started(folder, 'Ada')
   again:type(':edit vialshoal://picnic<CR>')
-  support.wait(function() return again:run('return v.note() ~= nil and v.note().is_open') end)
+  support.wait(function() return again:run('return v.note() ~= nil and v.note().is_open and vim.bo.modifiable') end)
   again:type('Gothree<Esc>')
   again:shows('one\ntwo\nthree')
   support.wait(function() return again:is_quiet() end)

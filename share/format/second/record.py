@@ -162,7 +162,7 @@ def record_of(keys: NoteKeys, raw: bytes, body: bytes, of: bytes) -> Record:
     kind, hashes = RECORD_KINDS.get(number, RecordKind.NEWER), tuple[bytes, ...]()
     if kind is RecordKind.MESSAGES:
         begin = _chunk_begin(body)
-        hashes = hashes_of(keys, author, before, unpacked(body[begin:], text), _ons_by_index(body) if begin > MANY_ONS.size else {})
+        hashes = message_hashes(keys, author, before, unpacked(body[begin:], text), _ons_by_index(body) if begin > MANY_ONS.size else {})
     return Record(kind, author, site, text, first, size if kind is not RecordKind.NEWER else 0, before, body, raw, of, hashes)
 
 
@@ -184,7 +184,7 @@ def checked(keys: NoteKeys, public: bytes, raw: bytes, body: bytes, zero_bits: i
             raise Bad("begins where something is before it, or goes on where nothing is")
         ons = _checked_ons(body, size)
         operations = _checked_chunk(body[_chunk_begin(body):], site, text, first, size)
-        return Record(kind, author, site, text, first, size, before, body, raw, of, hashes_of(keys, author, before, operations, ons))
+        return Record(kind, author, site, text, first, size, before, body, raw, of, message_hashes(keys, author, before, operations, ons))
     one = Record(kind, author, site, text, first, size, before, body, raw, of)
     if kind is RecordKind.BASE:
         if author != public:
@@ -200,7 +200,7 @@ def body_of_messages(chunk: bytes, ons: Mapping[int, bytes]) -> bytes:
     return MANY_ONS.pack(len(ons)) + b"".join(ON_FIELD.pack(index, ons[index]) for index in sorted(ons)) + chunk
 
 
-def hashes_of(keys: NoteKeys, author: bytes, before: bytes, operations: Iterable[Operation], ons: Mapping[int, bytes]) -> tuple[bytes, ...]:
+def message_hashes(keys: NoteKeys, author: bytes, before: bytes, operations: Iterable[Operation], ons: Mapping[int, bytes]) -> tuple[bytes, ...]:
     """The hash of each of an author's messages after the one that has a hash."""
     if not ons:
         return tuple(keys.hashes_after(author, before, (message for operation in operations for message in operation.spellings())))
