@@ -14,7 +14,7 @@ from share.engine.engine import Engine
 from share.store import notes
 from share.sync.session import Session
 from share.tests.editors import PATIENCE, Editor, Engines
-from share.tests.support import NOTE, wait_for
+from share.tests.support import NOTE
 from share.text.errors import Trouble
 from share.text.line import Line
 

@@ -200,7 +200,8 @@ def body_of_messages(chunk: bytes, ons: Mapping[int, bytes]) -> bytes:
     return MANY_ONS.pack(len(ons)) + b"".join(ON_FIELD.pack(index, ons[index]) for index in sorted(ons)) + chunk
 
 
-def message_hashes(keys: NoteKeys, author: bytes, before: bytes, operations: Iterable[Operation], ons: Mapping[int, bytes]) -> tuple[bytes, ...]:
+def message_hashes(keys: NoteKeys, author: bytes, before: bytes, operations: Iterable[Operation],
+                   ons: Mapping[int, bytes]) -> tuple[bytes, ...]:
     """The hash of each of an author's messages after the one that has a hash."""
     if not ons:
         return tuple(keys.hashes_after(author, before, (message for operation in operations for message in operation.spellings())))
