@@ -50,7 +50,8 @@ impl<V> SiteMap<V> {
 
     /// The site at this place, from 0, among those that have a value.
     pub fn site_at(&self, place: usize) -> Option<SiteNo>
-        ensures { IfSome (slice_get self.now place) (λ v. 0 < v.0 → result ≡ Some v.0) }
+        ensures some { IfSome (slice_get self.now place) (λ v. 0 < v.0 → result ≡ Some v.0) }
+        ensures none { IfNone (slice_get self.now place) (result ≡ None) }
     {
         SiteNo::new(*self.values.get_index(place)?.0)
     }

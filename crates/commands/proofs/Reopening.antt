@@ -8,7 +8,7 @@ use Rattle.operations.specs.Operation.{Operation}
 use Rattle.shelf.specs.Files.{Counts, Files, HasFile, IsThere, SameFiles}
 use Rattle.texts.specs.Taking.{HasTakenAll}
 use Rattle.texts.specs.Text.{IsText}
-use Rattle.texts.specs.TextState.{TextState, all_told, empty_text}
+use Rattle.texts.specs.TextState.{TextState, all_told, empty_text, noting}
 use Rattle.texts.specs.declared.edit_refusal.EditRefusal.{EditRefusal}
 use Rattle.texts.specs.declared.edit_refusal.EditRefusal.TheVariants.{Whole}
 use Rattle.kept_file.specs.KeptFiles.{IsKeptFileOf, IsNoKeptFile}
@@ -34,7 +34,7 @@ none_taken [] waiting fresh = refl
 none_taken (op ∷ ops) waiting fresh = absurd (grind (arith, fresh))
 
 -- a text that begins as it was kept grows by that
-pub kept_grows : (t kept : TextState) → IsText t → text_has_begun t ≡ false → t.asked ≡ length t.operations
+pub kept_grows : (t kept : TextState) → IsText t → text_has_begun t ≡ false → t.asked ≡ noting (length t.operations)
     → HasTakenAll (empty_text kept.text kept.site) kept.operations kept → Grows t kept
 kept_grows t kept is fresh told taken =
     let none : t.operations ≡ [] = none_taken t.operations t.waiting_room fresh in record {
@@ -42,7 +42,7 @@ kept_grows t kept is fresh told taken =
       is = taken.is;
       more = kept.operations;
       taken = ap (λ (ops : List Operation). ops ++ kept.operations) (sym none);
-      asked = ap (λ (x : TextState). x.asked) taken.grown ∙ ap (λ (ops : List Operation). length ops) (sym none) ∙ sym told;
+      asked = ap (λ (x : TextState). x.asked) taken.grown ∙ ap (λ (ops : List Operation). noting (length ops)) (sym none) ∙ sym told;
     }
 
 -- so does a desk's text in the place of which it is put

@@ -5,7 +5,7 @@ use Rattle.looks.specs.declared.refusal.Refusal.TheVariants.{ReadFault, WriteFau
 use Rattle.reader_scanner.specs.declared.token.TokenValue.{TokenValue}
 use Rattle.command_words.specs.declared.command.Command.{Command}
 use Rattle.shelf.specs.Files.{Counts, Files}
-use Rattle.texts.specs.TextState.{TextState}
+use Rattle.texts.specs.TextState.{TextState, noting}
 use Rattle.texts.specs.declared.edit_refusal.EditRefusal.{EditRefusal}
 use Rattle.texts.specs.declared.edit_refusal.EditRefusal.TheVariants.{Whole}
 use Rattle.texts.specs.declared.merge_refusal.MergeRefusal.{MergeRefusal}
@@ -27,7 +27,7 @@ pub record DeskSeen : Type 0 where
 
 -- each text of the desk has told its changes
 abbrev pub AreTold : SiteTexts → Type 0
-AreTold d = (text : ℕ) (t : TextState) → IsTextOf d text t → t.asked ≡ length t.operations
+AreTold d = (text : ℕ) (t : TextState) → IsTextOf d text t → t.asked ≡ noting (length t.operations)
 
 -- the desk stands in the run at this index
 abbrev pub StandsIn : State → ℕ → DeskSeen → Type 0

@@ -5,7 +5,7 @@ ghost use Rattle.looks.specs.declared.refusal.Refusal.TheVariants.{FileSpent, No
 ghost use Rattle.operations.specs.Spelling.{spelling};
 ghost use Rattle.texts.specs.Edit.{deletion, insertion, looks_change, recalling, restoration};
 ghost use Rattle.texts.specs.Text.{IsText};
-ghost use Rattle.texts.specs.TextState.{TextState, shown_of};
+ghost use Rattle.texts.specs.TextState.{TextState, noting, shown_of};
 ghost use Rattle.texts.specs.declared.edit_refusal.EditRefusal.TheVariants.{Whole};
 ghost use Rattle.machine.specs.SiteTexts.{IsTextOf, fresh_texts};
 ghost use Rattle.machine.specs.Events.{arrange, ask, copy, edit, edit_by_names, print, insert_at_caret, query, settle, settles, unpack, unpack_reply};
@@ -276,7 +276,7 @@ impl Desk {
     /// gets it by calling this, at no cost.
     pub fn lemma_has_text(&self, text: TextNo)
         requires { text ≤ MAX_TEXT }
-        ensures { (t : TextState) × IsTextOf self.now.texts text t × IsText t × (t.asked ≡ length t.operations) }
+        ensures { (t : TextState) × IsTextOf self.now.texts text t × IsText t × (t.asked ≡ noting (length t.operations)) }
     {
         self.texts.lemma_has_text(text);
     }

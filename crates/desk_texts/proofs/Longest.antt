@@ -8,6 +8,7 @@ use Rattle.char_files.specs.declared.character.Char.{Char}
 use Rattle.operations.specs.NameSet.{Range, names_of}
 use Rattle.texts.specs.Text.{IsText}
 use Rattle.texts.specs.TextState.{TextState, shown_of}
+use Rattle.texts.proofs.Walking.{next_at}
 use Rattle.machine.specs.WhereShown.{shown_at, shown_ranges}
 use Rattle.desk_texts.proofs.Standing.{StandsAt, found, told}
 use Rattle.desk_texts.proofs.Stands.{Apart, apart, one_stretch}
@@ -56,17 +57,6 @@ longest t is names pos (suc len) are some few ends =
     parted (suc n) last =
         apart (shown_of t) names.site (names.at + suc len) (suc n) (pos + suc len)
         (λ there. last (omega arith) (found (shown_of t) (record { site = names.site; off = names.at + suc len }) (pos + suc len) there))
-
--- what a walk has next stands where it is
-next_at : {X : Type 0} (n : ℕ) (xs rest : List X) (x : X) → drop n xs ≡ x ∷ rest
-    → (slice_get xs n ≡ Some x) × (drop (n + 1) xs ≡ rest)
-next_at zero [] rest x at = absurd cc
-next_at {X = X} zero (y ∷ xs) rest x at = (ap (λ (l : List X). slice_get l 0) at, ap (λ (l : List X). drop 1 l) at)
-next_at (suc n) [] rest x at = absurd cc
-next_at {X = X} (suc n) (y ∷ xs) rest x at =
-    let (here, left) = next_at n xs rest x at in
-    let next : suc n + 1 ≡ suc (n + 1) = omega arith in
-    (here, ap (λ (k : ℕ). drop k (y ∷ xs)) next ∙ left)
 
 -- what stands in a part of a list stands in the list
 pub of_front : {X : Type 0} (n k : ℕ) (xs : List X) (x : X) → slice_get (take n xs) k ≡ Some x → slice_get xs k ≡ Some x

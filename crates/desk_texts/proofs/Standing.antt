@@ -1,13 +1,12 @@
 -- Where a name is shown: at one position, directly before its place.
-use Rattle.std.proofs.Common.{◌≡◌, ℕ, zero, suc, ◌+◌, ◌-◌, ◌≤◌, ◌==◌, ◌&&◌, List, [], ◌∷◌, length, map, Option, Some, None}
+use Rattle.std.proofs.Common.{◌≡◌, ℕ, zero, suc, ◌+◌, ◌-◌, ◌==◌, ◌&&◌, List, length, map, Option, Some, None}
 use Rattle.std.proofs.Common.{Bool, true, false, cond, if◌then◌else◌, ne_eqb, slice_get, inl, inr, refl, sym, ap, subst, ◌∙◌, arith}
-use Rattle.std.specs.List.{filter, position_or_len}
+use Rattle.std.specs.List.{position_or_len}
 use Rattle.std.specs.Option.{option_map, option_map_or}
 use Rattle.std.proofs.lemmas.Bool.{and_parts, cases_lt, eqb-true, lt-ltb, true≢false}
 use Rattle.std.proofs.lemmas.List.Elements.{All-contains}
 use Rattle.std.proofs.lemmas.List.Quantifiers.{position-Some}
-use Rattle.std.proofs.lemmas.List.Sums.{fails_before_first, length-filter}
-use Rattle.std.proofs.lemmas.List.{length-map}
+use Rattle.std.proofs.lemmas.List.Sums.{fails_before_first}
 use Rattle.std.proofs.lemmas.Option.{get_or_from_slice_get, slice_get-map, slice_get_within}
 use Rattle.looks.specs.Looks.{plain_looks}
 use Rattle.char_files.specs.CharName.{CharName}
@@ -15,7 +14,7 @@ use Rattle.char_files.specs.declared.character.Char.{Char}
 use Rattle.char_files.specs.declared.name.Anchor.{Anchor}
 use Rattle.char_files.specs.declared.name.Anchor.TheVariants.{At, Root}
 use Rattle.operations.proofs.WithName.{same_name}
-use Rattle.tree_order.specs.Shown.{IsPlace, IsShown, is_visible, place, up_to}
+use Rattle.tree_order.specs.Shown.{IsPlace, IsShown, place}
 use Rattle.tree_order.specs.Tree.{IsChar}
 use Rattle.tree_order.proofs.OneText.{one_order}
 use Rattle.tree_order.proofs.PlaceOfShown.{place_is_after}
@@ -76,21 +75,6 @@ module _ (chars : List Char) (name : CharName) where
       go None told nowhere there = absurd (nowhere told)
       go (Some p) told nowhere there = told ∙ ap (λ (k : ℕ). Some k) (there p told)
 
--- as many pass up to a name as pass in all, or fewer
-few : (passes : CharName → Bool) (name : CharName) (order : List CharName)
-    → length (filter passes (up_to name order)) ≤ length (filter passes order)
-few passes name [] = omega arith
-few passes name (d ∷ order) = go (passes d) (d.site == name.site && d.off == name.off) (few passes name order)
-  where
-    go : (here same : Bool) → length (filter passes (up_to name order)) ≤ length (filter passes order)
-        → length (cond here (d ∷ filter passes (cond same [] (up_to name order)))
-        (filter passes (cond same [] (up_to name order))))
-        ≤ length (cond here (d ∷ filter passes order) (filter passes order))
-    go true true rest = omega arith
-    go true false rest = omega (arith, rest)
-    go false true rest = omega arith
-    go false false rest = rest
-
 -- what stands before a position of what is shown
 after : (shown : List Char) (q : ℕ)
     → anchor_before shown (suc q) ≡ option_map_or (λ c. At c.name) (slice_get shown q) Root
@@ -144,19 +128,6 @@ module _ (t : TextState) (is : IsText t) (name : CharName) where
             ∙ ap (λ (c : CharName). Some c) here.named,
         refl,
       ))
-
-  -- a place is one of those that the text has
-  pub place_within : (n : ℕ) → IsPlace t.operations (At name) n → n ≤ length (shown_of t)
-  place_within n (order, in_order, at) =
-      omega (
-        arith,
-        at,
-        length-filter (is_visible t.operations) (up_to name order),
-        few (is_visible t.operations) name order,
-        ap length (defined.visible
-            ∙ ap (filter (is_visible t.operations)) (one_order t.operations is.good defined.order order defined.in_order in_order)),
-        length-map shown (λ (s : Char). s.name),
-      )
 
   is_char : (q : ℕ) → StandsAt shown name q → IsChar t.operations name
   is_char q here =

@@ -3,10 +3,10 @@ ghost use Rattle.std.specs.Prelude.{◌≡◌, ◌≤◌, [], map, length, IfErr
 ghost use Rattle.looks.specs.Looks.{plain_looks};
 ghost use Rattle.looks.specs.Refusal.{RefusedForMemoryAlone};
 ghost use Rattle.operations.specs.Spelling.{spelling};
-ghost use Rattle.taken_text.specs.Noted.{AreChangesSince};
+ghost use Rattle.texts.specs.Changes.{TellsOfChanges};
 ghost use Rattle.texts.specs.Edit.{deletion, insertion, looks_change, recalling, restoration};
 ghost use Rattle.texts.specs.Text.{IsText};
-ghost use Rattle.texts.specs.TextState.{TextState, all_told, shown_of, with_room};
+ghost use Rattle.texts.specs.TextState.{TextState, all_told, with_room};
 ghost use Rattle.texts.specs.contracts.replica.Replica.{the_row as replica_row};
 ghost use Rattle.machine.specs.SiteTexts.{InText, IsTextOf, fresh_texts, with_text};
 ghost use Rattle.machine.specs.OnTexts.{CopiesSite, EditsNamesSite, EditsSite, MergesSite, QueriesSite, RefusesQuery, SettlesSite};
@@ -272,8 +272,7 @@ impl Texts {
     /// What changed of what a text shows since this was last asked for, as its replica tells. It takes no memory.
     pub fn changes(&mut self, text: TextNo) -> Vec<Change>
         requires on_desk { text ≤ MAX_TEXT }
-        ensures told { (t : TextState) × IsTextOf self.old text t
-            × AreChangesSince t.asked t.operations result.items (shown_of t) }
+        ensures told { (t : TextState) × IsTextOf self.old text t × TellsOfChanges t result.items }
         ensures asked { InText (λ t new. new ≡ all_told t) self.old text self.new }
     {
         self.replica_mut(text).changes()

@@ -12,10 +12,11 @@ use Rattle.char_files.specs.declared.name.Anchor.{Anchor}
 use Rattle.tree_order.specs.Tree.{IsChar}
 use Rattle.list_changes.specs.Changes.{Leads}
 use Rattle.list_changes.specs.declared.change.Change.{Change}
-use Rattle.taken_text.specs.Noted.{AreChangesSince, SameChar}
+use Rattle.taken_text.specs.Noted.{SameChar}
 use Rattle.texts.specs.Edit.{anchor_before}
 use Rattle.texts.specs.Laws.{KeepsTheOrder}
 use Rattle.texts.specs.Text.{IsAnchor, IsText}
+use Rattle.texts.specs.Changes.{TellsOfChanges}
 use Rattle.texts.specs.TextState.{TextState, shown_of}
 use Rattle.machine.specs.SiteTexts.{SiteTexts, IsTextOf}
 use Rattle.machine.specs.Windows.{Arranged, Caret, Screened, Selected, Window, place_in, window_of as shown_in}
@@ -154,8 +155,7 @@ AreToldOnce number changes now old new = (v : ℕ) (x : WindowSeen) → content_
 -- the windows are told once of what changed of a text since its changes were last asked for
 abbrev pub AreToldOfText : (d : SiteTexts) → (number : ℕ) → (d' : SiteTexts) → (old new : ViewersSeen WindowSeen) → Type 0
 AreToldOfText d number d' old new = (changes : List Change) × (t now : TextState) × IsTextOf d number t
-    × AreChangesSince t.asked t.operations changes (shown_of t) × IsTextOf d' number now
-    × AreToldOnce number changes now old new
+    × TellsOfChanges t changes × IsTextOf d' number now × AreToldOnce number changes now old new
 
 -- a call comes to what the machine says: its answer, and the screen then; a refusal leaves all as it was
 pub record ComesTo {R : Type 0} (out : Arranged) (old : WindowsSeen) (number : R → Option ℕ) (result : Result R Refusal) (new : WindowsSeen) : Type 0 where

@@ -9,7 +9,7 @@ use Rattle.operations.specs.Operation.{Operation}
 use Rattle.set_laws.specs.Sets.{AreIdentified, IsPartOf}
 use Rattle.texts.specs.Laws.{OwnEditsArePlain}
 use Rattle.texts.specs.Text.{IsText}
-use Rattle.texts.specs.TextState.{TextState, all_told, with_room}
+use Rattle.texts.specs.TextState.{TextState, all_told, noting, told_to, with_room}
 use Rattle.convergence.proofs.OneWay.{text_with_room}
 use Rattle.machine.specs.SiteTexts.{SiteTexts, InText, IsTextOf}
 use Rattle.machine.specs.OnTexts.{CopiesText, CopiesTextShort, EditsNames, EditsNamesShort, EditsText, EditsTextShort, MergesText, MergesTextShort}
@@ -39,8 +39,8 @@ set_still (v ∷ xs) (suc i) (suc j) x y at = set_still xs i j x y at
 
 -- a text that is what its operations define and has told its changes goes on so, and holds what it held
 abbrev pub Follows : TextState → TextState → Type 0
-Follows t u = IsText t → t.asked ≡ length t.operations
-    → IsText u × (u.asked ≡ length u.operations) × IsPartOf t.operations u.operations
+Follows t u = IsText t → t.asked ≡ noting (length t.operations)
+    → IsText u × (u.asked ≡ noting (length u.operations)) × IsPartOf t.operations u.operations
 
 same_follows : (t : TextState) → Follows t t
 same_follows t is told = (is, told, λ op held. held)
@@ -61,9 +61,9 @@ grown_follows : (Does' : TextState → TextState → Type 0) → ((t u : TextSta
     → (t u : TextState) → Tells Does' t u → Follows t u
 grown_follows Does' grow t u (t', does, is_u) is told =
     let grows = grow t t' does is in
-    subst (λ (x : TextState). IsText x × (x.asked ≡ length x.operations) × IsPartOf t.operations x.operations) (sym is_u) (
+    subst (λ (x : TextState). IsText x × (x.asked ≡ noting (length x.operations)) × IsPartOf t.operations x.operations) (sym is_u) (
       text_parameter t' grows.is,
-      refl,
+      ap (told_to (length t'.operations)) (grows.asked ∙ told),
       λ op held. subst (λ (ops : List Operation). Contains ops op) (sym grows.taken)
           (Contains-append_left t.operations grows.more op held),
     )
@@ -71,19 +71,22 @@ grown_follows Does' grow t u (t', does, is_u) is told =
 -- so does one whose room is emptied
 emptied_follows : AreIdentified [] → (t u : TextState) → Tells (λ t u. u ≡ with_room t []) t u → Follows t u
 emptied_follows none t u (t', is_t', is_u) is told =
-    subst (λ (x : TextState). IsText x × (x.asked ≡ length x.operations) × IsPartOf t.operations x.operations)
+    subst (λ (x : TextState). IsText x × (x.asked ≡ noting (length x.operations)) × IsPartOf t.operations x.operations)
     (sym (is_u ∙ ap all_told is_t')) (
       text_parameter (with_room t [])
           (text_with_room t [] is (record { of_text = All-nil _; identified = none; few = omega arith })),
-      refl,
+      ap (told_to (length t.operations)) told,
       λ op held. held,
     )
 
 -- and a text in which nothing was done, and that began anew
 begun_follows : (ops : List Operation) (t u : TextState) → Tells (Begins ops) t u → Follows t u
 begun_follows ops t u (t', (fresh, taken), is_u) is told =
-    subst (λ (x : TextState). IsText x × (x.asked ≡ length x.operations) × IsPartOf t.operations x.operations) (sym is_u)
-    (text_parameter t' taken.is, refl, held_nothing t t'.operations fresh)
+    subst (λ (x : TextState). IsText x × (x.asked ≡ noting (length x.operations)) × IsPartOf t.operations x.operations) (sym is_u) (
+      text_parameter t' taken.is,
+      ap (λ (x : TextState). told_to (length t'.operations) x.asked) taken.grown,
+      held_nothing t t'.operations fresh,
+    )
 
 module _ (plain : OwnEditsArePlain) (none : AreIdentified []) (s : State) where
   -- in whichever way it goes on

@@ -14,7 +14,7 @@ use Rattle.tree_order.proofs.SameSet.{char}
 use Rattle.set_laws.specs.Sets.{AreIdentified, IsPartOf}
 use Rattle.texts.specs.Laws.{OwnEditsArePlain}
 use Rattle.texts.specs.Text.{IsAnchor, IsText}
-use Rattle.texts.specs.TextState.{TextState}
+use Rattle.texts.specs.TextState.{TextState, noting}
 use Rattle.machine.specs.SiteTexts.{SiteTexts, IsTextOf}
 use Rattle.machine.specs.State.{IsDeskAt, State, new_state}
 use Rattle.machine.specs.Windows.{Caret, Screened, Window, blank_screen, window_of}
@@ -36,7 +36,7 @@ anchor_more (At c) ops ops' part is = char ops ops' part c is
 
 -- a desk's texts are what their operations define, and have told their changes
 abbrev HasSoundTexts : SiteTexts → Type 0
-HasSoundTexts d = (n : ℕ) (t : TextState) → IsTextOf d n t → IsText t × (t.asked ≡ length t.operations)
+HasSoundTexts d = (n : ℕ) (t : TextState) → IsTextOf d n t → IsText t × (t.asked ≡ noting (length t.operations))
 
 module _ (d d' : SiteTexts) (w : Screened) (sound : HasSoundTexts d) (follow : SiteFollows d d') where
   -- a viewer shows what became of its text
@@ -168,7 +168,7 @@ blank_stands d width height = record {
 new_told : (first count width height : ℕ) (files : Files) → HaveTold (new_state first count width height files)
 new_told first count width height files i text t there =
     let (number, site, is) = new_texts first count width height files i text t there in
-    subst (λ (x : TextState). x.asked ≡ length x.operations) is refl
+    subst (λ (x : TextState). x.asked ≡ noting (length x.operations)) is refl
 
 -- what is sound doesn't hang on the files
 over_other_files : (s : State) (now : Files) → IsSoundState s → IsSoundState (record s { files = now })

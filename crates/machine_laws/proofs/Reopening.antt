@@ -11,7 +11,7 @@ use Rattle.set_laws.specs.Sets.{AreIdentified, IsPartOf}
 use Rattle.set_laws.proofs.Closing.{nothing_is_identified}
 use Rattle.texts.specs.SiteFiles.{HasSiteFile}
 use Rattle.texts.specs.Taking.{HasTakenAll}
-use Rattle.texts.specs.TextState.{TextState, empty_text, text_state_of}
+use Rattle.texts.specs.TextState.{TextState, empty_text, noting, text_state_of}
 use Rattle.texts.proofs.Chars.{has_chars, one_chars}
 use Rattle.machine.specs.Tasks.{text_has_begun}
 use Rattle.machine_laws.proofs.Reaching.{no_name}
@@ -33,7 +33,7 @@ pub some_begun : (text site : ℕ) (ops : List Operation) → HasSiteFile text s
 some_begun text site ops has =
     let good : Good ops = subst Good (take-length ops) (has.in_order (length ops)) in
     let (chars, are) = has_chars ops good in (
-      text_state_of text site ops chars [] [] [] 0,
+      text_state_of text site ops chars [] [] [] (noting 0),
       record {
         is = record {
           good = good;

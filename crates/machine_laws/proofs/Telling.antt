@@ -3,7 +3,7 @@ use Rattle.std.proofs.Common.{◌≡◌, ℕ, zero, suc, ◌-◌, List, [], ◌�
 use Rattle.std.specs.Prelude.{slice_get, slice_set}
 use Rattle.std.proofs.lemmas.List.{set-get_or, set-set}
 use Rattle.std.proofs.lemmas.Option.{get_or_from_slice_get, none-some, same_Some}
-use Rattle.texts.specs.TextState.{TextState, all_told}
+use Rattle.texts.specs.TextState.{TextState, all_told, noting, told_to}
 use Rattle.machine.specs.SiteTexts.{SiteTexts, InText, IsTextOf, with_text}
 use Rattle.machine.specs.State.{Tells}
 
@@ -19,8 +19,10 @@ put_there (z ∷ xs) zero x y at = refl
 put_there (z ∷ xs) (suc i) x y at = put_there xs i x y at
 
 -- where a text has told its changes, telling them does nothing
-pub told_same : (t : TextState) → t.asked ≡ length t.operations → all_told t ≡ t
-told_same t told = λ k. record t { asked = sym told k }
+pub told_same : (t : TextState) → t.asked ≡ noting (length t.operations) → all_told t ≡ t
+told_same t told =
+    let asked : told_to (length t.operations) t.asked ≡ t.asked = ap (told_to (length t.operations)) told ∙ sym told in
+    λ k. record t { asked = asked k }
 
 -- what a text does, and what it tells then, is done by the desk that has it, as one
 pub tells_in : (Goes : TextState → TextState → Type 0) (d d' new : SiteTexts) (text : ℕ) → InText Goes d text d'

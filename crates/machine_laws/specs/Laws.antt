@@ -15,7 +15,7 @@ use Rattle.text_file.specs.Files.{IsFileOf, IsNoFile}
 use Rattle.text_file.specs.declared.TheConstants.{MAX_STORED}
 use Rattle.texts.specs.Edit.{Edit, insertion, recalling, shown_with}
 use Rattle.texts.specs.Text.{IsAnchor, IsText}
-use Rattle.texts.specs.TextState.{TextState, shown_items, shown_of}
+use Rattle.texts.specs.TextState.{TextState, noting, shown_items, shown_of}
 use Rattle.kept_file.specs.KeptFiles.{IsKeptFileOf, IsNoKeptFile, most_kept}
 use Rattle.texts.specs.declared.took.Took.TheVariants.{Taken}
 use Rattle.machine.specs.SiteTexts.{SiteTexts, IsTextOf}
@@ -48,7 +48,7 @@ AreTexts s = (i text : ℕ) (t : TextState) → IsTextAt s i text t → IsText t
 
 -- each text of each desk has told its changes
 abbrev pub HaveTold : State → Type 0
-HaveTold s = (i text : ℕ) (t : TextState) → IsTextAt s i text t → t.asked ≡ length t.operations
+HaveTold s = (i text : ℕ) (t : TextState) → IsTextAt s i text t → t.asked ≡ noting (length t.operations)
 
 -- a query of what the set of operations determines, now or up to fronts: all but those of a text's own fronts, with which is
 -- told how many operations wait, and of the order in which it took in

@@ -1,5 +1,5 @@
-ghost use Rattle.std.specs.Prelude.{◌≡◌, ◌+◌, ◌≤◌, ◌↔◌, [], ◌∷◌, ◌++◌, length, IfSome, IsSome, OnOk};
-ghost use Rattle.std.specs.Prelude.{◌≢◌, ◌<◌, All, AllPairs, Contains, IfOk, IsTrue, MatchBool, Some as Just, slice_get, ◌==◌, if◌then◌else◌};
+ghost use Rattle.std.specs.Prelude.{◌≡◌, ◌+◌, ◌≤◌, ◌↔◌, [], ◌∷◌, ◌++◌, length, IfNone, IfSome, IsSome, OnOk};
+ghost use Rattle.std.specs.Prelude.{◌≢◌, ◌<◌, All, AllPairs, Contains, IfOk, IsTrue, MatchBool, None as Nothing, Some as Just, slice_get, ◌==◌, if◌then◌else◌};
 ghost use Rattle.looks.specs.Refusal.{RefusedForMemoryAlone};
 ghost use Rattle.operations.specs.Letters.{letters};
 ghost use Rattle.operations.specs.Operation.{Operation, appended_len, Begins};
@@ -268,7 +268,8 @@ impl Log {
 
     /// The site at this place, from 0, among those that are known.
     pub fn site_at(&self, place: usize) -> Option<SiteNo>
-        ensures { IfSome (slice_get self.now.rooms place) (λ known. 0 < known.0 → result ≡ Just known.0) }
+        ensures some { IfSome (slice_get self.now.rooms place) (λ known. 0 < known.0 → result ≡ Just known.0) }
+        ensures none { IfNone (slice_get self.now.rooms place) (result ≡ Nothing) }
     {
         self.sites.site_at(place)
     }

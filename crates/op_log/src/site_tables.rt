@@ -1,5 +1,5 @@
 ghost use Rattle.std.specs.Prelude.{◌≡◌, ◌≢◌, ℕ, ◌+◌, ◌-◌, ◌<◌, ◌≤◌, ◌^◌, [], ◌∷◌, ◌++◌, length};
-ghost use Rattle.std.specs.Prelude.{slice_get, IfSome, OnOk, None as Nothing, Some as Just};
+ghost use Rattle.std.specs.Prelude.{slice_get, IfNone, IfSome, OnOk, None as Nothing, Some as Just};
 ghost use Rattle.std.specs.List.Sorted.{IsNonDecreasingBy};
 ghost use Rattle.looks.specs.Refusal.{RefusedForMemoryAlone};
 ghost use Rattle.op_log.specs.Tables.{entries_end, table_front, letter_entries, log_table, IsFirstPast};
@@ -45,7 +45,8 @@ impl SiteTables {
 
     // The site at this place among those that are known.
     pub(crate) fn site_at(&self, place: usize) -> Option<SiteNo>
-        ensures { IfSome (slice_get self.now place) (λ t. 0 < t.0 → result ≡ Just t.0) }
+        ensures some { IfSome (slice_get self.now place) (λ t. 0 < t.0 → result ≡ Just t.0) }
+        ensures none { IfNone (slice_get self.now place) (result ≡ Nothing) }
     {
         self.sites.site_at(place)
     }

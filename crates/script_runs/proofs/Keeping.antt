@@ -11,7 +11,7 @@ use Rattle.tree_order.proofs.OneWriter.{one_writer}
 use Rattle.shelf.specs.Files.{Files}
 use Rattle.texts.proofs.OwnParts.{edits_are_plain}
 use Rattle.texts.specs.Text.{IsText}
-use Rattle.texts.specs.TextState.{TextState}
+use Rattle.texts.specs.TextState.{TextState, noting}
 use Rattle.machine.specs.SiteTexts.{SiteTexts, IsTextOf}
 use Rattle.machine.specs.State.{State, new_state}
 use Rattle.machine_laws.specs.Laws.{AreTexts, HaveTold}
@@ -167,5 +167,5 @@ pub new_sound : (first count width height : ℕ) (files : Files) → AreSound (n
 new_sound first count width height files = λ i text t there. (
   new_are_texts lemma_nothing_is_good nothing_is_identified one_writer first count width height files i text t there,
   let (number, site, is) = new_texts first count width height files i text t there in
-      subst (λ (x : TextState). x.asked ≡ length x.operations) is refl,
+      subst (λ (x : TextState). x.asked ≡ noting (length x.operations)) is refl,
 )

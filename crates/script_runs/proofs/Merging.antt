@@ -10,7 +10,7 @@ use Rattle.set_laws.specs.Fronts.{front_of}
 use Rattle.set_laws.specs.Sets.{AreHeldToTheFront, AreIdentified}
 use Rattle.texts.specs.Merge.{CanMerge, Merges, is_past_front, news}
 use Rattle.texts.specs.Text.{IsText}
-use Rattle.texts.specs.TextState.{TextState}
+use Rattle.texts.specs.TextState.{TextState, noting}
 use Rattle.machine.specs.SiteTexts.{SiteTexts, IsTextOf}
 use Rattle.machine.specs.Events.{merge, merges, untouched}
 use Rattle.machine.specs.Machine.{Replies}
@@ -58,7 +58,7 @@ once ops op in_both = elim (Contains-append_cases ops ops op in_both) [
 ]
 
 -- a text merged into itself stays as it is
-pub merged_itself : (s : State) (i text : ℕ) (d : SiteTexts) → slice_get s.desks i ≡ Some d → (t : TextState) → IsTextOf d text t → IsText t → t.asked ≡ length t.operations → ((ops : List Operation) → Good ops → AreIdentified ops → AreHeldToTheFront ops)
+pub merged_itself : (s : State) (i text : ℕ) (d : SiteTexts) → slice_get s.desks i ≡ Some d → (t : TextState) → IsTextOf d text t → IsText t → t.asked ≡ noting (length t.operations) → ((ops : List Operation) → Good ops → AreIdentified ops → AreHeldToTheFront ops)
     → Replies s (merge i text i) untouched (merges 0) s
 merged_itself s i text d at_i t is_t is told held =
     let none : news t t ≡ [] = no_news t t.operations (λ op in_ops. ((held t.operations is.good is.identified op.site op.seq).0 (op, in_ops, refl, refl)).1) in

@@ -12,7 +12,7 @@ use Rattle.operations.specs.Operation.{Operation}
 use Rattle.operations.specs.Reading.{SpellsNone}
 use Rattle.shelf.specs.Files.{Files}
 use Rattle.texts.specs.Text.{IsText}
-use Rattle.texts.specs.TextState.{TextState}
+use Rattle.texts.specs.TextState.{TextState, noting}
 use Rattle.texts.specs.declared.took.Took.{Took}
 use Rattle.machine.specs.SiteTexts.{SiteTexts, IsTextOf}
 use Rattle.machine.specs.Events.{Delivery, refuses, sent, take as takes, untouched}
@@ -75,7 +75,7 @@ all_noted desks was more held held_more = All-append (IsSentOperation desks) was
 
 -- a message that is named by its number, and whose operation can't be read, for want of memory
 short_state : (s : State) (i text : ℕ) (d : SiteTexts) (t : TextState) (told : Delivery) (message : List ℕ) → slice_get s.desks i ≡ Some d → IsTextOf d text t
-    → t.asked ≡ length t.operations → message_in s told ≡ Some message → (SpellsNone message → ⊥)
+    → t.asked ≡ noting (length t.operations) → message_in s told ≡ Some message → (SpellsNone message → ⊥)
     → Replies s (takes i text told) untouched (refuses OutOfMemory) s
 short_state s i text d t told message at_i is_t asked is spells =
     let texts : d ≡ record d { texts = slice_set d.texts (text - 1) t } = rw (put_back d.texts (text - 1) t is_t) refl in
@@ -83,7 +83,7 @@ short_state s i text d t told message at_i is_t asked is spells =
     inr (refl, (message, is, (d, d, at_i, (t, t, is_t, (t, (Err OutOfMemory, inl (spells, (refl, refl)), refl), sym (told_same t asked)), texts), all)))
 
 pub refused_noted : (s : SitesSeen) (i text : ℕ) (d : DeskSeen) (at : SentAt) (r : Result Took Refusal) (why : Refusal) → slice_get s.desks i ≡ Some d
-    → ((t : TextState) × IsTextOf d.texts text t × IsText t × (t.asked ≡ length t.operations)) → IsSentOperation (texts_of s) at → why ≡ OutOfMemory
+    → ((t : TextState) × IsTextOf d.texts text t × IsText t × (t.asked ≡ noting (length t.operations))) → IsSentOperation (texts_of s) at → why ≡ OutOfMemory
     → IsErrAnd r (λ e. e ≡ why) → TakesMessage s i text (sent_message (texts_of s) at) r s
 refused_noted s i text d at (Ok took) why at_i has held short e = absurd e
 refused_noted s i text d at (Err e) why at_i (t, there, is_t, asked) (op, stands_at, valid) short is =

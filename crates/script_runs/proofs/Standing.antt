@@ -8,7 +8,7 @@ use Rattle.looks.specs.declared.refusal.Refusal.{Refusal}
 use Rattle.looks.specs.declared.refusal.Refusal.TheVariants.{BadEvent}
 use Rattle.set_laws.proofs.Fronts.{lemma_are_held_to_the_front}
 use Rattle.texts.specs.Text.{IsText}
-use Rattle.texts.specs.TextState.{TextState}
+use Rattle.texts.specs.TextState.{TextState, noting}
 use Rattle.texts.specs.declared.edit_refusal.EditRefusal.{EditRefusal}
 use Rattle.texts.specs.declared.merge_refusal.MergeRefusal.{MergeRefusal}
 use Rattle.texts.specs.declared.took.Took.{Took}
@@ -145,7 +145,7 @@ pub desk_read : (s : SitesSeen) (i : ℕ) (d : DeskSeen) → i < length s.desks 
 desk_read s i d within read = slice_get_read s.desks (length s.desks) i d refl within read
 
 -- a text that is merged into itself stays as it is
-pub merged_still : (s : SitesSeen) (i text : ℕ) (d : DeskSeen) (t : TextState) → slice_get s.desks i ≡ Some d → IsTextOf d.texts text t → IsText t → t.asked ≡ length t.operations
+pub merged_still : (s : SitesSeen) (i text : ℕ) (d : DeskSeen) (t : TextState) → slice_get s.desks i ≡ Some d → IsTextOf d.texts text t → IsText t → t.asked ≡ noting (length t.operations)
     → Replied s (merge i text i) (merges 0) s
 merged_still s i text d t at there is told = λ files.
     merged_itself (state_of s files) i text d.texts (stands s files i d at).texts t there is told lemma_are_held_to_the_front

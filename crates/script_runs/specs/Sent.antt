@@ -4,7 +4,7 @@ use Rattle.std.specs.Option.{option_and_then, option_map_or}
 use Rattle.operations.specs.Operation.{Operation}
 use Rattle.operations.specs.Spelling.{HasSpelling, spelling}
 use Rattle.texts.specs.Text.{IsText}
-use Rattle.texts.specs.TextState.{TextState}
+use Rattle.texts.specs.TextState.{TextState, noting}
 use Rattle.machine.specs.SiteTexts.{SiteTexts, IsTextOf}
 use Rattle.machine.specs.declared.TheConstants.{MAX_TEXT}
 use Rattle.script_runs.specs.declared.sent_at.SentAt.{SentAt}
@@ -47,4 +47,4 @@ IsToldAt desks message at = (op : Operation) × IsOperationAt desks at op × Has
 -- each text of the desks is what its operations define, and has told its changes
 abbrev pub AreSound : List SiteTexts → Type 0
 AreSound desks = (i text : ℕ) (t : TextState)
-    → ((d : SiteTexts) × (slice_get desks i ≡ Some d) × IsTextOf d text t) → IsText t × (t.asked ≡ length t.operations)
+    → ((d : SiteTexts) × (slice_get desks i ≡ Some d) × IsTextOf d text t) → IsText t × (t.asked ≡ noting (length t.operations))

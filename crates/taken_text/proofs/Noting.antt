@@ -268,7 +268,8 @@ all_lead ops (op ∷ more) changes was now (here, rest, mid, parts, one, others)
     subst (λ (l : List Change). Leads SameChar l was now) (sym parts)
     (leads-append SameChar here rest was mid now one.leads (all_lead (ops ++ op ∷ []) more rest mid now others))
 
-insertion_leads : (chars : List Char) → Leads SameChar (insertion_of (length chars)) [] chars
+-- one insertion of all leads from nothing to it
+pub insertion_leads : (chars : List Char) → Leads SameChar (insertion_of (length chars)) [] chars
 insertion_leads [] = refl
 insertion_leads (c ∷ chars) = (
   c ∷ chars,

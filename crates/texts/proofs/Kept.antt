@@ -1,5 +1,5 @@
 -- What an own operation leaves, and what a Delete keeps.
-use Rattle.std.proofs.Common.{◌≡◌, ℕ, List, [], ◌∷◌, ◌++◌, map, refl, subst}
+use Rattle.std.proofs.Common.{◌≡◌, ℕ, List, [], ◌∷◌, ◌++◌, map, refl, ap, subst, sym, ◌∙◌}
 use Rattle.std.specs.Prelude.{slice_range, All}
 use Rattle.std.proofs.lemmas.List.{drop-map, take-map}
 use Rattle.std.proofs.lemmas.List.Elements.{All-append, All-cons, All-nil, Contains-append_left}
@@ -11,7 +11,7 @@ use Rattle.texts.specs.Edit.{with_operation}
 use Rattle.texts.specs.Order.{order_after}
 use Rattle.texts.specs.Taking.{HasTaken, HasTakenAll}
 use Rattle.texts.specs.Text.{AreCharNames, IsText}
-use Rattle.texts.specs.TextState.{TextState, text_state_of}
+use Rattle.texts.specs.TextState.{Asked, TextState, text_state_of, with_room}
 use Rattle.texts.proofs.Taking.{taken_is_one}
 
 -- the items of a stretch are a stretch of the items
@@ -48,7 +48,7 @@ kept_with text ops room names op own =
 
 -- what a replica is seen as has taken operations in, where its operations are those more
 pub grown_by_more : (text site : ℕ) (ops ops' : List Operation) (chars chars' : List Char) (room : List Operation)
-    (stretch : List Item) (names : List Range) (asked asked' : ℕ) (more : List Operation) (t : TextState)
+    (stretch : List Item) (names : List Range) (asked asked' : Asked) (more : List Operation) (t : TextState)
     → text_state_of text site ops chars room stretch names asked ≡ t → ops' ≡ ops ++ more → asked' ≡ asked
     → IsText (text_state_of text site ops' chars' room stretch names asked')
     → HasTakenAll t more (text_state_of text site ops' chars' room stretch names asked')
@@ -61,12 +61,21 @@ grown_by_more text site ops ops' chars chars' room stretch names asked asked' mo
     }
 
 pub grown_by_one : (text site : ℕ) (ops ops' : List Operation) (chars chars' : List Char) (room : List Operation)
-    (stretch : List Item) (names : List Range) (asked asked' : ℕ) (op : Operation) (t : TextState)
+    (stretch : List Item) (names : List Range) (asked asked' : Asked) (op : Operation) (t : TextState)
     → text_state_of text site ops chars room stretch names asked ≡ t → ops' ≡ ops ++ op ∷ [] → asked' ≡ asked
     → IsText (text_state_of text site ops' chars' room stretch names asked')
     → HasTaken t op (text_state_of text site ops' chars' room stretch names asked')
 grown_by_one text site ops ops' chars chars' room stretch names asked asked' op =
     grown_by_more text site ops ops' chars chars' room stretch names asked asked' (op ∷ [])
+
+-- so it has where the room is another one then: what was taken in waited, say
+pub taken_out_of : (t mid seen : TextState) (op : Operation) (room rest : List Operation) → HasTaken t op mid → seen ≡ mid
+    → room ≡ rest → IsText (with_room seen room) → HasTaken (with_room t rest) op (with_room seen room)
+taken_out_of t mid seen op room rest taken same left is = record {
+  is = is;
+  grown = ap (λ (x : TextState). with_room x room) (same ∙ taken.grown)
+      ∙ (λ k. record t { operations = t.operations ++ op ∷ []; order = sym (ap (λ (x : TextState). x.order) same) k; waiting_room = left k });
+}
 
 -- taking an own operation in leaves its characters as they are defined
 pub taken_is_own : (t : TextState) (op : Operation) → IsText t → op.text ≡ t.text

@@ -21,6 +21,8 @@ pub mod OwnStretch
 pub mod Parts
 pub mod Pasts
 pub mod Pieces
+pub mod Places
+pub mod Reported
 pub mod Restored
 pub mod RunChars
 pub mod RunsInserted
@@ -28,3 +30,4 @@ pub mod Selected
 pub mod Sending
 pub mod Taking
 pub mod Unmade
+pub mod Walking

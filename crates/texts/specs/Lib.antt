@@ -1,4 +1,5 @@
 pub mod Beyond
+pub mod Changes
 pub mod Draining
 pub mod Edit
 pub mod Fronts

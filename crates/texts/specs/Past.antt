@@ -5,7 +5,7 @@ use Rattle.set_laws.specs.Closure.{IsGreatestGoodPart}
 use Rattle.set_laws.specs.Verdict.{HasVerdict, ready}
 use Rattle.texts.specs.Fronts.{front_in, up_to_fronts}
 use Rattle.texts.specs.Text.{IsText}
-use Rattle.texts.specs.TextState.{TextState}
+use Rattle.texts.specs.TextState.{TextState, noting}
 use Rattle.texts.specs.declared.front.Front.{Front}
 
 -- the second list has some of the first, in their order
@@ -25,7 +25,7 @@ pub record IsPastOf (t : TextState) (fronts : List Front) (p : TextState) : Type
   pub waiting : p.waiting_room ≡ []
   pub last_stretch : p.last_stretch ≡ []
   pub last_set : p.last_set ≡ []
-  pub asked : p.asked ≡ 0
+  pub asked : p.asked ≡ noting 0
 
 -- an operation is up to the fronts, and ready
 abbrev pub IsDue : List Operation → List Front → Operation → Type 0

@@ -4,6 +4,7 @@ ghost use Rattle.std.specs.Prelude.{◌≡◌, [], ◌∷◌, ◌++◌};
 ghost use Rattle.operations.specs.Operation.{Operation};
 ghost use Rattle.tree_order.specs.Good.{Good};
 ghost use Rattle.set_laws.specs.Sets.{AreIdentified};
+ghost use Rattle.texts.specs.Changes.{ReplacementsLead};
 ghost use Rattle.texts.specs.Laws.{ShowsTheDefinition, OperationsDetermineTheText, FrontsDetermineTheText};
 ghost use Rattle.texts.specs.Laws.{ADeleteKeepsItsStretch, ChangesLead, EditsByNamesArePlain, GrownTextsKeepTheOrder};
 ghost use Rattle.texts.specs.Laws.{HasOneTextWith};
@@ -30,6 +31,11 @@ pub fn grown_texts_keep_the_order()
 /// for to what is shown now.
 pub fn changes_lead()
     ensures { ChangesLead }
+{}
+
+/// A law: a replacement leads from all that has the length that it takes out to all that has the length that it puts in.
+pub fn replacements_lead()
+    ensures { ReplacementsLead }
 {}
 
 /// A law: two texts of equal fronts are alike, if no identity is used twice.

@@ -3,10 +3,10 @@ ghost use Rattle.std.specs.Prelude.{◌≢◌, AllPairs, IsSome};
 ghost use Rattle.looks.specs.Refusal.{RefusedForMemoryAlone};
 ghost use Rattle.set_laws.specs.Fronts.{AreSites, front_of};
 ghost use Rattle.tree_order.specs.Shown.{IsPlace};
+ghost use Rattle.texts.specs.Changes.{TellsOfChanges};
 ghost use Rattle.texts.specs.Edit.{anchor_before};
 ghost use Rattle.texts.specs.Text.{IsAnchor, IsText};
 ghost use Rattle.texts.specs.TextState.{all_told, empty_text, shown_of};
-ghost use Rattle.taken_text.specs.Noted.{AreChangesSince};
 ghost use Rattle.taken_text.specs.Rows.{chars_of_rows};
 
 mod beyond;
@@ -16,6 +16,7 @@ mod dressing;
 mod editing;
 mod inserting;
 mod merging;
+mod noting;
 mod own;
 mod past;
 mod pieces;
@@ -42,18 +43,20 @@ pub struct Replica {
     // The stretch that the site cut last, and its names; empty before that.
     stretch: Buffer,
     set: NameSet,
+    // How many characters were reported last, where noting has ended.
+    reported: Option<u64>,
     alloc: Global,
 }
 
 impl Model for Replica {
     ghost use Rattle.std.specs.Prelude.{◌≡◌, All};
     ghost use Rattle.texts.specs.Text.{AreCharNames};
-    ghost use Rattle.texts.specs.TextState.{TextState, text_state_of};
+    ghost use Rattle.texts.specs.TextState.{TextState, asked_of, text_state_of};
 
     ghost Value = { TextState };
 
     ghost view = { λ r. text_state_of r.text r.site r.taken.operations r.taken.chars r.room
-        r.stretch r.set r.taken.asked };
+        r.stretch r.set (asked_of r.taken.asked r.reported) };
 
     ghost invariant = { λ r. All (λ op. op.text ≡ r.text) r.taken.operations
         × All (λ op. op.text ≡ r.text) r.room × AreCharNames r.taken.operations r.set };
@@ -72,6 +75,7 @@ impl Replica {
             room: Room::new(alloc),
             stretch: Buffer::new(alloc),
             set: NameSet::new(alloc),
+            reported: None,
             alloc,
         })
     }
@@ -222,12 +226,15 @@ impl Replica {
 
     /// What the operations taken in since the last call changed of what is shown, in the order of their taking:
     /// own edits, messages, those that waited, and merges. They lead from what was shown then to what is shown now,
-    /// one after the other; they are handed out, and no longer kept. It takes no memory.
+    /// one after the other; they are handed out, and no longer kept. None, where noting has ended. It takes no memory.
     pub fn changes(&mut self) -> Vec<Change>
-        ensures told { AreChangesSince self.old.asked self.old.operations result.items (shown_of self.old) }
+        ensures told { TellsOfChanges self.old result.items }
         ensures asked { self.new ≡ all_told self.old }
     {
-        self.taken.changes()
+        match self.reported {
+            None => self.taken.changes(),
+            Some(_) => Vec::new(self.alloc),
+        }
     }
 
     /// Where more changes than so many are kept, and none was asked for before, one insertion of all that is shown is kept in

@@ -2,7 +2,6 @@ mod Filling
 mod Handing
 mod Held
 mod Names
-mod Places
 mod Putting
 mod Runs
 pub mod Values

@@ -1,11 +1,12 @@
 -- A run of characters that look alike, followed to its end.
-use Rattle.std.proofs.Common.{◌≡◌, ◌≢◌, ℕ, zero, suc, ◌+◌, ◌<◌, ◌≤◌, List, [], ◌∷◌, length, drop, slice_get, Some, inl, inr, sym, ap, subst, ◌∙◌, arith}
+use Rattle.std.proofs.Common.{◌≡◌, ◌≢◌, ℕ, ◌+◌, ◌<◌, ◌≤◌, List, [], ◌∷◌, length, drop, slice_get, inl, inr, sym, ap, subst, arith}
 use Rattle.std.specs.Prelude.{IfSome}
 use Rattle.std.proofs.lemmas.Bool.{cases_lt}
 use Rattle.std.proofs.lemmas.List.{length-drop}
 use Rattle.std.proofs.lemmas.Option.{slice_get_within}
 use Rattle.looks.specs.declared.looks.Looks.{Looks}
 use Rattle.char_files.specs.declared.character.Char.{Char}
+use Rattle.texts.proofs.Walking.{next_at}
 use Rattle.vialshoal_c.specs.Asking.{IsRun}
 
 -- the characters up to here look alike, and these are left
@@ -14,17 +15,6 @@ pub record IsFollowed (shown left : List Char) (pos end : ℕ) (looks : Looks) :
   pub begins : pos < end
   pub ends : end ≤ length shown
   pub same : (k : ℕ) → pos ≤ k → k < end → IfSome (slice_get shown k) (λ c. c.looks ≡ looks)
-
--- what is left has next stands where it is
-next_at : {X : Type 0} (n : ℕ) (xs rest : List X) (x : X) → drop n xs ≡ x ∷ rest
-    → (slice_get xs n ≡ Some x) × (drop (n + 1) xs ≡ rest)
-next_at zero [] rest x at = absurd cc
-next_at {X = X} zero (y ∷ xs) rest x at = (ap (λ (l : List X). slice_get l 0) at, ap (λ (l : List X). drop 1 l) at)
-next_at (suc n) [] rest x at = absurd cc
-next_at {X = X} (suc n) (y ∷ xs) rest x at =
-    let (here, left) = next_at n xs rest x at in
-    let next : suc n + 1 ≡ suc (n + 1) = omega arith in
-    (here, ap (λ (k : ℕ). drop k (y ∷ xs)) next ∙ left)
 
 module _ (shown : List Char) (pos : ℕ) (looks : Looks) where
   pub run_begins : (left : List Char) → left ≡ drop (pos + 1) shown → pos < length shown

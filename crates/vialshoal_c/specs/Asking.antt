@@ -12,18 +12,19 @@ use Rattle.looks.specs.Refusal.{number_of}
 use Rattle.looks.specs.declared.looks.Looks.{Looks}
 use Rattle.looks.specs.declared.refusal.Refusal.TheVariants.{OutOfMemory}
 use Rattle.set_laws.specs.Fronts.{AreSites, front_of}
-use Rattle.taken_text.specs.Noted.{AreChangesSince}
+use Rattle.texts.specs.Changes.{TellsOfChanges, all_reported, replacement_of}
 use Rattle.texts.specs.Edit.{anchor_before, is_range_in}
 use Rattle.texts.specs.Text.{IsAnchor}
 use Rattle.texts.specs.TextState.{TextState, all_told, shown_of}
 use Rattle.tree_order.specs.Shown.{IsPlace}
 use Rattle.vialshoal_c.specs.Outputs.{Puts, PutsNone}
-use Rattle.vialshoal_c.specs.SessionState.{SessionState}
+use Rattle.vialshoal_c.specs.SessionState.{KeepsTheRest, SessionState}
 use Rattle.vialshoal_c.specs.declared.numbers.TheConstants.{IS_DELETE, IS_INSERT, IS_REPLACE, NO_MESSAGE, NO_NAME, NO_NUMBER}
-use Rattle.vialshoal_c.specs.declared.numbers.TheConstants.{OUT_OF_TEXT}
+use Rattle.vialshoal_c.specs.declared.numbers.TheConstants.{OUT_OF_TEXT, STILL_NOTED}
 use Rattle.vialshoal_c.specs.declared.outputs.CharName as c_name
 use Rattle.vialshoal_c.specs.declared.outputs.LooksRun.{LooksRun}
 use Rattle.vialshoal_c.specs.declared.outputs.Place.{Place}
+use Rattle.vialshoal_c.specs.declared.outputs.Replacing.{Replacing}
 use Rattle.vialshoal_c.specs.declared.outputs.TextChange.{TextChange}
 
 -- the names of some characters, as C sees them
@@ -109,5 +110,13 @@ TellsChanges s old number need new s' =
     (s'.sent ≡ s.sent)
     × MatchBool (nat_lt 0 (length s.told))
     (Hands s.told old number need new s'.told × (s'.text ≡ s.text))
-    ((changes : List Change) × AreChangesSince s.text.asked s.text.operations changes (shown_of s.text)
+    ((changes : List Change) × TellsOfChanges s.text changes
     × Hands changes old number need new s'.told × (s'.text ≡ all_told s.text))
+
+-- Where noting has ended, what was reported last gives way to what is shown, and that is reported then; where changes are noted, the
+-- number says so, and nothing is written.
+abbrev pub TellsReplacement : SessionState → (number : ℕ) → (old new : Replacing) → SessionState → Type 0
+TellsReplacement s number old new s' =
+    (s'.text ≡ all_reported s.text) × KeepsTheRest s s'
+    × MatchOption (replacement_of s.text) ((number ≡ STILL_NOTED) × (new ≡ old))
+    (λ r. (number ≡ 0) × (new ≡ record { deleted = r.deleted; inserted = r.inserted }))

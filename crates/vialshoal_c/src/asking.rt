@@ -1,14 +1,18 @@
 //! What a session is asked, beside what it shows.
 
 ghost use Rattle.std.specs.Prelude.{◌≡◌, ◌++◌, ◌≤◌, [], length, drop};
-ghost use Rattle.vialshoal_c.specs.Asking.{Hands, PutsMessage, PutsSites, TellsChanges, TellsFront, changes_of, number_of_kind};
+ghost use Rattle.vialshoal_c.specs.Asking.{Hands, PutsMessage, PutsSites, TellsChanges, TellsFront, TellsReplacement};
+ghost use Rattle.vialshoal_c.specs.Asking.{changes_of, number_of_kind};
 ghost use Rattle.vialshoal_c.specs.Outputs.{Puts};
 
-use crate::numbers::{IS_DELETE, IS_INSERT, IS_REPLACE, NO_MESSAGE, NO_NUMBER, TOO_SHORT};
-use crate::outputs::TextChange;
+use crate::numbers::{
+    IS_DELETE, IS_INSERT, IS_REPLACE, NO_MESSAGE, NO_NUMBER, STILL_NOTED, TOO_SHORT,
+};
+use crate::outputs::{Replacing, TextChange};
 use crate::session::Session;
 use char_files::SiteNo;
 use list_changes::{Change, ChangeKind};
+use texts::Replacement;
 
 /// What putting something into a room answered: a number, and how much there was to put.
 #[derive(Clone, Copy)]
@@ -132,6 +136,19 @@ impl Session {
             self.told = self.replica.changes();
         }
         self.hand_changes(room)
+    }
+
+    /// Tells what leads from what was reported last to what is shown, where noting has ended.
+    pub(crate) fn replacement(&mut self, replacing: &mut Replacing) -> u32
+        ensures { TellsReplacement self.old result replacing.old replacing.new self.new }
+    {
+        match self.replica.replacement() {
+            Some(Replacement { deleted, inserted }) => {
+                *replacing = Replacing { deleted, inserted };
+                0
+            }
+            None => STILL_NOTED,
+        }
     }
 
     /// Puts the sites of which operations were taken in into a room.

@@ -2,11 +2,12 @@
 
 ghost use Rattle.std.specs.Prelude.{◌≡◌, [], None, MatchOption, length, ⊤};
 ghost use Rattle.looks.specs.Looks.{plain_looks};
+ghost use Rattle.texts.specs.Changes.{noting_ended};
 ghost use Rattle.texts.specs.Edit.{deletion, recalling, restoration};
 ghost use Rattle.texts.specs.TextState.{shown_of};
 ghost use Rattle.vialshoal_c.specs.Asking.{FindsName, PutsMessage, PutsShown, TellsChanges, TellsFront};
 ghost use Rattle.char_files.specs.Chars.{char_bytes};
-ghost use Rattle.vialshoal_c.specs.Asking.{PutsSites, TellsRun, c_names};
+ghost use Rattle.vialshoal_c.specs.Asking.{PutsSites, TellsReplacement, TellsRun, c_names};
 ghost use Rattle.vialshoal_c.specs.Editing.{BeginsHandle, BeginsText, Dresses, EditsSession, InsertsInLooks, InsertsRun};
 ghost use Rattle.vialshoal_c.specs.Feeding.{ForgetsWaiting, MergesHandle, SessionTakesIn, Settles, UnpacksIn};
 ghost use Rattle.vialshoal_c.specs.History.{PutsChunks, TellsSince};
@@ -17,7 +18,9 @@ ghost use Rattle.vialshoal_c.specs.Opened.{OnOpen, Reads};
 use crate::handle::Handle;
 use crate::inputs::{CharNames, SiteFront};
 use crate::numbers::{ALREADY_OPEN, NO_NUMBER, NOT_OPEN};
-use crate::outputs::{CharName, LooksRun, Place, Settling, Taking, TextChange, Unpacking};
+use crate::outputs::{
+    CharName, LooksRun, Place, Replacing, Settling, Taking, TextChange, Unpacking,
+};
 use crate::session::Session;
 use crate::showing::{find_name, put_shown_bytes, put_shown_names, tell_run};
 use char_files::{SiteNo, TextNo};
@@ -714,4 +717,36 @@ pub extern "C" fn vialshoal_changes(
     handle.close(alloc, session);
     *need = put.need;
     put.number
+}
+
+/// Ends the noting of changes: so many characters were reported.
+#[unsafe(no_mangle)]
+pub extern "C" fn vialshoal_end_noting(alloc: Global, handle: &mut Handle, shown: u64) -> u32
+    ensures { OnOpen handle.old.value handle.new.value result ⊤
+        (λ s new. (result ≡ 0) × (new ≡ record s { text = noting_ended s.text shown; told = [] })) }
+{
+    let Some(mut session) = handle.open(alloc) else {
+        return NOT_OPEN;
+    };
+    session.end_noting(shown);
+    handle.close(alloc, session);
+    0
+}
+
+/// What leads from what was reported last to what is shown, where noting has ended.
+#[unsafe(no_mangle)]
+pub extern "C" fn vialshoal_replacement(
+    alloc: Global,
+    handle: &mut Handle,
+    replacing: &mut Replacing,
+) -> u32
+    ensures { OnOpen handle.old.value handle.new.value result (replacing.new ≡ replacing.old)
+        (λ s new. TellsReplacement s result replacing.old replacing.new new) }
+{
+    let Some(mut session) = handle.open(alloc) else {
+        return NOT_OPEN;
+    };
+    let number = session.replacement(replacing);
+    handle.close(alloc, session);
+    number
 }

@@ -24,6 +24,9 @@ pub const TOO_SHORT: u32 = 107;
 /// No message has this index.
 pub const NO_MESSAGE: u32 = 108;
 
+/// Changes are noted, and nothing is told in their place.
+pub const STILL_NOTED: u32 = 109;
+
 /// A message's operation was taken in.
 pub const IS_TAKEN: u32 = 1;
 
@@ -50,6 +53,7 @@ pub fn the_numbers_of_misuse()
     ensures handles { (NOT_OPEN ≡ 101) × (ALREADY_OPEN ≡ 102) }
     ensures arguments { (OUT_OF_TEXT ≡ 103) × (TOO_LONG ≡ 104) × (NO_NUMBER ≡ 105) × (NO_NAME ≡ 106) }
     ensures rooms { (TOO_SHORT ≡ 107) × (NO_MESSAGE ≡ 108) }
+    ensures noting { STILL_NOTED ≡ 109 }
 {}
 
 /// A law: the numbers of what a taking did, and of what a change does.

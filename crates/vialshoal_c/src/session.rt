@@ -1,5 +1,6 @@
 ghost use Rattle.std.specs.Prelude.{◌≡◌, [], IfOk};
 ghost use Rattle.looks.specs.Refusal.{RefusedForMemoryAlone};
+ghost use Rattle.texts.specs.Changes.{noting_ended};
 ghost use Rattle.texts.specs.TextState.{empty_text};
 ghost use Rattle.vialshoal_c.specs.SessionState.{session_of};
 
@@ -50,6 +51,14 @@ impl Session {
     {
         let replica = Replica::new(alloc, text, site)?;
         Ok(Box::new(alloc, Session::of(alloc, replica))?)
+    }
+
+    /// Ends the noting of changes, of which so many characters tell what was reported. Those that weren't handed out are let go.
+    pub(crate) fn end_noting(&mut self, shown: u64)
+        ensures { self.new ≡ record self.old { text = noting_ended self.old.text shown; told = [] } }
+    {
+        self.told = Vec::new(self.alloc);
+        self.replica.end_noting(shown);
     }
 
     /// Lets all messages go. The memory of a few is kept for others.

@@ -49,5 +49,5 @@ pub use messages::{Chunks, Messages};
 pub use names::{Name, NameRange, Place};
 pub use text::{Form, LooksChange, Past, Text};
 pub use text_chunks::Unpacked;
-pub use texts::{Settled, Took};
+pub use texts::{Replacement, Settled, Took};
 pub use view::{Bytes, Character, Characters, Names, View};

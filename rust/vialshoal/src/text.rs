@@ -11,7 +11,7 @@ use looks::{Colour, FontName, Looks, Refusal, Sel};
 use std::fmt;
 use std::ops::Range;
 use text_chunks::Unpacked;
-use texts::{ByNames, EditRefusal, Outbox, Replica, Settled, Took};
+use texts::{ByNames, EditRefusal, Outbox, Replacement, Replica, Settled, Took};
 
 /// A site's copy of a text.
 pub struct Text {
@@ -251,6 +251,18 @@ impl Text {
     /// to what is shown now.
     pub fn changes(&mut self) -> impl ExactSizeIterator<Item = Change> + use<> {
         self.replica.changes().into_iter()
+    }
+
+    /// Ends the noting of changes, for good: those that weren't told are let go with their memory, which grows as others change the text and
+    /// `changes` isn't called; `changes` has none from now on. `shown` is how many bytes the caller shows, and `replacement` goes on from
+    /// there.
+    pub fn end_noting(&mut self, shown: u64) {
+        self.replica.end_noting(shown);
+    }
+
+    /// Where noting has ended, what was reported last gives way to what is shown, which is reported by that; `None` where changes are noted.
+    pub fn replacement(&mut self) -> Option<Replacement> {
+        self.replica.replacement()
     }
 
     /// The messages of what was taken in past these fronts.

@@ -2,7 +2,7 @@
 
 use vialshoal::{
     Change, ChangeKind, Colour, Error, FontName, Form, Front, LooksChange, Name, NameRange, Place,
-    Refusal, Text, Took,
+    Refusal, Replacement, Text, Took,
 };
 
 type Outcome = Result<(), Box<dyn std::error::Error>>;
@@ -152,6 +152,39 @@ fn characters_are_found_by_their_names() -> Outcome {
         })
     );
     assert_eq!((changes.len(), b.changes().len()), (4, 0));
+    Ok(())
+}
+
+#[test]
+fn where_noting_has_ended_what_was_reported_gives_way_to_what_is_shown() -> Outcome {
+    let (mut a, mut b) = pair()?;
+    a.insert(0, b"Oberon")?;
+    assert_eq!(a.replacement(), None);
+    a.end_noting(0);
+    for deleted in [0, 6] {
+        let inserted = 6;
+        assert_eq!(a.changes().len(), 0);
+        assert_eq!(a.replacement(), Some(Replacement { deleted, inserted }));
+    }
+    b.insert(0, b"abc")?;
+    a.merge(&b)?;
+    a.delete(0..1)?;
+    assert_eq!(a.changes().len(), 0);
+    assert_eq!(
+        a.replacement(),
+        Some(Replacement {
+            deleted: 6,
+            inserted: 8
+        })
+    );
+    a.end_noting(3);
+    assert_eq!(
+        a.replacement(),
+        Some(Replacement {
+            deleted: 3,
+            inserted: 8
+        })
+    );
     Ok(())
 }
 

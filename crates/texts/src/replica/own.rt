@@ -109,11 +109,10 @@ impl Replica {
     {
         let op = self.next_op(kind);
         outbox.push(&op)?;
-        if let Err(why) = self.taken.add(op) {
+        if let Err(why) = self.take_over(op) {
             outbox.take_back();
             return Err(why);
         }
-        self.lemma_is_text();
         Ok(())
     }
 }

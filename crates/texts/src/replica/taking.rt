@@ -83,8 +83,7 @@ impl Replica {
             ⊎ (TakesIn self.old op true result self.new
             ⊎ Stays self.old (Err Refusal.OutOfMemory) result self.new) }
     {
-        self.taken.add(op)?;
-        self.lemma_is_text();
+        self.take_over(op)?;
         let Settled {
             drained,
             dropped,
@@ -162,6 +161,7 @@ impl Replica {
         }
         self.taken.add_letters(typing, bytes)?;
         self.lemma_is_text();
+        self.let_notes_go();
         Ok(true)
     }
 }

@@ -44,8 +44,7 @@ impl Replica {
         }
         // It stays where memory is refused.
         let op = self.room.get(index).copy()?;
-        self.taken.add(op)?;
-        self.lemma_is_text();
+        self.take_over(op)?;
         let _ = self.room.remove(index);
         self.lemma_is_text();
         Ok(true)

@@ -6,6 +6,7 @@ mod dressing;
 mod editing;
 mod inserting;
 mod merging;
+mod noting;
 mod own;
 mod past;
 mod pieces;
@@ -30,6 +31,8 @@ pub struct Replica {
     // The stretch that the site cut last, and its names; empty before that.
     stretch: Buffer,
     set: NameSet,
+    // How many characters were reported last, where noting has ended.
+    reported: Option<u64>,
     alloc: Global,
 }
 
@@ -43,6 +46,7 @@ impl Replica {
             room: Room::new(alloc),
             stretch: Buffer::new(alloc),
             set: NameSet::new(alloc),
+            reported: None,
             alloc,
         })
     }
@@ -147,9 +151,12 @@ impl Replica {
 
     /// What the operations taken in since the last call changed of what is shown, in the order of their taking:
     /// own edits, messages, those that waited, and merges. They lead from what was shown then to what is shown now,
-    /// one after the other; they are handed out, and no longer kept. It takes no memory.
+    /// one after the other; they are handed out, and no longer kept. None, where noting has ended. It takes no memory.
     pub fn changes(&mut self) -> Vec<Change> {
-        self.taken.changes()
+        match self.reported {
+            None => self.taken.changes(),
+            Some(_) => Vec::new(self.alloc),
+        }
     }
 
     /// Where more changes than so many are kept, and none was asked for before, one insertion of all that is shown is kept in

@@ -4,7 +4,9 @@
 use crate::handle::Handle;
 use crate::inputs::{CharNames, SiteFront};
 use crate::numbers::{ALREADY_OPEN, NO_NUMBER, NOT_OPEN};
-use crate::outputs::{CharName, LooksRun, Place, Settling, Taking, TextChange, Unpacking};
+use crate::outputs::{
+    CharName, LooksRun, Place, Replacing, Settling, Taking, TextChange, Unpacking,
+};
 use crate::session::Session;
 use crate::showing::{find_name, put_shown_bytes, put_shown_names, tell_run};
 use char_files::{SiteNo, TextNo};
@@ -785,4 +787,36 @@ pub unsafe extern "C" fn vialshoal_changes(
     handle.close(alloc, session);
     *need = put.need;
     put.number
+}
+
+/// Ends the noting of changes: so many characters were reported.
+///
+/// # Safety
+///
+/// The caller owes what `vialshoal.h` says.
+#[unsafe(no_mangle)]
+pub unsafe extern "C" fn vialshoal_end_noting(handle: &mut Handle, shown: u64) -> u32 {
+    let alloc = Global;
+    let Some(mut session) = handle.open(alloc) else {
+        return NOT_OPEN;
+    };
+    session.end_noting(shown);
+    handle.close(alloc, session);
+    0
+}
+
+/// What leads from what was reported last to what is shown, where noting has ended.
+///
+/// # Safety
+///
+/// The caller owes what `vialshoal.h` says.
+#[unsafe(no_mangle)]
+pub unsafe extern "C" fn vialshoal_replacement(handle: &mut Handle, replacing: &mut Replacing) -> u32 {
+    let alloc = Global;
+    let Some(mut session) = handle.open(alloc) else {
+        return NOT_OPEN;
+    };
+    let number = session.replacement(replacing);
+    handle.close(alloc, session);
+    number
 }

@@ -23,6 +23,9 @@ pub const TOO_SHORT: u32 = 107;
 /// No message has this index.
 pub const NO_MESSAGE: u32 = 108;
 
+/// Changes are noted, and nothing is told in their place.
+pub const STILL_NOTED: u32 = 109;
+
 /// A message's operation was taken in.
 pub const IS_TAKEN: u32 = 1;
 

@@ -75,6 +75,16 @@ pub struct TextChange {
     pub end: u64,
 }
 
+/// All that was reported last gives way to all that is shown.
+#[repr(C)]
+#[derive(Clone, Copy, Debug, PartialEq, Eq)]
+pub struct Replacing {
+    /// How many characters are deleted, from 0 on.
+    pub deleted: u64,
+    /// How many are inserted at 0 then.
+    pub inserted: u64,
+}
+
 /// Characters of equal looks, but for the font's name.
 #[repr(C)]
 #[derive(Clone, Copy, Debug, PartialEq, Eq)]

@@ -33,6 +33,12 @@ impl Session {
         Ok(Box::new(alloc, Session::of(alloc, replica))?)
     }
 
+    /// Ends the noting of changes, of which so many characters tell what was reported. Those that weren't handed out are let go.
+    pub(crate) fn end_noting(&mut self, shown: u64) {
+        self.told = Vec::new(self.alloc);
+        self.replica.end_noting(shown);
+    }
+
     /// Lets all messages go. The memory of a few is kept for others.
     pub(crate) fn let_go(&mut self) {
         if self.outbox.len() <= KEPT_ROOM {

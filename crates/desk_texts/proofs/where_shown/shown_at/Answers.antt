@@ -3,7 +3,8 @@ use Rattle.std.proofs.lemmas.Bool.{true≢false}
 use Rattle.char_files.specs.CharName.{CharName}
 use Rattle.char_files.specs.declared.name.Anchor.TheVariants.{At}
 use Rattle.operations.proofs.WithName.{same_name}
-use Rattle.desk_texts.proofs.Standing.{before, hidden, name_or, not_here, place_within}
+use Rattle.texts.proofs.Places.{place_within}
+use Rattle.desk_texts.proofs.Standing.{before, hidden, name_or, not_here}
 use Rattle.desk_texts.proofs.where_shown.shown_at.Goals as goal
 
 pub returns-in_err-place : goal.returns-in_err-place

@@ -1,4 +1,4 @@
-use Rattle.vialshoal_c.proofs.Places.{place_within}
+use Rattle.texts.proofs.Places.{place_within}
 use Rattle.vialshoal_c.proofs.showing.find.Goals as goal
 
 pub anchor_after-requires : goal.anchor_after-requires

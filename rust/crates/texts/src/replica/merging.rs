@@ -12,9 +12,10 @@ impl Replica {
         self.taken.log().agrees_with(other.taken.log())
     }
 
-    // Takes in an operation of another replica that is ready here. An `Err` changes nothing.
+    // Takes in an operation that is ready. Of what it changed nothing is kept where noting has ended. An `Err` changes nothing.
     pub(crate) fn take_over(&mut self, op: Op) -> Result<(), Refusal> {
         self.taken.add(op)?;
+        self.let_notes_go();
         Ok(())
     }
 

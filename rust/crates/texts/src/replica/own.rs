@@ -63,7 +63,7 @@ impl Replica {
     pub(crate) fn make(&mut self, kind: Kind, outbox: &mut Outbox) -> Result<(), Refusal> {
         let op = self.next_op(kind);
         outbox.push(&op)?;
-        if let Err(why) = self.taken.add(op) {
+        if let Err(why) = self.take_over(op) {
             outbox.take_back();
             return Err(why);
         }

@@ -53,7 +53,7 @@ impl Replica {
 
     // Takes in an operation that is ready, and drains the room.
     fn take_in(&mut self, op: Op) -> Result<Took, Refusal> {
-        self.taken.add(op)?;
+        self.take_over(op)?;
         let Settled {
             drained,
             dropped,
@@ -113,6 +113,7 @@ impl Replica {
             return Ok(false);
         }
         self.taken.add_letters(typing, bytes)?;
+        self.let_notes_go();
         Ok(true)
     }
 }

@@ -28,7 +28,7 @@ impl Replica {
         }
         // It stays where memory is refused.
         let op = self.room.get(index).copy()?;
-        self.taken.add(op)?;
+        self.take_over(op)?;
         let _ = self.room.remove(index);
         Ok(true)
     }

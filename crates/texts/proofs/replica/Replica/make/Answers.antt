@@ -1,37 +1,9 @@
-use Rattle.std.proofs.Common.{◌≡◌, List, sym, subst}
-use Rattle.std.specs.Prelude.{All}
+use Rattle.std.proofs.Common.{sym, subst}
 use Rattle.operations.specs.Operation.{Operation}
-use Rattle.set_laws.specs.Verdict.{HasVerdict, IsNew, ready}
-use Rattle.taken_text.specs.Taken.{TakenSeen}
+use Rattle.set_laws.specs.Verdict.{ready}
 use Rattle.texts.specs.Taking.{IsJudged}
-use Rattle.texts.specs.Text.{AreCharNames}
-use Rattle.texts.specs.TextState.{TextState}
-use Rattle.texts.proofs.Kept.{kept_with}
 use Rattle.texts.proofs.replica.Replica.make.Goals as goal
 
-pub add-requires-clause-new : goal.add-requires-clause-new
-add-requires-clause-new c =
-    let op = c.next_op-op.result in
-    let judged : IsJudged c.args.self.now op ready = subst (λ (op : Operation). IsJudged c.args.self.now op ready) (sym c.next_op-op.ensures) c.requires.ready in
-    subst (λ (t : TextState). IsNew t.operations op) (sym c.self.view_is) judged.1
-
-pub add-requires-clause-ready : goal.add-requires-clause-ready
-add-requires-clause-ready c =
-    let op = c.next_op-op.result in
-    let judged : IsJudged c.args.self.now op ready = subst (λ (op : Operation). IsJudged c.args.self.now op ready) (sym c.next_op-op.ensures) c.requires.ready in
-    subst (λ (t : TextState). HasVerdict t.operations op ready) (sym c.self.view_is) judged.2
-
-pub invariant_of-self : goal.invariant_of-self
-invariant_of-self c =
-    let r = c.self.inside in
-    subst (λ (taken : TakenSeen). All (λ op. op.text ≡ r.text) taken.operations × All (λ op. op.text ≡ r.text) r.room
-    × AreCharNames taken.operations r.set) (sym c.in-Err.ensures.err) c.self.invariant
-
-pub invariant_of-self-2 : goal.invariant_of-self-2
-invariant_of-self-2 c =
-    let r = c.self.inside in
-    let op = c.next_op-op.result in
-    let judged : IsJudged c.args.self.now op ready = subst (λ (op : Operation). IsJudged c.args.self.now op ready) (sym c.next_op-op.ensures) c.requires.ready in
-    let own : op.text ≡ r.text = subst (λ (t : TextState). op.text ≡ t.text) (sym c.self.view_is) judged.0 in
-    subst (λ (ops : List Operation). All (λ op. op.text ≡ r.text) ops × All (λ op. op.text ≡ r.text) r.room
-    × AreCharNames ops r.set) (sym c.in_default.ensures.ok) (kept_with r.text r.taken.operations r.room r.set op own c.self.invariant)
+pub take_over-requires : goal.take_over-requires
+take_over-requires c =
+    subst (λ (op : Operation). IsJudged c.args.self.now op ready) (sym c.next_op-op.ensures) c.requires.ready

@@ -5,9 +5,9 @@ use Rattle.operations.specs.Letters.{letter, letters}
 use Rattle.operations.specs.Operation.{Operation}
 use Rattle.set_laws.specs.Verdict.{HasVerdict, IsNew, ready}
 use Rattle.taken_text.specs.Taken.{TakenSeen}
-use Rattle.texts.specs.Taking.{IsJudged}
+use Rattle.texts.specs.Taking.{HasTakenAll, IsJudged}
 use Rattle.texts.specs.Text.{AreCharNames}
-use Rattle.texts.specs.TextState.{TextState}
+use Rattle.texts.specs.TextState.{TextState, asked_of}
 use Rattle.texts.proofs.Kept.{grown_by_more, kept_with_all}
 use Rattle.operations.proofs.Typed.{first_spelled}
 use Rattle.texts.proofs.Letters.{letters_of_text}
@@ -55,6 +55,8 @@ pub returns-clause-taken : goal.returns-clause-taken
 returns-clause-taken c told =
     let r = c.self.inside in
     let added = c.add_letters.new.self in
-    grown_by_more r.text r.site r.taken.operations added.operations r.taken.chars added.chars r.room r.stretch r.set
-    r.taken.asked added.asked (letters c.args.typing.now c.args.bytes.now) c.args.self.now c.self.view_is
-    c.in_ok-add_letters.ensures.ok c.add_letters.ensures.asked c.lemma_is_text.ensures
+    let more = letters c.args.typing.now c.args.bytes.now in
+    subst (λ (t : TextState). HasTakenAll c.args.self.now more t) (sym c.let_notes_go.ensures)
+    (grown_by_more r.text r.site r.taken.operations added.operations r.taken.chars added.chars r.room r.stretch r.set
+    (asked_of r.taken.asked r.reported) (asked_of added.asked r.reported) more c.args.self.now c.self.view_is
+    c.in_ok-add_letters.ensures.ok (ap (λ (n : ℕ). asked_of n r.reported) c.add_letters.ensures.asked) c.lemma_is_text.ensures)
