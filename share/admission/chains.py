@@ -140,6 +140,10 @@ class Chains:
         self._in_chains += len(run)
         return numbers
 
+    def admits(self, row: Row) -> bool:
+        """Whether there is room for an entry without messages."""
+        return self.room.admits(row, self.holder(row.entry.site) == row.entry.author, len(self.by_site))
+
     def settle(self, of: bytes) -> None:
         """Notes that an entry came that is in no chain: what follows it lacks nothing."""
         self.outside.settle(of)

@@ -74,7 +74,7 @@ class Judge(Judging):
             self._take(entry.site, self._chains.add(row, entry.site in self._passage.blocked))
         elif entry.kind is Kind.CLAIM:
             self._take(entry.site, self._chains.claim(row))
-        elif self._statements.add(row):
+        elif self._chains.admits(row) and self._statements.add(row):
             self._chains.settle(entry.hash)
 
     def extend(self, run: Sequence[Row]) -> bool:
@@ -161,8 +161,7 @@ class Judge(Judging):
     def entry_of(self, site: int, seq: int, text: int = TEXT) -> bytes | None:
         if not 0 < seq <= self.front(site):
             return None
-        branch = self._chains.by_site[site].branch
-        return self._chains.ledger.hash(branch.numbers[branch.at_seq(seq)])
+        return self._chains.by_site[site].branch.named(seq)
 
     def name_in(self, last: bytes, seq: int) -> bytes | None:
         return self._chains.entry_in(last, seq)
@@ -221,8 +220,8 @@ class Judge(Judging):
     def is_lacking(self) -> bool:
         return self._chains.outside.loose_entries > 0
 
-    def missing(self, most: int) -> list[bytes]:
-        return self._chains.outside.missing(most)
+    def missing(self) -> Iterator[bytes]:
+        return self._chains.outside.missing()
 
     def dropped(self) -> list[Row]:
         return self._chains.room.given_back()

@@ -13,6 +13,7 @@ from share.admission.left_out import LeftOut
 from share.format.entry import BuiltOn, Copy, Entry
 from share.format.history import Messages
 from share.format.operation import TEXT, Operation
+from share.text.names import Name, Names
 
 
 class Counted(NamedTuple):
@@ -166,6 +167,21 @@ class Judging(ABC):
     def message_in(self, last: bytes, seq: int) -> Operation | None:
         """The message of a seq that is the last of some, or before it; None where it isn't here."""
 
+    # What is told of characters that count, shown or not, by which a review knows that its text is the one that its author saw. A note of
+    # the first form, which has no margin, tells nothing.
+
+    def inserter(self, name: Name, text: int = TEXT) -> bytes | None:
+        """What names the message that inserted a character; None where none that counts did."""
+        return None
+
+    def inserted(self, names: Names, text: int = TEXT) -> bytes | None:
+        """The bytes of characters; None where not all of them are there."""
+        return None
+
+    def is_of_base(self, site: int) -> bool:
+        """Whether a number's messages were copied into the note as it began."""
+        return False
+
     @abstractmethod
     def built_on(self, messages: Sequence[Operation], before: Sequence[Operation] = ()) -> BuiltOn:
         """What messages build on, as their entry says it, that go on from a site's chain, and from others that follow it and aren't here
@@ -236,8 +252,8 @@ class Judging(ABC):
         """Whether something is missing."""
 
     @abstractmethod
-    def missing(self, most: int) -> list[bytes]:
-        """The names of some things that are missing."""
+    def missing(self) -> Iterator[bytes]:
+        """The names of what is missing."""
 
     # What there is no room for.
 

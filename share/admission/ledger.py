@@ -333,6 +333,10 @@ class Branch:
         """Where the entry is that has a message."""
         return bisect_left(self.lasts, seq)
 
+    def named(self, seq: int) -> bytes:
+        """What names a message: the hash of its entry."""
+        return self.ledger.hash(self.numbers[self.at_seq(seq)])
+
     def first(self, at: int) -> int:
         """The seq of an entry's first message."""
         return self.lasts[at - 1] + 1

@@ -24,6 +24,10 @@ class Path:
         """A message's hash."""
         return self.sayings.hash(self.numbers[place])
 
+    def named(self, seq: int) -> bytes:
+        """What names a message: its hash."""
+        return self.hash(seq - 1)
+
     def runs(self, begin: int, end: int) -> Iterator[Operation]:
         """The messages from one place to another, letters typed one after the other in one."""
         while begin < end:
@@ -145,3 +149,8 @@ class MessageChain(Passing):
     def inserter_of(self, at: int) -> bytes:
         """The hash of the message that inserted a character, which was let through."""
         return self.branch.hash(bisect_right(self._ends, at))
+
+    def inserted(self, begin: int, end: int) -> bytes:
+        """The bytes of characters that were let through, from one to before another."""
+        runs = (run for run in self.branch.runs(bisect_right(self._ends, begin), bisect_right(self._ends, end - 1) + 1) if run.data)
+        return b"".join(run.data[max(0, begin - run.at):max(0, end - run.at)] for run in runs)

@@ -225,10 +225,10 @@ class MessageJudge:
         if not self.has_begun:
             return Reason.NO_OPENING
         root, (author, site, text) = sayings.root(number), sayings.client(number)
+        if site in self.base.sites and root is not Root.MISPLACED:
+            return Reason.BASE
         if root is not Root.ROOTED:
             return ROOTS[root]
-        if site in self.base.sites:
-            return Reason.BASE
         if self.holder(site) != author:
             return Reason.HOLDER if (site, author) in self.claims else Reason.UNCLAIMED
         return self.texts[text].reason(number, site)
@@ -240,6 +240,6 @@ class MessageJudge:
                     self.sayings.least(client) is not None):
                 yield client
 
-    def missing(self, most: int) -> list[bytes]:
-        """The hashes of some messages that are missing, after which others came."""
-        return self.sayings.missing(most)
+    def missing(self) -> Iterator[bytes]:
+        """The hashes of the messages that are missing, after which others came."""
+        return self.sayings.missing()

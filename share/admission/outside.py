@@ -149,16 +149,9 @@ class Unchained:
         """The others, and how many characters they inserted."""
         return ((one.row.entry, one.typed) for one in self._kept.values() if not one.is_loose)
 
-    def missing(self, most: int) -> list[bytes]:
-        """Hashes of some entries that are missing, at which what is loose begins."""
-        found: list[bytes] = []
-        for before in self._after:
-            if len(found) == most:
-                break
-            one = self._kept[self._after[before][0]]
-            if one.is_loose and before not in self._kept:
-                found.append(before)
-        return found
+    def missing(self) -> Iterator[bytes]:
+        """The hashes of the entries that are missing, at which what is loose begins."""
+        return (before for before, after in self._after.items() if self._kept[after[0]].is_loose and before not in self._kept)
 
     def may_be_dropped(self, of: bytes) -> bool:
         """Whether an entry is here and may be dropped."""

@@ -6,13 +6,14 @@ from share.admission.ledger import Row
 from share.admission.lines import MessageChain
 from share.admission.one_text import OneText
 from share.admission.record_set import Prefers, RecordSet
-from share.admission.sayings import Root, Whose
+from share.admission.sayings import Whose
 from share.admission.told import ToldOfMessages
 from share.admission.twigs import Twig
 from share.format.entry import NO_HASH, Entry
 from share.format.operation import TEXT, Operation
 from share.format.second.form import RecordForm
 from share.format.second.record import Record
+from share.text.names import Name, Names
 
 
 class RecordChains(RecordSet):
@@ -70,6 +71,17 @@ class RecordChains(RecordSet):
         line = self._line(site, text)
         return line.length if line else 0
 
+    def inserter(self, name: Name, text: int = TEXT) -> bytes | None:
+        line = self._line(name[0], text)
+        return line.inserter_of(name[1]) if line and name[1] < line.length else None
+
+    def inserted(self, names: Names, text: int = TEXT) -> bytes | None:
+        line = self._line(names.site, text)
+        return line.inserted(names.at, names.at + names.length) if line and names.at + names.length <= line.length else None
+
+    def is_of_base(self, site: int) -> bool:
+        return site in self._messages.base.sites
+
     def front_of(self, author: bytes, site: int, text: int = TEXT) -> int:
         return self.front_up_to(author, site, NO_HASH, text)
 
@@ -83,7 +95,7 @@ class RecordChains(RecordSet):
 
     def entry_of(self, site: int, seq: int, text: int = TEXT) -> bytes | None:
         line = self._line(site, text)
-        return line.branch.hash(seq - 1) if line and 0 < seq <= line.front else None
+        return line.branch.named(seq) if line and 0 < seq <= line.front else None
 
     def name_in(self, last: bytes, seq: int) -> bytes | None:
         number = self._before(last, seq)
@@ -101,7 +113,7 @@ class RecordChains(RecordSet):
     def is_loose(self, of: bytes) -> bool:
         record = self._records.number(of)
         number = self._message(of) if record is None else next(iter(self._records.messages(record)), None)
-        return number is not None and self._sayings.root(number) is Root.LOOSE
+        return number is not None and self._told.is_loose(number)
 
     def message(self, site: int, seq: int, text: int = TEXT) -> Operation:
         line = self._line(site, text)

@@ -1,14 +1,13 @@
 """Which messages of a note of the second form count, by the records that came, and what is told of the others: what `Judge` is for the
 first form."""
 from collections.abc import Iterable, Iterator
-from itertools import islice
 
 from share.admission.copies import Copies
 from share.admission.ledger import Row, Who
 from share.admission.left_out import LeftOut, without_copied
 from share.admission.record_chains import RecordChains
 from share.admission.record_set import Prefers
-from share.admission.sayings import Root, Whose
+from share.admission.sayings import Whose
 from share.format.entry import Entry
 from share.format.operation import TEXT, Operation
 from share.format.second.form import RecordForm
@@ -47,7 +46,7 @@ class RecordJudge(RecordChains):
         return map(self._records.row, self._having(self._told.not_through(site, author)))
 
     def not_counting(self, site: int, author: bytes) -> Iterator[Entry]:
-        numbers = (number for number in self._told.not_through(site, author) if self._sayings.root(number) is not Root.LOOSE)
+        numbers = (number for number in self._told.not_through(site, author) if not self._told.is_loose(number))
         return map(self._records.entry, self._having(numbers))
 
     def held_up(self, site: int, text: int = TEXT) -> list[Entry]:
@@ -71,16 +70,15 @@ class RecordJudge(RecordChains):
         return sorted(found, key=lambda entry: (entry.site, entry.first, entry.hash))
 
     def is_lacking(self) -> bool:
-        return bool(self.missing(1))
+        return next(self.missing(), None) is not None
 
-    def missing(self, most: int) -> list[bytes]:
-        messages = self._messages
-        if not messages.has_opening:
-            return [self._form.keys.opening_name(), *messages.missing(most - 1)][:most]
-        base = messages.base.missing()
-        found = ([base] if base else []) + messages.missing(most - bool(base))
-        unclaimed = islice(messages.unclaimed(), most - len(found))
-        return (found + [self._form.keys.claim_name(one.author, one.site) for one in unclaimed])[:most]
+    def missing(self) -> Iterator[bytes]:
+        messages, keys = self._messages, self._form.keys
+        if base := messages.base.missing() if messages.has_opening else keys.opening_name():
+            yield base
+        yield from messages.missing()
+        if messages.has_opening:
+            yield from (keys.claim_name(one.author, one.site) for one in messages.unclaimed())
 
     def wrong(self) -> list[Operation]:
         texts = [one for text in sorted(self._messages.texts) if (one := self._text(text))]

@@ -1,22 +1,19 @@
 """How much of what doesn't count of a note of the second form is kept in memory: half of it in equal parts for the numbers that are
 claimed, half for all who hold none, and as much as both for what may be of the base, until that is whole. A record that may count at once
 is always kept; of others what is too much is given back as it comes, and may be added again when its turn comes, so room never changes
-what counts. What is said of copies, and of what was made anew, has half as much besides: half of that is for all who hold no number, a
-quarter for whoever comes first, and a quarter in equal parts for the numbers. Nothing makes room for it.
+what counts.
 """
 import heapq
 
 from share.admission.ledger import Row, Who
 from share.admission.message_judge import MessageJudge
-from share.admission.room import GivenBack
+from share.admission.room import STRETCH_OVERHEAD, GivenBack
 from share.admission.sayings import Whose
 from share.format.entry import NO_HASH
 from share.format.second.record import Record, RecordKind
 
 # What a record and each of its messages cost beside what the record says.
 RECORD_OVERHEAD, MESSAGE_OVERHEAD = 400, 250
-# What each stretch costs of which a record says that it was copied.
-STRETCH_OVERHEAD = 500
 OF_WHAT_WAS_MADE_ANEW = frozenset((RecordKind.ANEW, RecordKind.COPIES))
 
 
@@ -31,9 +28,6 @@ class RecordRoom(GivenBack):
         self._weights: dict[Who, int] = {}
         self._of_others = self._of_base = 0
         self._lacking_base: set[int] = set()
-        # How many bytes of what was said are kept, by number and author, of those who hold theirs and of all others.
-        self._said: dict[Who, int] = {}
-        self._said_by_holders = self._said_by_others = 0
         # Of each chain the records that couldn't count as they came, that whose last message has the least seq first: this, the hash of
         # the message, and their bytes.
         self._waiting: dict[Whose, list[tuple[int, bytes, int]]] = {}
@@ -43,7 +37,9 @@ class RecordRoom(GivenBack):
         if not self.is_bounded or row.made:
             return True
         if entry.kind in OF_WHAT_WAS_MADE_ANEW:
-            return self._admits_what_is_said(row, entry)
+            many = len(entry.copied.stretches) if entry.kind is RecordKind.COPIES else 0
+            weight, holds = RECORD_OVERHEAD + len(entry.body) + STRETCH_OVERHEAD * many, self._judge.holder(entry.site) == entry.author
+            return self.admits_what_is_said(row, weight, holds, self._judge.numbers)
         if self._may_count(entry):
             return True
         weight = RECORD_OVERHEAD + MESSAGE_OVERHEAD * entry.size + len(entry.body)
@@ -53,21 +49,6 @@ class RecordRoom(GivenBack):
                 self._lacking_base.add(entry.site)
             return False
         self._charge(entry, weight)
-        return True
-
-    def _admits_what_is_said(self, row: Row, entry: Record) -> bool:
-        """Whether there is room for what somebody says, who holds his number or doesn't."""
-        many = len(entry.copied.stretches) if entry.kind is RecordKind.COPIES else 0
-        weight, who, part = RECORD_OVERHEAD + len(entry.body) + STRETCH_OVERHEAD * many, (entry.site, entry.author), self._size // 4
-        holds, said = self._judge.holder(entry.site) == entry.author, self._said.get(who, 0) + weight
-        if holds and (self._said_by_holders + weight <= part // 2 or said <= self.share(self._judge.numbers) // 4):
-            self._said_by_holders += weight
-        elif not holds and self._said_by_others + weight <= part:
-            self._said_by_others += weight
-        else:
-            self.give_back(row, lacks=False)
-            return False
-        self._said[who] = said
         return True
 
     def _may_count(self, entry: Record) -> bool:

@@ -265,9 +265,9 @@ class Sayings(Hashes):
             return Root.ROOTED
         return Root.MISPLACED if self._seqs[self._befores[down] - 1] else Root.LOOSE
 
-    def missing(self, most: int) -> list[bytes]:
-        """The hashes of some messages that are missing, after which others came."""
-        return [self.hash(number) for number, _ in zip(self._waiting, range(most))]
+    def missing(self) -> Iterator[bytes]:
+        """The hashes of the messages that are missing, after which others came."""
+        return map(self.hash, self._waiting)
 
     def message(self, number: int) -> Operation:
         """A message that is here."""

@@ -72,8 +72,9 @@ class ToldOfMessages:
         return InText(self._judge, self._twigs, text)
 
     def is_loose(self, number: int) -> bool:
-        """Whether a message lacks one before it."""
-        return self._sayings.root(number) is Root.LOOSE
+        """Whether a message lacks one before it, with which it may count: under a number of the base nothing more does."""
+        of_base = self._judge.has_begun and self._sayings.client(number).site in self._judge.base.sites
+        return self._sayings.root(number) is Root.LOOSE and not of_base
 
     def _texts(self) -> Iterator[OneText]:
         """The texts, of which all is let through that can be."""
@@ -112,7 +113,7 @@ class ToldOfMessages:
         """Whether messages that are in no line are said to wait: one before them is missing, or a claim of their number. Where somebody
         else holds that, who has no claim of it holds nothing up: it costs nothing to write without one."""
         root, site = self._sayings.root(twig.numbers[0]), twig.site
-        if not self._judge.has_begun or root is Root.LOOSE:
+        if not self._judge.has_begun or self.is_loose(twig.numbers[0]):
             return True
         return root is Root.ROOTED and site not in self._judge.base.sites and self._judge.claimant(site) is None
 
@@ -160,7 +161,7 @@ class ToldOfMessages:
         """What lost its place to something lesser, and what goes on from that."""
         anew: dict[Whose, dict[int, int]] = {}
         for twig in self._twigs.all():
-            if self._sayings.root(twig.numbers[0]) is not Root.ROOTED or self._waits(twig):
+            if self._sayings.root(twig.numbers[0]) is Root.MISPLACED or self._waits(twig):
                 continue
             if twig.client not in anew:
                 anew[twig.client] = self._said_anew(twig.client)

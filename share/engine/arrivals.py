@@ -69,10 +69,16 @@ class Arrivals:
                 peer.gap = None
             self._authors.are_called({number: peer.name for peer in self._peers if peer.name})
 
+    @property
+    def no_number(self) -> str:
+        """Why nothing can be typed, where the site has no number. One that was found needs the log, too."""
+        needs_log = self.status.searching and self.status.offline
+        return NO_NUMBER if needs_log else self._session.why_no_number or NO_NUMBER
+
     def check_typing(self) -> None:
         """Raises Wrong where nothing can be typed now."""
         if not self._session.can_type:
-            raise Wrong("number", NO_NUMBER)
+            raise Wrong("number", self.no_number)
         if self.is_behind:
             raise Wrong("failed", NOT_NOW)
 
@@ -97,15 +103,17 @@ class Arrivals:
         others = sum(1 for one in self._peers if one.is_open) - 1
         state: Line = {"log": log, "unsent": status.unsent, "on": status.on + max(0, others),
                        "types": status.can_type, "waiting": status.waiting, "site": status.site}
-        for name, words in ("why", status.offline), ("trouble", STILL if self.is_still else status.trouble or self.trouble):
+        # How things are is as it was when something could be taken in last.
+        for name, words in ("why", status.offline), ("trouble", STILL if self.is_still else self.trouble or status.trouble):
             if words:
                 state[name] = words
         if status.left_out:
             state["left_out"] = self._authors.with_names(status.left_out)
         if status.renewed:
             state["renewed"] = status.renewed
-        if status.unproved:
-            state["unproved"] = True
+        for name, is_so in ("unproved", status.unproved), ("searching", status.searching):
+            if is_so:
+                state[name] = True
         if status.reading:
             state["read"], state["of"] = status.reading
         return state

@@ -1,5 +1,5 @@
 """Edits that the engine makes for an editor by the characters' names: undo and redo, looks, and typing again what was left out."""
-from functools import partial
+from collections.abc import Callable
 from itertools import chain
 
 from share.engine import protocol
@@ -9,13 +9,21 @@ from share.engine.editor import Peer
 from share.engine.protocol import Wrong
 from share.engine.shared_text import SharedText
 from share.program.retyping import Lost
-from share.program.site import Told
+from share.program.site import Edited, Site, Told
 from share.program.undo import Step, do, looks_of
 from share.sync.session import Session
 from share.text.errors import Refused, Trouble
 from share.text.line import Line
 from share.text.looks import Looked, setting
 from share.text.names import united
+
+SeesEdit = Callable[[Site, Edited], None]
+
+
+def see_all_done(_: Site, edited: Edited) -> None:
+    """Raises Wrong where the program refused a part of an edit."""
+    if edited.refused is not None:
+        raise Wrong("refused", str(Refused(edited.refused)), number=edited.refused)
 
 
 class ByName:
@@ -33,7 +41,7 @@ class ByName:
         peer.coalescing.stop()
         peer.gap = None
         while step := peer.undoing.next(redo, among):
-            changed = self._do(peer, step, redo, None if among else peer)
+            changed = self.make(peer, step, redo, None if among else peer)
             peer.undoing.done(redo, step, changed)
             if changed.does_something():
                 return {"done": True}
@@ -56,25 +64,31 @@ class ByName:
         looked = [Looked(*one, sets(one[1])) for parts in looks_of(site, names) for one in parts]
         peer.coalescing.stop()
         peer.gap = None
-        changed = self._do(peer, Step(looked=looked), redo=True, jumps=peer)
+        changed = self.make(peer, Step(looked=looked), redo=True, jumps=peer)
         if changed.does_something():
             peer.undoing.add(changed)
         return {}
 
-    def _do(self, peer: Peer, step: Step, redo: bool, jumps: Peer | None) -> Step:
-        """Takes an edit back, or does it; what that changed. The cursor of an editor may go there."""
+    def make(self, peer: Peer, step: Step, redo: bool, jumps: Peer | None, sees: SeesEdit = lambda site, edited: None) -> Step:
+        """Takes an edit back, or does it; what that changed. The cursor of an editor may go there. Who sees what was done may raise
+        Wrong, and then nothing of it was."""
         told: list[Told] = []
         changed = Step()
+
+        def work(site: Site) -> Edited:
+            edited = do(site, step, redo, told, changed)
+            sees(site, edited)
+            return edited
+
         try:
-            edited = self._session.edit(partial(do, step=step, redo=redo, told=told, changed=changed))
+            edited = self._session.edit(work)
         except Trouble as why:
             self._arrivals.catch_up()
             raise Wrong("unkept", str(why)) from why
         with peer.extents.are_of(changed.key):
             for part in told:
                 self._text.show(part, jumps)
-        if edited.refused is not None:
-            raise Wrong("refused", str(Refused(edited.refused)), number=edited.refused)
+        see_all_done(self._session.site, edited)
         return changed
 
     def lost(self) -> Line:

@@ -10,12 +10,12 @@ PAUSE_VARIABLE = "VIALSHOAL_PAUSE"
 PAUSE_SECONDS, MOST_KEYS = 1.0, 20
 
 
-def pause_seconds() -> float:
-    """The silence that ends an edit, as this person has set it."""
+def pause_seconds(otherwise: float = PAUSE_SECONDS) -> float:
+    """The silence that ends an edit, or something else that is typed, as this person has set it."""
     try:
         return float(os.environ.get(PAUSE_VARIABLE, ""))
     except ValueError:
-        return PAUSE_SECONDS
+        return otherwise
 
 
 class Coalescing:

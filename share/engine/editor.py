@@ -60,9 +60,13 @@ class Peer:
         self._state: Line = {}
         self._cursors: list[Line] = []
         self._cursors_due, self._sends_cursors = 0.0, False
+        # Whether no user sees what it shows.
+        self.is_script = False
         # Whether it shows looks; which of them it was sent, with which version, and whether it may have dropped these.
         self.sees_looks = False
         self._looks, self._looks_version, self._sends_looks = 0, 0, False
+        # Whether it shows what is remarked, and which of that it was told of.
+        self.sees_remarks, self._remarks = False, 0
         # Whether cursors are to be sent as soon as they may be.
         self.has_cursors_to_show = False
 
@@ -106,7 +110,8 @@ class Peer:
         if not isinstance(name, str) or not isinstance(colour, str) or colour and not protocol.COLOUR.fullmatch(colour):
             raise Wrong("field", "name has to be a string, and colour one as #3366cc.")
         self.name, self.colour = presence.clean_name(name) or self.name, colour or self.colour
-        self.sees_looks = request.get("looks") is True
+        self.sees_looks, self.sees_remarks = request.get("looks") is True, request.get("remarks") is True
+        self.is_script = request.get("script") is True
         return units
 
     def moved(self, change: Change) -> None:
@@ -176,6 +181,14 @@ class Peer:
         if self.is_open and state != self._state and not self.is_slow:
             self._state = state
             self.send({"notice": "state", **state})
+
+    def show_remarks(self, notice: Callable[[], tuple[int, Line]]) -> None:
+        """Tells it that something of what is remarked may be otherwise, where it shows that."""
+        if self.is_open and self.sees_remarks and not self.is_slow:
+            times, line = notice()
+            if times != self._remarks:
+                self._remarks = times
+                self.send({"notice": "remarks", **line})
 
     def show_again(self, version: int) -> None:
         """Sends cursors again soon, which an edit that was made in this version may have made it drop, and looks that are newer."""

@@ -5,7 +5,7 @@ from contextlib import suppress
 from itertools import chain
 
 from share.engine import protocol
-from share.engine.arrivals import NO_NUMBER, NOT_NOW, Arrivals
+from share.engine.arrivals import NOT_NOW, Arrivals
 from share.engine.editor import Peer
 from share.engine.gaps import Gap, cut_by, rewrite_of
 from share.engine.protocol import Wrong
@@ -106,7 +106,7 @@ class EditRequests:
             raise Trouble(NOT_NOW)
         if site is None:
             text.take_out(peer, own, text.measured.as_note())
-            return {"edits": edits, "error": "number", "words": NO_NUMBER}, []
+            return {"edits": edits, "error": "number", "words": self._arrivals.no_number}, []
         gap, peer.gap = peer.gap, None
         places = self._places(transformer, changes)
         if gap and gap.takes(places):

@@ -59,6 +59,8 @@ class Engine:
         """One editor less."""
         if peer in self.peers:
             self.peers.remove(peer)
+            if self._note:
+                self._note.looked.left([peer])
             trace(Traced.EDITOR_LEFT, editors=len(self.peers))
 
     def take(self, peer: Peer, waiting: list[bytes | None]) -> None:
@@ -68,6 +70,8 @@ class Engine:
         self._asked = time.monotonic()
         try:
             request = protocol.parse(waiting.pop(0))
+            if self._note:
+                self._note.looked.asked(peer, request.get("do"))
             if request.get("do") == "edit" and peer.is_open and self._note:
                 for one, made in self._note.edits.make(peer, request, waiting):
                     self._answer(peer, one, made)
@@ -184,7 +188,7 @@ class Engine:
     def _opened(self) -> SharedNote:
         session = self._opens()
         try:
-            note = SharedNote(self.name, session, self.peers, OtherEditors(self._new_who), self._wake, self._answer)
+            note = SharedNote(self.name, session, self.peers, OtherEditors(self._new_who), self._wake, self._answer, self._clock)
         except BaseException:
             session.close()
             raise

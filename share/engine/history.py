@@ -1,5 +1,5 @@
 """A note's history for its editors: its steps, the text as it was, and who wrote what."""
-from collections.abc import Callable
+from collections.abc import Callable, Set
 from concurrent.futures import Future, ThreadPoolExecutor
 from typing import Any, TypeVar
 
@@ -12,6 +12,7 @@ from share.program import replay
 from share.program.replay import Past, Replays, Wrote
 from share.sync.session import Session
 from share.text.line import Line
+from share.text.names import Names
 from share.text.rope import Measured, readable, swapped
 
 # The most steps of a history that are given at once.
@@ -30,14 +31,14 @@ class History:
         # What is done in the thread, and what is done then.
         self._later: list[tuple[Future[Any], Callable[[], None]]] = []
 
-    def steps(self, peer: Peer, request: Line) -> None:
-        """Does the request `history`, in the thread."""
+    def steps(self, peer: Peer, request: Line, suggested: Set[Names]) -> None:
+        """Does the request `history`, in the thread; without what types replacements that are suggested, and hides them."""
         begin, most = protocol.number(request, "from", 0), protocol.number(request, "most", MOST_STEPS)
         messages = self._session.site.history[:]
         left_out = self._authors.lost(self._session.lost())
 
         def work() -> Line:
-            found = replay.steps(messages, begin, min(most, MOST_STEPS))
+            found = replay.steps(messages, begin, min(most, MOST_STEPS), suggested)
             line: Line = {"length": len(messages), "steps": [replay.as_line(one) for one in found]}
             return line | {"left_out": left_out} if left_out else line
 
@@ -45,7 +46,7 @@ class History:
             line["steps"] = [one | self._authors.of(one["site"]) for one in line["steps"]]
             return line
 
-        self._answer_when_done(peer, request, work, with_names)
+        self.answer_when_done(peer, request, work, with_names)
 
     def past(self, peer: Peer, request: Line) -> None:
         """Does the request `past`, in the thread."""
@@ -62,7 +63,7 @@ class History:
             past, wrote = found
             return {"at": at, "text": readable(swapped(past.text)), "stretches": self._authors.stretches(wrote)}
 
-        self._answer_when_done(peer, request, work, as_line)
+        self.answer_when_done(peer, request, work, as_line)
 
     def who(self, peer: Peer, request: Line) -> Line:
         """Does the request `who`."""
@@ -85,8 +86,7 @@ class History:
         self._thread.shutdown(cancel_futures=True)
         self._replays.close()
 
-    def _answer_when_done(self, peer: Peer, request: Line, work: Callable[[], Worked],
-                          as_line: Callable[[Worked], Line]) -> None:
+    def answer_when_done(self, peer: Peer, request: Line, work: Callable[[], Worked], as_line: Callable[[Worked], Line]) -> None:
         """Does something in the thread, and answers what is made of it then."""
         future = self._thread.submit(work)
         peer.waits += 1

@@ -1,17 +1,21 @@
 """A note that is open, in its parts: the text, who is on, what comes, what is typed, and the history."""
 from collections.abc import Callable, Sequence
+from contextlib import ExitStack, suppress
 
 from share.engine import protocol
 from share.engine.arrivals import Arrivals
 from share.engine.authors import Authors
 from share.engine.by_name import ByName
+from share.engine.changes import Changes
 from share.engine.editor import Peer
 from share.engine.edits import EditRequests
 from share.engine.formatting import Formatting
 from share.engine.history import History
+from share.engine.looked import PersonsLooks
 from share.engine.others import OtherEditors
 from share.engine.presence import EditorPresence
 from share.engine.protocol import Wrong
+from share.engine.reviewing import STATES, Reviewing
 from share.engine.shared_text import SharedText
 from share.store import atomic
 from share.sync.session import Session
@@ -23,20 +27,25 @@ class SharedNote:
     """A note that editors have open. The engine's thread alone calls it; `wake` is called by any."""
 
     def __init__(self, name: str, session: Session, peers: Sequence[Peer], others: OtherEditors, wake: Callable[[], None],
-                 answer: Callable[[Peer, Line, Line], None]):
+                 answer: Callable[[Peer, Line, Line], None], clock: Callable[[], float]):
         self.name, self.session, self._peers = name, session, peers
         self.formatting = Formatting()
-        self.text = SharedText(session, peers, [others.moved, lambda change, _: self.formatting.moved(change)])
+        self.text = SharedText(session, peers, [others.moved, lambda change, _: self.formatting.moved(change),
+                                                lambda change, names: self.reviewing.moved(change, names)])
         self.authors = Authors(name, session)
         self.arrivals = Arrivals(name, session, peers, self.text, self.authors)
         self.presence = EditorPresence(session, peers, self.text, others, self.authors)
         self.edits = EditRequests(session, self.text, self.arrivals)
         self.by_name = ByName(session, self.text, self.arrivals, self.authors)
         self.history = History(session, self.text, self.authors, wake, answer)
+        self.looked = PersonsLooks(name, session, clock)
+        self.changes = Changes(session, self.text, self.authors, self.looked, self.history.answer_when_done)
+        self.reviewing = Reviewing(session, self.text, self.arrivals, self.by_name, self.history)
 
     def take_in(self) -> None:
         """Takes in what came from others, and answers what has been done meanwhile."""
         try:
+            self.looked.turn()
             self.arrivals.take_in()
             self.presence.meet(self.arrivals.status)
             if self._sees_looks():
@@ -44,6 +53,10 @@ class SharedNote:
             self.arrivals.trouble = None
         except Exception as fault:  # pylint: disable=broad-except
             self.arrivals.failed(fault)
+        if any(peer.sees_remarks for peer in self._peers):
+            # Typing goes on where it fails; who asks for the margin is told why.
+            with suppress(Exception):
+                self.reviewing.look()
         self.history.answer()
 
     def show(self, peer: Peer) -> None:
@@ -51,6 +64,7 @@ class SharedNote:
         peer.show_cursors(self.presence.cursors_for(peer))
         peer.show_looks(self.formatting, self.text.measured)
         peer.show_state(self.arrivals.state())
+        peer.show_remarks(self.reviewing.notice)
 
     def has_more(self) -> bool:
         """Whether some of what came is still to be taken in."""
@@ -87,10 +101,10 @@ class SharedNote:
 
     def close(self) -> None:
         """Closes the note; what isn't sent stays in its file."""
-        try:
-            self.history.close()
-        finally:
-            self.session.close()
+        with ExitStack() as closing:
+            for close in self.session.close, self.reviewing.close, self.history.close:
+                closing.callback(close)
+            self.looked.left(self._peers)
 
 
 def _seen(peer: Peer, request: Line) -> Line:
@@ -115,9 +129,18 @@ HANDLERS: dict[str, Callable[[SharedNote, Peer, Line], Line | None]] = {
     "text": lambda _, peer, request: _send_text(peer, request),
     "on": lambda note, *_: note.presence.people(),
     "who": lambda note, peer, request: note.history.who(peer, request),
-    "history": lambda note, peer, request: note.history.steps(peer, request),
+    "history": lambda note, peer, request: note.history.steps(peer, request, note.reviewing.suggested()),
     "past": lambda note, peer, request: note.history.past(peer, request),
+    "changed": lambda note, peer, request: note.changes.changed(peer, request),
     "lost": lambda note, *_: note.by_name.lost(),
     "recover": lambda note, *_: note.by_name.recover(),
     "save": lambda note, _, request: note.save(request),
+    "remarks": lambda note, peer, request: note.reviewing.remarks(peer, request),
+    "remark": lambda note, peer, request: note.reviewing.remark(peer, request),
+    "suggest": lambda note, peer, request: note.reviewing.suggest(peer, request),
+    "reply": lambda note, peer, request: note.reviewing.reply(peer, request),
+    **dict.fromkeys(STATES, lambda note, peer, request: note.reviewing.state(peer, request)),
+    "revise": lambda note, peer, request: note.reviewing.revise(peer, request),
+    "withdraw": lambda note, peer, request: note.reviewing.withdraw(peer, request),
+    "accept": lambda note, peer, request: note.reviewing.accept(peer, request),
 }

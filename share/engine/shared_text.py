@@ -1,9 +1,12 @@
 """The text of a note as its editors are shown it, and how a change of it comes to each of them."""
 from collections.abc import Callable, Iterable, Sequence
 from contextlib import suppress
+from weakref import WeakSet
 
 from share.engine.editor import Peer
 from share.engine.protocol import Wrong
+from share.engine.track import Track
+from share.engine.transform import Transformer
 from share.program.site import Told
 from share.sync.session import Session
 from share.text.change import LINE_END, Change
@@ -23,8 +26,16 @@ class SharedText:
     def __init__(self, session: Session, peers: Sequence[Peer], followers: Sequence[Follower]):
         self.measured = Measured(session.text())
         self._session, self._peers, self._followers = session, peers, followers
+        # Who asked what becomes of places; who forgets that is asked no more.
+        self._tracks = WeakSet[Track]()
         # What undoes the changes that may turn out not to be kept, in the order of these; None where there are none.
         self._inverse: list[Change] | None = None
+
+    def track(self, units: Units) -> "Track":
+        """What becomes of places in the text of now, counted in units."""
+        found = Track(units)
+        self._tracks.add(found)
+        return found
 
     def place(self, peer: Peer, position: int, behind: bool = False) -> int:
         """The place in bytes of a position in an editor's text, before or behind what came in there."""
@@ -34,6 +45,13 @@ class SharedText:
             raise Wrong("outside", f"Position {position} is outside the text.") from why
         except Split as why:
             raise Wrong("split", f"Position {position} is inside a character.") from why
+
+    def kept(self, peer: Peer, begin: int, end: int) -> list[tuple[int, int]]:
+        """Where a stretch of an editor's text is in bytes, as far as it is still there, and without what came in there meanwhile."""
+        for position in begin, end:
+            self.place(peer, position)
+        units = peer.transformer.units
+        return [(self.measured.place(first, units), self.measured.place(last, units)) for first, last in peer.transformer.kept(begin, end)]
 
     def has_lines(self, begin: int, end: int) -> bool:
         """Whether a stretch begins at a line's begin and ends in a line end: what is at its begin for who doesn't know of it yet goes
@@ -101,7 +119,8 @@ class SharedText:
                undoes: Peer | None = None) -> None:
         """Shows all editors, but perhaps one, changes that the site has made, with the names of what they bring where these are
         known. The cursor of who asked for them goes where they are."""
-        open_ones = [peer.transformer for peer in self._peers if peer.is_open and peer is not but]
+        open_ones: list[Transformer | Track] = [peer.transformer for peer in self._peers if peer.is_open and peer is not but]
+        open_ones += self._tracks
         made: dict[Units, list[tuple[int, int, bytes]]] = {one.units: [] for one in open_ones}
         for one, names in changes:
             whole = self.measured.whole(one)

@@ -8,7 +8,7 @@ it otherwise; its next edit names the version in which it was made, and so says 
 from collections.abc import Sequence
 
 from share.engine.protocol import Wrong
-from share.text.delta import NOTHING, Op, all_composed, brought_to, growth, in_turn, moved, of_change, of_changes, transformed
+from share.text.delta import NOTHING, Op, all_composed, brought_to, growth, in_turn, kept_between, moved, of_change, of_changes, transformed
 from share.text.units import Units
 
 # The most notices that are kept one by one because an editor may not have taken them over.
@@ -118,6 +118,10 @@ class Transformer:
     def position(self, position: int, behind: bool = False) -> int:
         """Where a position of the editor's text is in the engine's, before or behind what came in there."""
         return moved(position, self._pending(), self.units, behind)
+
+    def kept(self, begin: int, end: int) -> list[tuple[int, int]]:
+        """Where a stretch of the editor's text is in the engine's, as far as it is still there, and without what came in there."""
+        return kept_between(begin, end, self._pending(), self.units)
 
     def edit(self, version: int, changes: Sequence[tuple[int, int, str]], length: int) -> tuple[Op, Op]:
         """An edit that was made in a version, transformed for the engine's text, whose length in units is given; and what is to

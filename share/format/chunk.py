@@ -30,6 +30,8 @@ LEAST_RANGE = 3
 # The most chunks that are kept one by one, each of up to 16,000 operations; and the most bytes of chunks whose operations are
 # kept, each of which may take a few hundred times as many.
 UNFOLDED, MOST_KEPT = 16, 2**17
+# What may be the code of an operation on a set of names.
+OF_NAMES = re.compile(rb"[\x07\x0b\x0c]")
 # A varint (LEB128) in its one spelling; and a chunk of nothing but letters that were typed one after the other, in plain looks.
 VARINT = rb"([\x00-\x7f]|[\x80-\xff]{1,6}[\x01-\x7f])"
 VARINTS = re.compile(VARINT + b"*")
@@ -101,6 +103,11 @@ def packed_in_parts(operations: Iterable[Operation], length: int = 0) -> list[Pa
     for part in found:
         _latest.put(part.chunk, part.operations)
     return found
+
+
+def of_names_at_most(chunk: bytes) -> int:
+    """How many operations of a chunk are on sets of names at most, by its bytes alone."""
+    return len(OF_NAMES.findall(chunk))
 
 
 def _in_rows(operations: Sequence[Operation]) -> tuple[Operation, ...]:

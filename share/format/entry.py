@@ -80,6 +80,11 @@ class EntryKind(IntEnum):
         return self._name_ == "CLAIM"
 
     @property
+    def is_base(self) -> bool:
+        """Whether it has messages that were copied into the note as it began."""
+        return self._name_ == "BASE"
+
+    @property
     def says_copies(self) -> bool:
         """Whether it says which messages stand for which."""
         return self._name_ == "COPIES"

@@ -6,11 +6,14 @@ from collections.abc import Iterable, Iterator, Sequence
 from itertools import chain, islice
 from typing import NamedTuple, Protocol, overload
 
-from share.format.chunk import Writer, text_of_chunk, unpacked
-from share.format.operation import Operation
+from share.format.chunk import Writer, of_names_at_most, text_of_chunk, unpacked
+from share.format.operation import INSERT, Operation
 
 # A chunk of fewer operations is handed in with others where there are many, since a run of the program reads no more than 2^20 lines.
 FEW = 16
+# The program notes each stretch that operations change, in 24 bytes, until it has taken in their chunk. So a chunk names no more
+# characters than this; and one isn't read for that where its operations can't change more stretches than there may be.
+MOST_NOTED, MOST_UNSEEN = 2**22, 2**25
 
 
 class Holder(Protocol):
@@ -99,22 +102,25 @@ class Messages(Sequence[Operation]):
             for chunk, known, _ in part.holder.parts(part.begin, part.end):
                 yield from known or unpacked(chunk, text_of_chunk(chunk))
 
-    def chunks(self, few: int | None = None) -> Iterator[tuple[bytes, int]]:
-        """Chunks of all of them, and the number that each has: those that came, but for such of few, and new ones of the others."""
-        writer, count, few = Writer(), 0, few or FEW
+    def chunks(self, few: int | None = None, begun: int = 0) -> Iterator[tuple[bytes, int]]:
+        """Chunks of all of them, and the number that each has: those that came, but for such of few, and for such as may change
+        much where so many operations were begun with; and new ones of the others."""
+        writer, count, named, few = Writer(), 0, 0, few or FEW
         for chunk, known, size in chain.from_iterable(one.holder.parts(one.begin, one.end) for one in self.parts()):
-            if chunk and size >= few:
+            begun += size
+            if chunk and size >= few and of_names_at_most(chunk) * begun <= MOST_UNSEEN:
                 if count:
                     yield bytes(writer.data), count
-                    writer, count = Writer(), 0
+                    writer, count, named = Writer(), 0, 0
                 yield chunk, size
                 continue
             for one in known or unpacked(chunk, text_of_chunk(chunk)):
-                if not writer.add(one):
+                more = 0 if one.kind == INSERT else sum(names.length for names in one.mentions)
+                if count and named + more > MOST_NOTED or not writer.add(one):
                     yield bytes(writer.data), count
-                    writer, count = Writer(), 0
+                    writer, count, named = Writer(), 0, 0
                     writer.add(one)
-                count += one.size
+                count, named = count + one.size, named + more
         if count:
             yield bytes(writer.data), count
 

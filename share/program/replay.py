@@ -1,13 +1,14 @@
 """A note as it was, and who wrote what, by replays: messages are handed to a run of the program, up to where that is
 asked for. It is done in a thread of its own, since a long history takes seconds."""
 from collections import OrderedDict
-from collections.abc import Iterable
+from collections.abc import Iterable, Iterator, Set
 from contextlib import suppress
 from typing import NamedTuple, TypeVar
 
 from share.format.history import Messages
 from share.format.operation import CHANGE_LOOKS, DELETE, INSERT, RESTORE, Operation
 from share.program.site import Site
+from share.review.hidden import hidden_at_once
 from share.text.change import boundary
 from share.text.errors import Trouble
 from share.text.looks import Dressed
@@ -95,14 +96,17 @@ class Replays:
         return Past(text, wrote(self._site, 0, len(text)))
 
 
-def steps(history: Messages, begin: int, most: int) -> list[HistoryStep]:
+def steps(history: Messages, begin: int, most: int, suggested: Set[Names] = frozenset()) -> list[HistoryStep]:
     """The steps of a history from a message on, up to a number of them. What replaces something is one, and so is what is typed
-    behind a character that is shown meanwhile."""
+    behind a character that is shown meanwhile. What types a replacement that is suggested, and hides it at once, is passed over."""
     found: list[HistoryStep] = []
     # The first message of each, of several the first one.
     firsts: list[Operation] = []
     last: Operation | None = None
-    for one in history[begin:].runs():
+    for one, is_passed_over in _with_passed_over(history[begin:].runs(), hidden_at_once(suggested, history)):
+        if is_passed_over:
+            begin += one.size
+            continue
         size = len(one.data) or sum(names.length for names in one.mentions)
         if last and _is_same_step(last, one):
             found[-1] = found[-1]._replace(end=begin + one.size, size=found[-1].size + size)
@@ -120,6 +124,15 @@ def steps(history: Messages, begin: int, most: int) -> list[HistoryStep]:
             firsts.append(one)
         last, begin = one, begin + one.size
     return found
+
+
+def _with_passed_over(runs: Iterable[Operation], passed_over: Set[tuple[int, int]]) -> Iterator[tuple[Operation, bool]]:
+    """Operations, and of each whether it is passed over, by site and seq; letters one by one where that is so of some."""
+    sites = {site for site, _ in passed_over}
+    for run in runs:
+        is_near = run.site in sites and any((run.site, seq) in passed_over for seq in range(run.seq, run.seq + run.size))
+        for one in run.each() if is_near else (run,):
+            yield one, is_near and (one.site, one.seq) in passed_over
 
 
 def as_line(step: HistoryStep) -> dict[str, int]:

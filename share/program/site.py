@@ -330,7 +330,7 @@ class Site:
 
     def _hand_in(self, coming: Messages, progress: Progress = lambda done: None) -> None:
         """Hands operations to the program, and doesn't ask what they change."""
-        chunks, done = coming.chunks(), 0
+        chunks, done = coming.chunks(begun=len(self.history)), 0
         while some := [*islice(chunks, CHUNKS_AT_ONCE)]:
             end = done + sum(size for _, size in some)
             self._unpacked(self._ask(self._program.unpacking(some)), some, coming[done:end])

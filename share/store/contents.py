@@ -9,6 +9,9 @@ from share.format.operation import TEXT
 from share.format.second.key_link import AnyLink
 from share.program import replay, retyping
 from share.program.site import Site
+from share.review.anchor import Knows
+from share.review.margin import Margin
+from share.review.record import MARGIN
 from share.store import nicknames, notes, read_only, renewal
 from share.store.founding import begun, in_rows
 from share.store.note_file import About
@@ -16,6 +19,7 @@ from share.store.read_only import Judged, NoteText, Own, uncollected
 from share.store.with_log import keep_in, with_log
 from share.text.errors import Trouble
 from share.text.line import Line
+from share.text.names import Names
 
 
 class Contents(NamedTuple):
@@ -45,6 +49,24 @@ def contents_of(name: str, there: Judged, text: int = TEXT) -> Contents:
     if said := renewal.renewed_by(judge, own.clients):
         missing.append(renewal.renewed_in_words(said))
     return Contents(messages, missing, retyping.with_text(retyping.lost(judge, own.anew), own.clients, names))
+
+
+def margin_of(there: Judged) -> Margin:
+    """What is said in the margin of what there is of a note, where that can have one."""
+    said = Margin()
+    if MARGIN in there.about.form().texts:
+        said.add_all(there.judge.let_through_in_order(MARGIN).runs())
+    return said
+
+
+def suggested(there: Judged) -> set[Names]:
+    """The replacements that are suggested of what there is of a note."""
+    return margin_of(there).suggested()
+
+
+def knows_of(there: Judged) -> Knows:
+    """What of the text counts, shown or not."""
+    return Knows(there.judge.inserter, there.judge.inserted, there.judge.is_of_base)
 
 
 @uncollected()

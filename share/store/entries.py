@@ -3,7 +3,7 @@ import contextlib
 import math
 import struct
 import zlib
-from collections.abc import Collection, Container, Iterable, Iterator, Mapping, Sequence
+from collections.abc import Container, Iterable, Iterator, Mapping, Sequence
 from typing import NamedTuple
 
 from share.admission.ledger import Row, Chained
@@ -115,13 +115,11 @@ class Entries:
                     break
         return found, after, most <= 0
 
-    def rows_at(self, places: Collection[int]) -> list[Row]:
-        """The entries at these places."""
-        if not places:
-            return []
+    def row_at(self, place: int) -> Row | None:
+        """The entry at a place."""
         with self._file.reading():
-            found = [self._sql.execute(AT_PLACE, (place,)).fetchone() for place in places]
-            return [row for one in found if one and (row := self._row(*one))]
+            found = self._sql.execute(AT_PLACE, (place,)).fetchone()
+            return self._row(*found) if found else None
 
     def places(self, after: int = 0, most: int = -1) -> list[Located]:
         """The places of the entries after one, without those that were withdrawn; all, or no more than this."""

@@ -52,6 +52,11 @@ class Locks:
         except OSError:
             return False
 
+    def unlock(self, site: int) -> None:
+        """Lets others write under a number again."""
+        with suppress(OSError):
+            self._asked(fcntl.F_OFD_SETLK, site, fcntl.F_UNLCK)
+
     def share_name(self) -> bool:
         """Keeps others from taking away the name; whether nobody is about to."""
         return self._has(fcntl.F_RDLCK)

@@ -12,14 +12,14 @@ from collections.abc import Iterator
 
 from share.log.folder import held
 from share.log.sqlite_file import SIDE_FILES, beside
-from share.store import nicknames, notes, old
+from share.store import nicknames, notes, old, seen
 from share.store.guarded import Damaged
 from share.store.locks import LOCK_SUFFIX, Locks
 from share.store.note_file import Disk
 from share.text.errors import Trouble
 
-# What a note's file has beside it that is no part of it: packed files, and what people were called.
-BESIDE = (".packed", nicknames.NICKNAMES_SUFFIX)
+# What a note's file has beside it that is no part of it: packed files, what people were called, and when this one looked.
+BESIDE = (".packed", nicknames.NICKNAMES_SUFFIX, seen.SEEN_SUFFIX)
 
 
 def rename_note(name: str, new: str) -> None:

@@ -4,13 +4,11 @@ It is kept beside the note's file, for who looks at the history later. Nothing h
 it can't be written it isn't.
 """
 import json
-import os
-import secrets
 from contextlib import suppress
 
 from share.format.entry import GREATEST_SITE
 from share.format.presence import clean_name
-from share.store import notes
+from share.store import beside
 
 NICKNAMES_SUFFIX = ".people"
 # The most that are kept: who has the note's link could name thousands.
@@ -20,11 +18,9 @@ LONGEST_FILE = 1 << 20
 
 def known(name: str) -> dict[int, str]:
     """The names of a note's sites."""
-    path = notes.path_of(name).with_suffix(NICKNAMES_SUFFIX)
     found: object = None
-    with suppress(OSError, ValueError, RecursionError):
-        if path.stat().st_size <= LONGEST_FILE:
-            found = json.loads(path.read_text(encoding="utf-8"))
+    with suppress(ValueError, RecursionError):
+        found = json.loads(beside.kept_bytes(name, NICKNAMES_SUFFIX, LONGEST_FILE))
     if not isinstance(found, dict):
         return {}
     names = {int(site): clean_name(one) for site, one in found.items()
@@ -34,14 +30,5 @@ def known(name: str) -> dict[int, str]:
 
 def remember(name: str, names: dict[int, str]) -> None:
     """Keeps the names of a note's sites; of too many those that came last."""
-    path = notes.path_of(name).with_suffix(NICKNAMES_SUFFIX)
-    beside = path.with_name(f".{path.name}.{secrets.token_hex(4)}")
     kept = dict([*names.items()][-MOST_NICKNAMES:])
-    with suppress(OSError):
-        try:
-            with open(os.open(beside, os.O_WRONLY | os.O_CREAT | os.O_EXCL | os.O_CLOEXEC, 0o600), "w",
-                      encoding="utf-8") as file:
-                json.dump(kept, file, ensure_ascii=False)
-            os.rename(beside, path)
-        finally:
-            beside.unlink(missing_ok=True)
+    beside.write(name, NICKNAMES_SUFFIX, json.dumps(kept, ensure_ascii=False).encode("utf-8", "replace"))

@@ -173,6 +173,10 @@ class Disk:
         """Keeps others from writing under a number as long as this file is open; whether nobody did."""
         return self._locks.lock(site)
 
+    def unlock(self, site: int) -> None:
+        """Lets others write under a number again."""
+        self._locks.unlock(site)
+
     def locked(self) -> int:
         """How many numbers others have locked."""
         return sum(self._locks.is_locked(client.site) for client in self.own.clients() if not client.copied)

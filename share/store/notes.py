@@ -14,6 +14,7 @@ from share.admission.left_out import LeftOut
 from share.format.entry import Entry
 from share.format.history import Messages
 from share.format.link import Link, is_network
+from share.format.operation import TEXT
 from share.format.second.key_link import AnyLink, KeyLink, is_origin
 from share.log.base import Unreachable
 from share.program import retyping
@@ -66,11 +67,13 @@ def names() -> list[str]:
 
 class Renewed(NamedTuple):
     """The name that a note has that was copied into a new one, None where it was of the form of before and is where
-    it was; what isn't in the new one, in words; and what was left out of the old one for good."""
+    it was; what isn't in the new one, in words; what was left out of the old one for good; and whether the new one is of the first form,
+    and the old one wasn't."""
 
     before: str | None
     missing: list[str]
     left_out: list[LeftOut]
+    is_back: bool
 
 
 def open_note(name: str, url: str | None, link: AnyLink | None, password: str | None = None,
@@ -127,17 +130,17 @@ def link_to(name: str) -> str:
 
 
 def renew(name: str, url: str | None, password: str | None, called: str = "",
-          begins: Callable[[Messages], Messages] = lambda messages: messages, form_number: int = FIRST) -> Renewed:
-    """Copies a note into a new one of a form with a key of its own, under its name, or what is made of its messages; those who have
-    the old one are told so by one of this name."""
-    path = path_of(name)
+          begins: Callable[[Messages], Messages] = lambda messages: messages, form_number: int | None = None) -> Renewed:
+    """Copies a note into a new one with a key of its own, under its name, or what is made of its messages: of a form, or of its own;
+    those who have the old one are told so by one of this name."""
+    path, old_form = path_of(name), FIRST
     if path.exists():
         found = read_only.judged(path)
         url = url or _log_of_new(found.about.url)
         if found.about.url:
             # What others wrote while nobody had the note open here is in its log alone.
             found = with_log(found, found.about.url, password)
-        judge = found.judge
+        judge, old_form = found.judge, found.about.form_number
         messages, missing = judge.count().messages, read_only.missing(judge, found.faults)
         left_out = retyping.left_out(judge, read_only.own(path).anew)
     elif kept := of_before(name, url, password):
@@ -145,10 +148,8 @@ def renew(name: str, url: str | None, password: str | None, called: str = "",
         left_out = []
     else:
         raise Trouble(f"There is no note {name} here.")
-    messages = begins(messages)
-    if is_full(len(messages)):
-        raise Trouble(f"The note {name} has {len(messages):,} messages, as many as a note may have. So would a copy with its history, "
-                      f"in which nothing could be typed. bin/note renew {name} --fresh makes a new note of its text.")
+    messages, form_number = begins(messages), form_number or max(old_form, form_of_new())
+    _see_that_there_is_room(name, messages, form_number)
     beside = path.with_name(f".renewed.{os.getpid()}{NOTE_SUFFIX}")
     make_note(beside, *begun(url, messages, form_number))
     try:
@@ -158,7 +159,18 @@ def renew(name: str, url: str | None, password: str | None, called: str = "",
         beside.unlink(missing_ok=True)
     if before:
         say_so(path_of(before), called, password)
-    return Renewed(before, missing, left_out)
+    return Renewed(before, missing, left_out, form_number < old_form)
+
+
+def _see_that_there_is_room(name: str, messages: Messages, form_number: int) -> None:
+    """Refuses messages for which a new note of a form has no room."""
+    others = sorted({part.holder.text for part in messages.parts()} - {TEXT})
+    if form_number == FIRST and others:
+        raise Trouble(f"The note {name} has a text {others[0]}, for which one of the first form has no room, and stays as it is. bin/note "
+                      f"export {name} FILE --text {others[0]} writes that text as a file.")
+    if is_full(len(messages)):
+        raise Trouble(f"The note {name} has {len(messages):,} messages, as many as a note may have. So would a copy with its history, "
+                      f"in which nothing could be typed. bin/note renew {name} --fresh makes a new note of its text.")
 
 
 def _log_of_new(url: str) -> str:

@@ -30,7 +30,7 @@ from share.store.locks import noted_beside, place_noted
 from share.store.note_file import NOTE_APPLICATIONS, SECOND, About, about_of, noted_of, unsent_of
 from share.store.old import copied
 from share.store.own import COPIED, names_of_messages
-from share.text.errors import NEWER, Trouble, entries
+from share.text.errors import NEWER, NOT_BEGUN, Trouble, entries
 
 Read = TypeVar("Read")
 # What is read of each entry: its place, and its bytes; or all that is kept of it, for who doesn't ask who made it.
@@ -167,6 +167,8 @@ def text_of(found: FoundEntries) -> NoteText:
 def missing(judge: Judging, faults: Iterable[str]) -> list[str]:
     """What doesn't count of a note in whose file these faults were found, in words."""
     told = list(faults)
+    if not (told or judge.begun()):
+        told.append(NOT_BEGUN)
     if judge.has_newer():
         told.append(NEWER)
     if many := judge.incomplete():

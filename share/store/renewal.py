@@ -16,6 +16,7 @@ from share.format.presence import clean_name
 from share.log.base import LogLost, Unreachable
 from share.log.opening import open_log
 from share.program.site import Site, split
+from share.review.record import MARGIN
 from share.store.guarded import Damaged, Unkept
 from share.store.note_file import Disk
 from share.text.errors import Trouble, counted
@@ -47,9 +48,23 @@ def fresh(messages: Messages, without: Set[int]) -> Fresh:
     """The text that messages show, typed anew, without what some sites typed of it."""
     made, sizes = Messages(), dict[int, int]()
     for text in sorted({part.holder.text for part in messages.parts()}):
+        if text == MARGIN:
+            made += Messages(_inserted_anew(messages.of_text(text), without))
+            continue
         made += Messages(_typed_anew(_merged_stretches(_kept_of(messages.of_text(text), text, sizes, without)), text))
     return Fresh(made, {site: size for site, size in sizes.items() if site not in without},
                  {site: sizes.get(site, 0) for site in sorted(without)})
+
+
+def _inserted_anew(messages: Messages, without: Set[int]) -> Iterator[Operation]:
+    """The insertions of a margin as they were and in their order, since each is one record, whatever of it is shown; without those of
+    some sites."""
+    inserted = [one for run in messages.runs() if run.data and run.site not in without for one in run.each()]
+    seqs, lengths = dict[int, int](), dict[int, int]()
+    for stamp, one in enumerate(sorted(inserted, key=lambda one: (one.stamp, one.site)), 1):
+        seqs[one.site], at = seqs.get(one.site, 0) + 1, lengths.get(one.site, 0)
+        yield one._replace(seq=seqs[one.site], stamp=stamp, at=at, mentions=())
+        lengths[one.site] = at + len(one.data)
 
 
 def _kept_of(messages: Messages, text: int, sizes: dict[int, int], without: Set[int]) -> Iterator[Styled]:

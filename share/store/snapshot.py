@@ -8,13 +8,9 @@ damaged, that a kill left without its note, or that was put back, is passed over
 import contextlib
 import pathlib
 import struct
-from collections.abc import Mapping
 
 from share.admission.judging import Judging
-from share.admission.ledger import Branch
-from share.admission.lines import Path
 from share.format.entry import digest
-from share.format.history import Messages, Part
 from share.format.operation import TEXT
 from share.log.folder import make_folder
 from share.program.site import PACKED_NAME, Site
@@ -82,14 +78,3 @@ def keep(disk: Disk, judge: Judging, site: Site) -> None:
             (folder / PACKED_NAME).chmod(PRIVATE)
             disk.own.note_packed(_noted_as(site.number, text), digest((folder / PACKED_NAME).read_bytes()),
                                  b"".join(PACKED_FRONT.pack(of, seq, by or b"") for of, seq, by in found))
-
-
-def parted(messages: Messages, fronts: Mapping[int, int]) -> tuple[Messages, Messages]:
-    """Those of messages that count that a packed file has, and the others."""
-    within, beyond = Messages(), Messages()
-    for part in messages.parts():
-        assert isinstance(part.holder, Branch | Path)
-        middle = min(max(part.begin, fronts.get(part.holder.site, 0)), part.end)
-        within.add(Part(part.holder, part.begin, middle))
-        beyond.add(Part(part.holder, middle, part.end))
-    return within, beyond

@@ -1,24 +1,28 @@
 """What is asked of a note that is open, and done to its texts."""
-from collections.abc import Callable, Set
+from collections.abc import Callable, Sequence, Set
 
 from share.admission.ledger import Who
 from share.format.entry import Entry, Form
 from share.format.history import Messages
 from share.format.operation import TEXT
 from share.program.site import Edited, Site
+from share.store.note_file import About
+from share.store.seen import Look, Still, still_counting
 from share.sync.edits import OwnEdits
+from share.sync.margin import OpenMargin
 from share.sync.numbers import Numbers
 from share.sync.replica import Replica
 from share.sync.replicator import Replicator
 from share.sync.state import Holdings
 from share.sync.status import Notices
 from share.sync.texts import OpenTexts
-from share.text.errors import Trouble
+from share.text.errors import BEGIN_LOST, NOT_BEGUN, Trouble
 
 
 class EditedNote:
     """A note that is open for one editor. Where a text isn't given it is the first one."""
 
+    _about: About
     _form: Form
     _holdings: Holdings
     _numbers: Numbers
@@ -27,6 +31,9 @@ class EditedNote:
     _texts: OpenTexts
     _replicator: Replicator
     _notices: Notices
+    margin: OpenMargin
+    # Whether all that the log had when it was opened was read before the file was read last.
+    _has_read: bool
 
     @property
     def site(self) -> Site:
@@ -41,7 +48,19 @@ class EditedNote:
     @property
     def can_type(self) -> bool:
         """Whether something can be typed under the site's number."""
-        return self._numbers.own.stood
+        return self._numbers.own.stood and self._holdings.judge.begun()
+
+    @property
+    def why_not_begun(self) -> str:
+        """Why nothing can be typed where what the note begins with isn't here, and wasn't in the log; else nothing."""
+        if not self._has_read or self._holdings.judge.begun():
+            return ""
+        return NOT_BEGUN if self._about.url else BEGIN_LOST
+
+    @property
+    def why_no_number(self) -> str:
+        """Why nothing can be typed, where that isn't just for the log to answer."""
+        return self.why_not_begun or self._numbers.why_none
 
     @property
     def stands(self) -> Callable[[bool], None]:
@@ -66,6 +85,8 @@ class EditedNote:
 
     def edit(self, work: Callable[[Site], Edited], text: int = TEXT) -> Edited:
         """Does several things at the site of a text as one edit: all that they made is kept, or nothing of it."""
+        if why := self.why_not_begun:
+            raise Trouble(why)
         return self._texts[self._checked(text)].edits.make(work)
 
     def _checked(self, text: int) -> int:
@@ -77,9 +98,19 @@ class EditedNote:
         """All messages of a text that count, each after its causes."""
         return self._holdings.judge.let_through_in_order(text)
 
+    @property
+    def identity(self) -> bytes:
+        """What tells the note from others."""
+        return self._form.note
+
+    def still_counting(self, looks: Sequence[Look]) -> Still:
+        """What was seen in the last of some looks, as far as it still counts."""
+        return still_counting(looks, self._holdings.judge, self._holdings.rows)
+
     def is_own(self, site: int) -> bool:
-        """Whether a number is one of this person's."""
-        return any(one.site == site and not one.copied for one in self._holdings.clients.values())
+        """Whether a number is one of this person's, and nobody else holds it."""
+        holder = self._holdings.judge.holder(site)
+        return any(one.site == site and not one.copied and holder in (None, one.author.name) for one in self._holdings.clients.values())
 
     def own(self) -> Set[Who]:
         """The sites and authors that are this person's."""

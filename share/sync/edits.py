@@ -52,7 +52,7 @@ class OwnEdits:
     def make(self, edit: Callable[[Site], Edited], says: Says = lambda last: ()) -> Edited:
         """Makes an edit, and keeps its messages before anyone sees them, with what is said of them."""
         self.make_room()
-        if not self._numbers.own.stood:
+        if not (self._numbers.own.stood and self._holdings.judge.begun()):
             raise Trouble(self._numbers.why_none or "Nothing can be typed here until the log has given this editor a number of its own.")
         if self._replica.is_stale or self._holdings.is_anew():
             # What is typed would be said to build on what counts, and others than the user sees may count.

@@ -41,7 +41,7 @@ def _until_done(replicator: Replicator, woken: threading.Event) -> str | None:
     while not (replicator.has_read() and replicator.is_up_to_date()):
         if offline := replicator.offline():
             return offline
-        if (now := (replicator.progress(), replicator.unsent(), replicator.reading())) != before:
+        if (now := (replicator.progress(), replicator.next_to_give(), replicator.reading())) != before:
             before, end = now, time.monotonic() + STILL_SECONDS
         elif time.monotonic() > end:
             return "The log doesn't take what it is given, or give what it has."

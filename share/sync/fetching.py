@@ -32,6 +32,8 @@ class Fetcher:
         self._losses, self._giver, self._threads = losses, giver, threads
         # How often the log was read whole, and how many entries were read since that was begun.
         self.readings = self.size = 0
+        # How many entries the log had when it was opened, and whether the editor has taken them in.
+        self._first, self.is_taken_in = 0, False
         # Where it is in the log, how many entries it reads until the log was read whole, and for which file.
         self._after = START
         self._goal: int | None = None
@@ -42,10 +44,9 @@ class Fetcher:
         self._keystrokes = form.one_by_one()
 
     def progress(self) -> tuple[int, int] | None:
-        """How much was read of what the log had when it was opened, until all of that was; None then, and before it
+        """How much was read of what the log had when it was opened, until all of that was taken in; None then, and before it
         answers."""
-        goal = self._goal
-        return None if not goal or self.readings else (min(self.size, goal), goal)
+        return None if not self._first or self.is_taken_in else (min(self.size, self._first), self._first)
 
     def run(self) -> None:
         """Reads and watches until all stop."""
@@ -78,6 +79,7 @@ class Fetcher:
         # What is given from now on may be after what the log has by then.
         goal = log.size()
         self._known.reads_from_front, self._read_for, self._goal = False, carried, goal
+        self._first = self._first if self.readings else goal
         self._after, self.size = START, 0
         trace(Traced.READ_FROM_FRONT, entries=goal)
 

@@ -1,5 +1,4 @@
 """Who is on, through a log, and what each of them lacks."""
-import random
 import threading
 import time
 from collections.abc import Callable, Iterable, Iterator, Sequence
@@ -7,14 +6,16 @@ from itertools import chain
 
 from share.format import heartbeat
 from share.format.entry import Form
-from share.format.heartbeat import MOST_LACKS, OF_BEFORE, Hears, Lack, Said, Way
+from share.format.heartbeat import OF_BEFORE, Hears, Lack, Said, Way
 from share.format.presence import RANDOM_BYTES
 from share.log.base import Log
 from share.store.note_file import Disk
 from share.sync.heard import Asked, Others
+from share.sync.turns import LacksInTurn
 
-# The pause before the others are asked again for what is missing, which doubles up to a most.
-ASK_SECONDS, MOST_ASK_SECONDS = 2, 600
+# The pause before the others are asked for more of what is missing, which doubles up to a most each time that all of it was asked for; and
+# how many times as long as it takes to choose what to ask for it is at least.
+ASK_SECONDS, MOST_ASK_SECONDS, RESTS_FROM_CHOOSING = 2, 600, 20
 # How often what stands where an entry is damaged is asked for, and the most such places.
 ASKS_FOR_DAMAGED, MOST_DAMAGED = 3, 100
 # The pause between two readings of the log, or of the whole file, for those who ask, however many they are.
@@ -34,10 +35,12 @@ class Meeting:
         # Called by any thread, as soon as there is something to ask for.
         self.has_to_ask: Callable[[], None] = lambda: None
         self._form, self._token, self._counts, self._wake = form, token, counts, wake
-        # How often the others were asked, and from when on they are asked again; what they are asked for now, and next.
+        # How often the others were asked, and from when on they are asked again; what they are asked for now, and all that was lacking
+        # last, until some of it is asked for.
         self._asks, self._asked = 0, 0.0
         self._lacks: Sequence[Lack] = ()
         self._lacked: Sequence[bytes] = ()
+        self._turns = LacksInTurn()
         # The entries after which something damaged came, and how often that is to be asked for yet.
         self._damaged: dict[bytes, int] = {}
         # What others have asked for; whether one couldn't say what it lacks; and from when on this is looked at again.
@@ -54,11 +57,11 @@ class Meeting:
             self.on = max(1, many)
             self._wake()
 
-    def ask(self, lacked: Callable[[], Sequence[bytes]]) -> None:
-        """Asks all who are on for entries of these hashes, the next time that something is said. Who asks often does so ever
-        more rarely."""
-        if time.monotonic() >= self._asked:
-            self._lacked = lacked()
+    def ask(self, lacked: Callable[[], Iterable[bytes]]) -> None:
+        """Asks all who are on for some entries of these hashes, by turns, the next time that something is said. Who asks for the same
+        often does so ever more rarely."""
+        if not self._lacked and time.monotonic() >= self._asked:
+            self._lacked = [*lacked()]
             self.has_to_ask()
 
     def damaged(self, before: Iterable[bytes]) -> None:
@@ -139,11 +142,12 @@ class Meeting:
             return [one for one in wanted if one not in self._wanted], reads
 
     def _ask_for_more(self) -> None:
-        """Puts what is lacked now into what is said next."""
-        lacks = [Lack(Way.IT, of) for of in self._lacked] + [Lack(Way.AFTER, of) for of in [*self._damaged]]
-        self._lacks, self._lacked = random.sample(lacks, min(len(lacks), MOST_LACKS)), ()
+        """Puts some of what is lacked now into what is said next."""
+        begin, lacked = time.thread_time(), self._lacked
+        self._lacks = self._turns.next([Lack(Way.IT, of) for of in lacked] + [Lack(Way.AFTER, of) for of in [*self._damaged]])
         for _, of in self._lacks:
             if (times := self._damaged.pop(of, 0) - 1) > 0:
                 self._damaged[of] = times
         self._asks += 1
-        self._asked = time.monotonic() + min(ASK_SECONDS * 2**self._asks, MOST_ASK_SECONDS)
+        pause = min(ASK_SECONDS * 2**self._turns.rounds, MOST_ASK_SECONDS)
+        self._asked, self._lacked = time.monotonic() + max(pause, RESTS_FROM_CHOOSING * (time.thread_time() - begin)), ()

@@ -37,10 +37,16 @@ class NumberSearch:
         self._author = self._form.new_author()
         self._search = ClaimSearch(self._form.note, self._author.name, taken, self._form.zero_bits)
 
+    @property
+    def goes_on(self) -> bool:
+        """Whether a number is being searched for."""
+        return self._search is not None
+
     def has_ended(self) -> bool:
         """Whether what it found is to be taken. Any thread may call it."""
+        search = self._search
         try:
-            return bool(self._search and can_read(self._search, 0))
+            return bool(search and can_read(search, 0))
         except (OSError, ValueError):
             # It was closed meanwhile.
             return False
@@ -50,27 +56,26 @@ class NumberSearch:
         return self._found is not None or self.has_ended()
 
     def found(self, taken: Collection[int]) -> FoundNumber | None:
-        """What it found, until that is kept. Where somebody has claimed that number meanwhile, or it ended with nothing, another one is
-        searched for."""
+        """What it found, until that is kept. Where somebody has claimed that number meanwhile another one is searched for; Trouble where
+        it ended with nothing."""
         if self._found is None:
             if not self.has_ended():
                 return None
             self._found = self._taken()
-        if self._found is None or self._found.site in taken:
+        if self._found.site in taken:
             self._found = None
             self.begin(taken)
         return self._found
 
-    def _taken(self) -> FoundNumber | None:
+    def _taken(self) -> FoundNumber:
         """What it ended with."""
         assert self._search
         try:
             found = self._search.found()
-        except Trouble:
-            found = None
-        author = self._author
-        self.close()
-        return FoundNumber(found.site, author, self._form.claim(found.site, author, found.counter)) if found else None
+        finally:
+            self.close()
+        assert found
+        return FoundNumber(found.site, self._author, self._form.claim(found.site, self._author, found.counter))
 
     def kept(self) -> None:
         """Notes that what it found is kept."""

@@ -2,8 +2,8 @@
 with."""
 import secrets
 import time
-from collections.abc import Callable, Sequence
-from contextlib import suppress
+from collections.abc import Callable, Iterator, Sequence
+from contextlib import contextmanager, suppress
 
 from share.admission.ledger import Who
 from share.format.entry import GREATEST_SITE, Form
@@ -48,14 +48,17 @@ class Numbers:
         self._search_again = 0.0
         # The numbers that were given up, or copied with the note, and that no other editor has.
         self._held: set[Who] = set()
-        # What was made under them, is kept since others have it, and was let go for the log to be given it.
-        self._let_go: set[bytes] = set()
         self.own = self.locked() or self.claimed()
 
     @property
     def has_one(self) -> bool:
         """Whether this editor has a number; where one costs a search there may be none yet."""
         return self.own.site != READING or not self.search
+
+    @property
+    def is_searching(self) -> bool:
+        """Whether this editor has no number, and one is being searched for."""
+        return self.search is not None and self.search.goes_on and not self.has_one
 
     def lock_again(self, disk: Disk) -> None:
         """Locks this editor's number in a file that has taken the other one's place."""
@@ -125,10 +128,24 @@ class Numbers:
             taken = self._holdings.judge.claimed()
             if not self.has_one:
                 search.begin(taken)
-            return (found := search.found(taken)) is not None and self._take(found, search)
-        except (Unkept, Trouble):
+            if (found := search.found(taken)) is None:
+                return False
+            if not self._holdings.judge.begun():
+                # Which numbers were copied into the note isn't known yet.
+                self.why_none = ""
+                return False
+            return self._take(found, search)
+        except (Unkept, Trouble) as why:
             self._search_again = now + SEARCH_AGAIN_SECONDS
+            if not self.has_one:
+                self.why_none = str(why)
             return False
+
+    def keep_found(self) -> None:
+        """Keeps what a search has found, so that the next editor has it, also before it is known which numbers were copied into the note:
+        if it is one of these it is given up then. A search that is broken off is no loss: no counter is likelier than another."""
+        if self.search and self.search.is_ready() and (found := self.search.found(self._holdings.judge.claimed())):
+            self._keep(found)
 
     def _take(self, found: FoundNumber, search: NumberSearch) -> bool:
         """Keeps a number that was found; whether it is this editor's."""
@@ -211,21 +228,6 @@ class Numbers:
             self._file.mended(lambda: self._file.disk.keep([], True, retired=clients))
             self._holdings.gave_up(clients)
 
-    def withdraw(self, clients: Sequence[Client], replicator: Replicator) -> bool:
-        """Takes back what was made under numbers and that nobody else has; whether there was any. What others have and the log
-        lacks it is given."""
-        holdings = self._holdings
-        made = holdings.made_by(clients)
-        in_log = {of for of in made if replicator.has(of)}
-        known = holdings.followed().intersection(made) | in_log
-        gone = self._file.mended(lambda: self._file.disk.entries.withdraw(set(made) - known, known))
-        holdings.withdraw(gone)
-        if new := known - in_log - self._let_go:
-            # It was held back until now. A log that goes on lacking it is given it as whatever else it loses.
-            self._let_go |= new
-            replicator.let_go()
-        return bool(gone)
-
     def take_another_when_full(self, length: int) -> bool:
         """Takes another number where this editor's has little room left beside this many characters, or can make no more
         edits; whether it did. While the log is away it may be that there is none yet."""
@@ -245,6 +247,25 @@ class Numbers:
     def _has_room(self, one: Client, needed: int) -> bool:
         judge = self._holdings.judge
         return all(judge.length(one.site, text) <= MOST_OF_A_SITE - needed for text in self._form.texts)
+
+    @contextmanager
+    def as_another(self, site: int) -> Iterator[bool]:
+        """Has another number of this person, which can be typed under and no other editor has, be this one's meanwhile; whether it is."""
+        other = self.locked(lambda one: one.site == site and one.stood and self._has_room(one, LEAST_ROOM_LEFT))
+        if other is None:
+            yield False
+            return
+        before = self.own, self.is_full
+        self.own, self.is_full = other, False
+        try:
+            yield True
+        finally:
+            self.own, self.is_full = before
+            self._file.disk.unlock(site)
+
+    def is_in_use(self, site: int) -> bool:
+        """Whether a number can be typed under but for another editor that has it."""
+        return any(one.site == site and one.stood for one in self._usable())
 
     def _another(self, needed: int) -> Client | None:
         """Another number, which can be typed under, has room and is no other editor's; one is claimed where there is

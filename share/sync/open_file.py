@@ -52,7 +52,7 @@ class OpenFile:
         self._most = OPENED_BYTES
         while not self.unread:
             self.read()
-            self._holdings.judge.let_through()
+            self._holdings.let_through()
             if not self._holdings.has_more:
                 break
         self._most = math.inf
@@ -132,15 +132,15 @@ class OpenFile:
     def _read(self) -> list[Sequence[Row]]:
         if self.moved and not self._was_looked_at:
             self.look()
+        if time.monotonic() - self._looked > TAKEN_OUT_SECONDS:
+            self._looked = time.monotonic()
+            if self.disk.entries.size() < len(self._holdings.rows) + self._holdings.waiting_for_room():
+                raise Damaged(f"{self.disk.path} lacks entries that it had")
         new = self._read_on()
         if not self.moved and not self._holdings.has_more:
             # Only now is there something in memory of which the file can be written anew.
             self._look_what_is_lost()
             self.look()
-        if time.monotonic() - self._looked > TAKEN_OUT_SECONDS:
-            self._looked = time.monotonic()
-            if self.disk.entries.size() < len(self._holdings.rows) + self._holdings.waiting_for_room():
-                raise Damaged(f"{self.disk.path} lacks entries that it had")
         return new
 
     def _read_on(self) -> list[Sequence[Row]]:

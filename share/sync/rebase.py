@@ -20,6 +20,7 @@ from share.program.effects import Stretch
 from share.program.retyping import words_of
 from share.program.site import Edited, Site
 from share.program.undo import looks_of
+from share.review.record import MARGIN
 from share.store.own import Anew
 from share.sync.standing import said_of_copies
 from share.sync.lost import ToRebase, who
@@ -131,6 +132,20 @@ class _Differing(NamedTuple):
 def rebase(form: Form, rows: Sequence[Row], lost: Sequence[Operation], judge: Judging, site: Site,
            first: Collection[bytes] = ()) -> list[Done]:
     """Does at a site, which has all that counts of a text, what remains of lost messages of that."""
+    done = (_inserted_again(lost, site) if site.text_number == MARGIN else
+            _done_again(form, rows, lost, judge, site, first))
+    made = {one.old for one in done}
+    return done + [Done(message, None) for message in lost if message not in made]
+
+
+def _inserted_again(lost: Sequence[Operation], site: Site) -> list[Done]:
+    """Inserts again what lost messages inserted into a margin, each whole: it is one record there, whatever of it is shown."""
+    return [one for message in lost if message.data for one in _all_of(message, site.insert(0, message.data))]
+
+
+def _done_again(form: Form, rows: Sequence[Row], lost: Sequence[Operation], judge: Judging, site: Site,
+                first: Collection[bytes]) -> list[Done]:
+    """Does again in a text what remains of lost messages in what was seen of it."""
     # These entries first, then what was made here, then what came first: so what was seen as these edits were made is found
     # again.
     order = {row.entry.hash: bytes([row.entry.hash not in first, not row.made]) + row.place.to_bytes(8, "big")
@@ -150,9 +165,7 @@ def rebase(form: Form, rows: Sequence[Row], lost: Sequence[Operation], judge: Ju
         done += _typed_again(typed, differing, old, site)
         done += [one for message, names in hidden for one in _all_of(message, site.delete(names)[0])]
         done += _looked(here, differing, old, site)
-        done += _at_the_end(gone, site)
-    made = {one.old for one in done}
-    return done + [Done(message, None) for message in lost if message not in made]
+    return done + _at_the_end(gone, site)
 
 
 def _differing(seen: Sequence[Operation], now: Sequence[Operation]) -> _Differing:

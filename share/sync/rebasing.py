@@ -35,6 +35,8 @@ class Rebaser:
         self._turns, self._again = Turns(), 0.0
         # What was told last of what couldn't be rebased.
         self._trouble: str | None = None
+        # What was made under numbers that were given up, is kept since others have it, and was let go for the log to be given it.
+        self._let_go: set[bytes] = set()
 
     def may_write(self) -> bool:
         """Whether what couldn't be written lately may be tried again."""
@@ -59,7 +61,9 @@ class Rebaser:
     def settle(self, anew: Messages | None, has_read: bool) -> bool:
         """Gives up the numbers of this person that can't be gone on with, and rebases what doesn't count, when its turn
         comes. `anew` has all messages that count where the site has some that don't. Whether the site began anew."""
-        holdings, may = self._holdings, has_read and self.may_write()
+        holdings = self._holdings
+        # Before what a note begins with is here nothing counts of it, and nothing is lost.
+        may = has_read and holdings.judge.begun() and self.may_write()
         broken = self._given_up() if may else []
         is_due = may and self._numbers.has_one and self._turns.is_due()
         if is_due or self._texts.has_other_number() or holdings.is_anew():
@@ -82,6 +86,21 @@ class Rebaser:
                 self._holdings.add(made)
                 self._replicator.made()
 
+    def withdraw(self, clients: Sequence[Client]) -> bool:
+        """Takes back what was made under numbers and that nobody else has; whether there was any. What others have and the log
+        lacks it is given."""
+        holdings = self._holdings
+        made = holdings.made_by(clients)
+        in_log = {of for of in made if self._replicator.has(of)}
+        known = holdings.followed().intersection(made) | in_log
+        gone = self._file.mended(lambda: self._file.disk.entries.withdraw(set(made) - known, known))
+        holdings.withdraw(gone)
+        if new := known - in_log - self._let_go:
+            # It was held back until now. A log that goes on lacking it is given it as whatever else it loses.
+            self._let_go |= new
+            self._replicator.let_go()
+        return bool(gone)
+
     def _given_up(self) -> list[Client]:
         """The numbers that were given up now, since they can't be gone on with and no other editor has them, this editor's
         among them; what was made under them and not sent is withdrawn, and this editor has a number that can be gone on
@@ -91,7 +110,7 @@ class Rebaser:
             return []
         numbers.is_settled, number = True, numbers.own.site
         try:
-            while (broken := numbers.broken()) and numbers.withdraw(broken, self._replicator):
+            while (broken := numbers.broken()) and self.withdraw(broken):
                 # What a copy of this folder sends of it counts, and has to be kept when it comes. What was typed after what
                 # was withdrawn, under another number, counts no more either.
                 self._replicator.read_from_front()

@@ -4,6 +4,7 @@ import pathlib
 from collections.abc import Callable, Sequence
 from contextlib import closing, suppress
 
+from share.admission.fronts import parted
 from share.admission.judging import Counted
 from share.admission.ledger import Branch
 from share.admission.lines import Path
@@ -178,7 +179,7 @@ class Replica:
         with suppress(Unkept, Damaged):
             # Where the note's file can't be read now it is mended later.
             fronts = snapshot.fronts_of(self._file.disk, self._holdings.judge, own, folder, self.text)
-        packed, others = snapshot.parted(messages, fronts)
+        packed, others = parted(messages, fronts)
         self.packed = len(packed)
         site = Site(self.number, others, progress, folder, packed, lambda stands: self.stands(stands), self.text)
         site.beside = self._beside

@@ -1,7 +1,7 @@
 """Replicates a note between its file and its log, in threads: a slow or absent log never holds up a keystroke. What either
 lacks it is given: the file what is in the log, the log what is in the file, whoever wrote it."""
 import time
-from collections.abc import Callable, Sequence
+from collections.abc import Callable, Iterable, Sequence
 from contextlib import closing
 from itertools import count
 
@@ -155,9 +155,13 @@ class Replicator:
         return not self._has_log or self._fetcher.readings > 0
 
     def progress(self) -> tuple[int, int] | None:
-        """How much was read of what the log had when it was opened, until all of that was; None then, and before it
+        """How much was read of what the log had when it was opened, until all of that was taken in; None then, and before it
         answers."""
         return self._fetcher.progress()
+
+    def took_in(self) -> None:
+        """Says that all is taken in that the log had when it was opened."""
+        self._fetcher.is_taken_in = True
 
     def stands(self, entry: Entry) -> bool:
         """Whether an entry was read in the log, so that all before it was too."""
@@ -176,6 +180,10 @@ class Replicator:
         """Whether all that the log had was read, and it was given all that it is to have."""
         return not self._has_log or self._giver.is_done()
 
+    def next_to_give(self) -> int | None:
+        """The first place of the file that the log lacks, of those that were looked at and that it is to be given."""
+        return self._known.now.next_lacking()
+
     def editors_here(self) -> int:
         """How many editors of this person are on, this one included."""
         return self._watch.here
@@ -184,9 +192,9 @@ class Replicator:
         """How often the log was read whole."""
         return self._fetcher.readings
 
-    def ask(self, lacked: Callable[[], Sequence[bytes]]) -> None:
-        """Asks all who are on to give the log entries of these hashes again, even if it seemed to have them. Who asks
-        often does so ever more rarely."""
+    def ask(self, lacked: Callable[[], Iterable[bytes]]) -> None:
+        """Asks all who are on to give the log some entries of these hashes again, by turns, even if it seemed to have them. Who asks for
+        the same often does so ever more rarely."""
         self._meeting.ask(lacked)
 
     def find(self, found: Callable[[Lack], list[bytes]]) -> None:

@@ -14,6 +14,7 @@ from share.program import retyping
 from share.program.retyping import Lost
 from share.program.site import Told
 from share.program.trace import Traced, trace
+from share.review.record import MARGIN
 from share.store.guarded import Unkept
 from share.store.note_file import Disk
 from share.store.read_only import uncollected
@@ -21,6 +22,7 @@ from share.store.renewal import renewed_by
 from share.sync.edits import OwnEdits
 from share.sync.handover import Handover
 from share.sync.hiding import Hiders
+from share.sync.margin import OpenMargin
 from share.sync.numbers import Numbers
 from share.sync.open_file import OpenFile
 from share.sync.edited_note import EditedNote
@@ -41,8 +43,6 @@ OPEN_SECONDS = SEND_SECONDS = 3
 TOO_SLOW_SECONDS = 0.5
 # The longest that `arrived` takes while a note is opened, between two reports of the progress.
 BAR_SECONDS = 0.2
-# The most missing entries that others are asked for.
-MOST_MISSING = 1_000
 
 
 class Session(EditedNote):
@@ -56,7 +56,7 @@ class Session(EditedNote):
         # The time that one call of `arrived` spends on taking in what came.
         self.turn_seconds = BAR_SECONDS
         # Whether somebody looks at the text, which nobody does as long as the note is being opened.
-        self._looks = False
+        self._looks = self._has_read = False
         self._left_out, self._notices, handover = retyping.Totals(), Notices(), Handover()
         self._holdings = Holdings(self._form, handover)
         self._file = OpenFile(disk, self._holdings, self._notices)
@@ -95,6 +95,7 @@ class Session(EditedNote):
         self._texts = OpenTexts(holdings, opened_text)
         opened.callback(self._texts.close)
         self._replica, self._edits = self._texts[TEXT]
+        self.margin = OpenMargin(holdings, numbers, self._texts, MARGIN in form.texts)
         self._rebaser = Rebaser(*known, self._texts, self._replicator, self._notices)
         self._hiders = Hiders(holdings, form, numbers, self._texts, self._rebaser)
 
@@ -119,6 +120,8 @@ class Session(EditedNote):
             self._replica.begin_telling()
             told = self._arrived()
             self._replica.end_telling()
+            if self._has_read and not self.has_more():
+                self._replicator.took_in()
             return told
         except Unkept as why:
             # The text and the site stay as they are; all is looked at again later.
@@ -151,17 +154,19 @@ class Session(EditedNote):
     def status(self) -> Status:
         """How things are."""
         replicator, judge = self._replicator, self._holdings.judge
-        trouble = self._notices.trouble or self._file.unread or self._numbers.why_none or None
+        trouble = self._notices.trouble or self._file.unread or self.why_no_number or None
         return Status(self.number, replicator.on, replicator.unsent(), replicator.offline(), judge.incomplete(), trouble,
                       self.can_type, bool(self._about.url), replicator.progress(),
                       self._left_out.lines(judge, self._holdings.anew, self.own()), renewed_by(judge, self.own()),
-                      self.site.is_unproved)
+                      self.site.is_unproved, self._numbers.is_searching)
 
     def close(self) -> None:
         """Closes the note, once; what isn't sent stays in its file."""
         self._all_open.close()
 
     def _finish(self) -> None:
+        with suppress(Unkept, Trouble):
+            self._numbers.keep_found()
         self._replicator.close(SEND_SECONDS)
         for one in self._texts:
             one.replica.close()
@@ -177,7 +182,7 @@ class Session(EditedNote):
             self.arrived()
             passed = time.monotonic() - begin
             if passed > OPEN_SECONDS or not self.has_more() and self._replicator.has_looked() and (
-                    self._replicator.offline() or self.can_type and self._replicator.is_up_to_date()
+                    self._replicator.offline() or (self.can_type or self.why_not_begun) and self._replicator.is_up_to_date()
                     or self._is_slow(passed)):
                 break
             if not self.has_more():
@@ -200,6 +205,8 @@ class Session(EditedNote):
                 self._hiders.hide()
             return self.site.text() if self._looks else []
         self._ask_for_what_is_missing()
+        if (why := self.why_not_begun) or self._holdings.judge.begun():
+            self._notices.tell_of_begin(why)
         self._notices.tell_of_room(self._holdings.waiting_for_room())
         self._texts.comes(found)
         for one in self._texts.others():
@@ -217,6 +224,7 @@ class Session(EditedNote):
         new, found = self._file.read_on(self.turn_seconds / 2)
         if self._holdings.has_more:
             has_read, in_log = False, set()
+        self._has_read = has_read
         if found.anew or any(map(self._is_of_this_person, new)):
             self._numbers.is_settled = False
         if self._numbers.take_found():
@@ -237,7 +245,7 @@ class Session(EditedNote):
         judge = self._holdings.judge
         self._replicator.find(self._holdings.found)
         if not self._holdings.has_more and judge.is_lacking():
-            self._replicator.ask(lambda: judge.missing(MOST_MISSING))
+            self._replicator.ask(judge.missing)
         if self._file.lacks:
             self._file.lacks = False
             self._replicator.read_from_front()

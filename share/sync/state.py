@@ -10,7 +10,7 @@ from share.format.entry import Copy, Entry, Form
 from share.format.heartbeat import Lack, Way
 from share.store.note_file import Disk
 from share.store.own import Anew, Client
-from share.sync.backlog import Backlog
+from share.sync.backlog import Backlog, ReadAgain
 from share.sync.handover import Handover
 from share.sync.recovered import Recovered
 from share.sync.lost import RowsInMemory, WhatWasLost, who
@@ -18,8 +18,6 @@ from share.sync.standing import MOST_SAID_BY_OTHERS, Standing
 
 # The most bytes of what doesn't count that are in memory; what is too much is in the file alone until there is room.
 MOST_UNCOUNTED_BYTES = 2**27
-# The most entries for which there was no room that are read again in one go.
-READ_AGAIN_AT_ONCE = 1_000
 
 
 class Holdings(WhatWasLost):
@@ -45,7 +43,7 @@ class Holdings(WhatWasLost):
         # Those of this person under which a newer version wrote what this one doesn't know.
         self.newer: set[Who] = set()
         # Where entries are in the file for which there was no room, and those of them that are to be read again.
-        self._backlog, self._again = Backlog(), list[int]()
+        self._backlog, self._again = Backlog(), ReadAgain()
         self._place = self._number = 0
         # Whether the file may have more than was read.
         self.has_more = False
@@ -57,13 +55,13 @@ class Holdings(WhatWasLost):
         """Reads what the file has more, all or until it has this many bytes; the rows that weren't known, as `runs` has them."""
         if not self.rows:
             self.reread_anew(disk)
-        read, has_more = self._rows_of(disk, most)
-        gone = disk.entries.withdrawn(self._number)
-        again, self._again = self._again[:READ_AGAIN_AT_ONCE], self._again[READ_AGAIN_AT_ONCE:]
-        read.append(disk.entries.rows_at(dict.fromkeys(again)))
-        if any(row.made for rows in read for row in ([rows[0]] if isinstance(rows, Chained) else rows)):
-            # Another editor of this person may have claimed a number.
-            self.clients |= {who(one): one for one in disk.own.clients()}
+        before = self._place
+        try:
+            read, gone, has_more = self._read_on(disk, most)
+        except BaseException:
+            # What was taken of it already isn't added, and is read there the next time.
+            self._place = before
+            raise
         new = [run for rows in read for run in self._added(rows)]
         if gone:
             # What was withdrawn may be further on in the file.
@@ -71,6 +69,15 @@ class Holdings(WhatWasLost):
             self.withdraw([of for _, of in gone])
         self.has_more = has_more or bool(self._again)
         return new
+
+    def _read_on(self, disk: Disk, most: float) -> tuple[list[Sequence[Row]], list[tuple[int, bytes]], bool]:
+        """The next rows of a file, what was withdrawn, and whether there may be more."""
+        read, has_more = self._rows_of(disk, most)
+        gone = disk.entries.withdrawn(self._number)
+        if any(row.made for rows in read for row in ([rows[0]] if isinstance(rows, Chained) else rows)):
+            # Another editor of this person may have claimed a number.
+            self.clients |= {who(one): one for one in disk.own.clients()}
+        return [*read, self._again.read(disk.entries.row_at, most)], gone, has_more
 
     def _added(self, rows: Sequence[Row]) -> list[Sequence[Row]]:
         """Adds those of some rows that aren't known, and gives them, as `runs` has them."""
@@ -96,7 +103,7 @@ class Holdings(WhatWasLost):
     def read_again(self) -> None:
         """Begins the next reading at the front of the file, which was written anew."""
         self._place = self._number = 0
-        self._backlog, self._again = Backlog(), []
+        self._backlog, self._again = Backlog(), ReadAgain()
 
     def add(self, entries: Iterable[Entry], places: range = range(0)) -> None:
         """Adds entries that were made here and are in the file, perhaps at these places: where they follow what was read they needn't
@@ -114,13 +121,24 @@ class Holdings(WhatWasLost):
             before = self.judge
             # Who waits for room is judged anew, too.
             self._backlog.add(before.dropped())
-            self._again += self._backlog.take_all()
+            self._again.add(self._backlog.take_all())
             self.has_more = self.has_more or bool(self._again)
             self.judge = judge_of(self._form, room=MOST_UNCOUNTED_BYTES)
             for row in before.rows():
                 if row.entry.hash not in gone:
                     self.judge.add_new(row)
             self.rows, self._rejudged = RowsInMemory(self.judge, self._withdrawn), True
+
+    def let_through(self) -> None:
+        """Lets through what can be of what was read, while that is at hand."""
+        self.judge.let_through()
+        self._take_turns()
+
+    def _take_turns(self) -> None:
+        """Has what there was no room for be read again where there may be now."""
+        self._backlog.add(self.judge.dropped())
+        self._again.add(self._backlog.take(self.judge.turns()))
+        self.has_more = self.has_more or bool(self._again)
 
     def count(self) -> Counted:
         """What counts since this was last asked."""
@@ -130,9 +148,7 @@ class Holdings(WhatWasLost):
             self._many.clear()
         for part in found.messages.parts():
             self._many[part.holder.text] = self._many.get(part.holder.text, 0) + part.end - part.begin
-        self._backlog.add(self.judge.dropped())
-        self._again += self._backlog.take(self.judge.turns())
-        self.has_more = self.has_more or bool(self._again)
+        self._take_turns()
         return Counted(found.messages, found.anew or rejudged)
 
     def many(self, but: int | None = None) -> int:
@@ -160,8 +176,9 @@ class Holdings(WhatWasLost):
                    for message in row.entry.messages)
 
     def is_anothers(self, client: Client) -> bool:
-        """Whether somebody else writes under a number, or has it."""
-        return who(client) in self._shared or self.judge.holder(client.site) not in (None, client.author.name)
+        """Whether somebody else writes under a number, or has it, or it was copied into the note."""
+        return (who(client) in self._shared or self.judge.holder(client.site) not in (None, client.author.name)
+                or self.judge.is_of_base(client.site))
 
     def found(self, lack: Lack) -> list[bytes]:
         """The hashes of what others lack and name by a message, or as what begins after a claim."""

@@ -4,7 +4,7 @@ from dataclasses import dataclass, field
 
 from share.format.operation import Operation
 from share.program.site import is_nearly_full
-from share.text.errors import entries
+from share.text.errors import BEGUN, entries
 from share.text.line import Line
 
 
@@ -20,13 +20,15 @@ class Status:
     trouble: str | None = None
     can_type: bool = True
     has_log: bool = True
-    # How many entries were read of those that the log had at opening, and how many these are; nothing once all were.
+    # How many entries were read of those that the log had at opening, and how many these are; nothing once all were taken in.
     reading: tuple[int, int] | None = None
     # How much was left out for good, and of which sites; and who says that the note was renewed.
     left_out: list[Line] = field(default_factory=list)
     renewed: Line | None = None
     # Whether the program is one that isn't proved.
     unproved: bool = False
+    # Whether this editor has no number, and one is being searched for.
+    searching: bool = False
 
 
 class Notices:
@@ -38,8 +40,8 @@ class Notices:
         self._waiting: list[str] = []
         self._wrong: set[tuple[int, int]] = set()
         self._once: set[str] = set()
-        # How many entries had no room when that was last told.
-        self._without_room = 0
+        # How many entries had no room when that was last told; and why what the note begins with isn't here, as far as it was told.
+        self._without_room, self._not_begun = 0, ""
 
     def tell(self, words: str) -> None:
         """Tells the user something."""
@@ -50,6 +52,12 @@ class Notices:
         if words not in self._once:
             self._once.add(words)
             self.tell(words)
+
+    def tell_of_begin(self, why_not: str) -> None:
+        """Tells why what the note begins with isn't here, and then that it has come."""
+        if why_not != self._not_begun:
+            self._not_begun = why_not
+            self.tell(why_not or BEGUN)
 
     def tell_of_fullness(self, many: int, name: str) -> None:
         """Tells once that a note of a name has nearly as many messages as it can have."""

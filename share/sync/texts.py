@@ -42,6 +42,13 @@ class OpenTexts:
             self.comes(self._holdings.count())
             self.open(text, self._holdings.judge.let_through_in_order(text))
 
+    def opened_beside(self, text: int) -> OpenText:
+        """Opens a text once more, under the number of now; what is made there comes to all that are open. Who asks closes it."""
+        self.comes(self._holdings.count())
+        found = self._opens(text, self._holdings.judge.let_through_in_order(text))
+        found.edits.elsewhere = self.comes
+        return found
+
     def __iter__(self) -> Iterator[OpenText]:
         """All that are open."""
         return iter([*self._open.values()])

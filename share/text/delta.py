@@ -166,6 +166,24 @@ def moved(position: int, op: Op, units: Units, behind: bool = False) -> int:
     return position + shift
 
 
+def kept_between(begin: int, end: int, op: Op, units: Units) -> list[tuple[int, int]]:
+    """Where what is between two positions is after an op, as far as that keeps it, and without what comes in there: stretches that
+    rise and don't meet."""
+    found, at, now = list[tuple[int, int]](), 0, 0
+    for part in (*op, ENDLESS):
+        if isinstance(part, bytes):
+            now += units.count(part)
+            continue
+        first, last = max(begin, at), min(end, at + abs(part))
+        if part > 0 and first < last:
+            before = found.pop() if found and found[-1][1] == now + first - at else None
+            found.append((before[0] if before else now + first - at, now + last - at))
+        at, now = at + abs(part), now + max(part, 0)
+        if at >= end:
+            break
+    return found
+
+
 def brought_to(position: int, op: Op, units: Units) -> int:
     """How many units an op brings to a position of the text before it."""
     return sum(units.count(data) for begin, _, data in in_text(op, units) if begin == position)

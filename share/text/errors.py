@@ -20,6 +20,11 @@ REFUSALS = {
     23: "this site has made its last edit, and goes on under another number now: do it again",
 }
 
+# Where what a note begins with isn't here, and wasn't in its log; where it has no log; and once it has come.
+NOT_BEGUN = "This note's text isn't in its log yet. It comes, and can be edited, once somebody who has it opens the note."
+BEGIN_LOST = ("Something that this note began with is lost, so nothing of it can be shown or edited. bin/note recover FOLDER takes it from "
+              "another copy of the note's file.")
+BEGUN = "This note's text is here now."
 # Entries of kinds that this version doesn't know.
 NEWER = "A newer version of Vialshoal wrote something in this note that isn't shown here."
 

@@ -7,7 +7,7 @@ from bisect import bisect_right
 from itertools import accumulate
 from operator import itemgetter
 
-from share.text.change import Change
+from share.text.change import Change, boundary
 from share.text.units import UNITS, Units
 
 AS_BYTES = "bytes"
@@ -126,6 +126,11 @@ class Measured:
         number = bisect_right(ends, position)
         left = position - (ends[number - 1] if number else 0)
         return self._begin(number, AS_BYTES) + (_bytes_of(self._parts[number], left, units, position) if left else 0)
+
+    def boundary(self, place: int) -> int:
+        """The begin of the character within which a place is; the place, where it is at one."""
+        begin = max(0, place - REACH)
+        return begin + boundary(self._slice(begin, min(self.size, place + 1)), place - begin) if place else 0
 
     def is_whole(self, change: Change) -> bool:
         """Whether a change cuts no character, and joins none of what is beside it."""

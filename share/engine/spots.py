@@ -1,0 +1,147 @@
+"""Where the threads of a margin stand in the text, and whether they do. The program is asked where their characters are shown."""
+from bisect import bisect_right
+from collections.abc import Iterable, Sequence
+from dataclasses import dataclass
+
+from share.program.effects import Stretch
+from share.program.site import Site
+from share.review.anchor import Knows, holds
+from share.review.margin import Thread
+from share.review.record import MarginKind
+from share.text.change import Change
+from share.text.delta import all_composed, of_change
+from share.text.names import Name, Names
+from share.text.units import UNITS
+
+# Bytes of a note's text are counted as units of one byte.
+_BYTES = UNITS["utf-8"]
+
+
+@dataclass(slots=True)
+class Spot:
+    """How a thread stands to the text. Places are in bytes."""
+
+    # Whether its characters are those that its author saw.
+    holds: bool = False
+    # Where it is shown; nowhere where it doesn't hold, or as long as its place isn't known.
+    begin: int | None = None
+    end: int = 0
+    # The hidden character at whose place it is, where it is at one; and whether all that it is about is hidden.
+    hidden: Name | None = None
+    is_gone: bool = False
+    # Of a suggestion: whether it was accepted, and whether what it is about is otherwise than it was.
+    is_accepted: bool = False
+    is_changed: bool = False
+
+    def meets(self, begin: int, end: int) -> bool:
+        """Whether it is shown within a stretch, or at it where one of both is a place."""
+        if self.begin is None:
+            return False
+        if self.begin == self.end or begin == end:
+            return self.begin <= end and begin <= self.end
+        return self.begin < end and begin < self.end
+
+
+def spots_of(threads: Sequence[Thread], site: Site, knows: Knows) -> list[Spot]:
+    """Where threads stand, but for places of hidden characters."""
+    held = [holds(one.anchor, one.new, one.first.name[0], knows) for one in threads]
+    asked = [_asked(thread) for thread, is_held in zip(threads, held) if is_held]
+    answers = iter(site.where([names for some in asked for names in some]))
+    return [_spot(thread, [next(answers) for _ in _asked(thread)]) if is_held else Spot() for thread, is_held in zip(threads, held)]
+
+
+def _asked(thread: Thread) -> list[Names]:
+    """The characters of a thread that may be shown: those that it is about, then the replacement."""
+    behind = thread.anchor.behind
+    return [*thread.anchor.at, *([Names(*behind, 1)] if behind and behind[0] else []), *thread.new]
+
+
+def _spot(thread: Thread, answers: list[list[Stretch]]) -> Spot:
+    """Where a thread stands whose characters are shown so."""
+    anchor, many = thread.anchor, len(answers) - len(thread.new)
+    of, shown, new = answers[:many], _joined(answers[:many]), _joined(answers[many:])
+    spot = Spot(holds=True)
+    if thread.kind is MarginKind.SUGGESTION:
+        spot.is_accepted = bool(new) if thread.new else not shown
+        spot.is_changed = bool(anchor.at) and not _is_as_it_was(anchor.at, of)
+    # An accepted one is where its replacement is.
+    places = new if anchor.behind else shown or new
+    if places:
+        spot.begin, spot.end = min(one.position for one in places), max(one.position + len(one.data) for one in places)
+    elif anchor.behind and (shown or not anchor.behind[0]):
+        spot.begin = spot.end = shown[0].position + 1 if shown else 0
+    else:
+        spot.hidden, spot.is_gone = anchor.behind or (anchor.at[0].site, anchor.at[0].at), not anchor.behind
+    return spot
+
+
+def _joined(answers: Iterable[list[Stretch]]) -> list[Stretch]:
+    return [one for some in answers for one in some]
+
+
+def _is_as_it_was(at: Sequence[Names], answers: Sequence[Sequence[Stretch]]) -> bool:
+    """Whether all of some characters are shown, in their order, with nothing between them."""
+    end: int | None = None
+    for names, found in zip(at, answers):
+        if len(found) != 1 or len(found[0].data) != names.length or end not in (None, found[0].position):
+            return False
+        end = found[0].position + names.length
+    return True
+
+
+class Followed:
+    """Which characters changes of a text have kept, and where these are since."""
+
+    def __init__(self, changes: Sequence[Change]):
+        op = all_composed([of_change(one.begin, one.end, one.new) for one in changes], _BYTES)
+        # Where each stretch that was kept began, and begins; and how long it is.
+        self._old, self._new, self._lengths = list[int](), list[int](), list[int]()
+        old = new = 0
+        for part in op:
+            if isinstance(part, bytes):
+                new += len(part)
+            elif part < 0:
+                old -= part
+            else:
+                self._add(old, new, part)
+                old, new = old + part, new + part
+        self._add(old, new, 1 << 60)
+
+    def _add(self, old: int, new: int, length: int) -> None:
+        self._old.append(old)
+        self._new.append(new)
+        self._lengths.append(length)
+
+    def now(self, at: int) -> int | None:
+        """Where a character is that was there; None where it was deleted."""
+        number = bisect_right(self._old, at) - 1
+        if number < 0 or at >= self._old[number] + self._lengths[number]:
+            return None
+        return self._new[number] + at - self._old[number]
+
+    def before(self, begin: int, end: int) -> tuple[int, int]:
+        """A stretch of the text before the changes that has all which is within a stretch now, or beside it."""
+        first, last = bisect_right(self._new, begin - 1) - 1, bisect_right(self._new, end) - 1
+        low = 0 if first < 0 else self._old[first] + min(begin - 1 - self._new[first], self._lengths[first] - 1)
+        if last < 0 or end >= self._new[last] + self._lengths[last]:
+            # What is next now is what was kept after that.
+            return low, self._old[last + 1]
+        return low, self._old[last] + end - self._new[last]
+
+    def moved(self, spot: Spot) -> bool:
+        """Moves a spot of which no character was hidden or shown since; whether all is known of it then."""
+        if spot.begin is None:
+            return spot.hidden is None
+        if spot.begin == spot.end:
+            # What came in at a place stands behind it, unless that is a hidden character's.
+            last = self.now(spot.begin - 1) if spot.begin else -1
+            is_lost = last is None or spot.hidden is not None and self.now(spot.begin) != last + 1
+            spot.begin = spot.end = 0 if last is None else last + 1
+        else:
+            size, first, last = spot.end - spot.begin, self.now(spot.begin), self.now(spot.end - 1)
+            # Where something came in between it may be otherwise.
+            is_lost = first is None or last is None or last + 1 - first != size
+            spot.begin, spot.end = first or 0, (last or 0) + 1
+        if is_lost:
+            spot.begin = None
+        return not is_lost
