@@ -2,8 +2,8 @@
 this person has."""
 import argparse
 import json
-import pathlib
 import sys
+import threading
 from collections.abc import Callable
 from concurrent.futures import ThreadPoolExecutor
 from typing import NamedTuple
@@ -11,8 +11,9 @@ from typing import NamedTuple
 from share.cli import access
 from share.cli.line_changes import line_changes, word_changes
 from share.cli.of_files import NOTES_AT_ONCE
-from share.cli.output import report
-from share.editors.client import note_for_script
+from share.cli.output import report, says_once
+from share.cli.texts import STANDARD_INPUT, argument, text_of_file
+from share.editors.client import WaitsFor, note_for_script
 from share.editors.mirror import TextChange
 from share.store import notes
 from share.store.guarded import Unkept
@@ -23,7 +24,7 @@ NOTHING_DONE, FAILED = 1, 2
 
 def append(given: argparse.Namespace) -> int:
     """Types at the end."""
-    text = _argument(given.text) + "\n" if given.text is not None else _decoded("standard input", sys.stdin.buffer.read())
+    text = argument(given.text) + "\n" if given.text is not None else text_of_file(STANDARD_INPUT)
     return _edited(given, lambda old: [(len(old), len(old), text)] if text else [])
 
 
@@ -33,7 +34,7 @@ def replace(given: argparse.Namespace) -> int:
         raise Trouble("There is nothing to look for.")
     if not (notes.is_here(given.name) or access.secret(given.link_file, "VIALSHOAL_LINK")):
         raise Trouble(f"There is no note {given.name} here.")
-    old, new = _argument(given.old), _argument(given.new)
+    old, new = argument(given.old), argument(given.new)
     return _edited(given, lambda text: word_changes(text, old, new), "replaced")
 
 
@@ -41,14 +42,20 @@ def import_files(given: argparse.Namespace) -> int:
     """Makes files' texts notes' texts. Of several notes some are done at once, since most of the time goes by for their logs."""
     words = [given.name, given.file, *given.more]
     names, files = words[::2], words[1::2]
-    if len(names) != len(files) or len(set(names)) < len(names) or files.count("-") > 1:
+    if len(names) != len(files) or len(set(names)) < len(names) or files.count(STANDARD_INPUT) > 1:
         raise Trouble("Each note needs a file, and comes once.")
     if len(names) > 1 and access.given_link(given):
         raise Trouble("A link is of one note.")
-    texts = map(_text_of_file, files)
-    jobs = [(_agreed(argparse.Namespace(**{**vars(given), "name": name})), text) for name, text in zip(names, texts)]
+    texts = map(text_of_file, files)
+    jobs = [(seen_to_be_right(argparse.Namespace(**{**vars(given), "name": name})), text) for name, text in zip(names, texts)]
+    interrupted = threading.Event()
     with ThreadPoolExecutor(NOTES_AT_ONCE) as pool:
-        found = [*pool.map(lambda job: _tried(job[0], lambda old: line_changes(old, job[1])), jobs)]
+        try:
+            found = [*pool.map(lambda job: _tried(job[0], lambda old: line_changes(old, job[1]), interrupted), jobs)]
+        except BaseException:
+            interrupted.set()
+            pool.shutdown(wait=False, cancel_futures=True)
+            raise
     return max(_told(job[0], one) for job, one in zip(jobs, found))
 
 
@@ -62,10 +69,10 @@ class ScriptEdit(NamedTuple):
 
 def _edited(given: argparse.Namespace, changes_of: Callable[[str], list[TextChange]], what: str = "changed") -> int:
     """Makes changes of the text, each in the text that those before it leave."""
-    return _told(_agreed(given), _done(given, changes_of), what)
+    return _told(seen_to_be_right(given), _done(given, changes_of, says_once(given.name)), what)
 
 
-def _agreed(given: argparse.Namespace) -> argparse.Namespace:
+def seen_to_be_right(given: argparse.Namespace) -> argparse.Namespace:
     """The words, once it is seen that they are of a note that may be opened, or made."""
     link = access.given_link(given)
     access.require_note(given, given.name, link)
@@ -73,18 +80,24 @@ def _agreed(given: argparse.Namespace) -> argparse.Namespace:
     return given
 
 
-def _done(given: argparse.Namespace, changes_of: Callable[[str], list[TextChange]]) -> ScriptEdit:
-    with note_for_script(given.name, access.quiet_opener(given, given.name)) as note:
-        changes = changes_of(note.text)
-        if changes:
-            note.edit(changes)
-        return ScriptEdit(len(changes), note.is_sent(), note.says)
+def _done(given: argparse.Namespace, changes_of: Callable[[str], list[TextChange]], waits_for: WaitsFor) -> ScriptEdit:
+    with note_for_script(given.name, access.quiet_opener(given, given.name), waits_for) as note:
+        changes = note.edit(changes_of)
+        return ScriptEdit(changes, note.is_sent(), note.says)
 
 
-def _tried(given: argparse.Namespace, changes_of: Callable[[str], list[TextChange]]) -> ScriptEdit | Exception:
+def _tried(given: argparse.Namespace, changes_of: Callable[[str], list[TextChange]],
+           interrupted: threading.Event) -> ScriptEdit | Exception:
     """The same of one of several notes, of which the others go on."""
+    says = says_once(given.name)
+
+    def waits_for(what: str) -> None:
+        if interrupted.is_set():
+            raise Trouble("This was interrupted.")
+        says(what)
+
     try:
-        return _done(given, changes_of)
+        return _done(given, changes_of, waits_for)
     except (Trouble, Refused, Unkept, OSError) as why:
         return why
 
@@ -97,30 +110,12 @@ def _told(given: argparse.Namespace, done: ScriptEdit | Exception, what: str = "
     report(done.says)
     if given.json:
         print(json.dumps({"note": given.name, what: done.changes, "sent": done.is_sent}))
-    elif not done.is_sent:
-        print(f"note: kept in {notes.path_of(given.name)}, and not sent yet.", file=sys.stderr)
+    else:
+        say_if_unsent(given.name, done.is_sent)
     return 0 if done.changes or what == "changed" else NOTHING_DONE
 
 
-def _text_of_file(name: str) -> str:
-    try:
-        return _decoded(name, sys.stdin.buffer.read() if name == "-" else pathlib.Path(name).read_bytes())
-    except OSError as why:
-        raise Trouble(f"{name} can't be read ({why.strerror}).") from why
-
-
-def _argument(word: str) -> str:
-    """A word of the command line; bytes that are no UTF-8 can't be typed."""
-    try:
-        word.encode()
-    except UnicodeEncodeError as why:
-        raise Trouble("A word of the command line is no UTF-8.") from why
-    return word
-
-
-def _decoded(name: str, data: bytes) -> str:
-    """The text of a file."""
-    try:
-        return data.decode()
-    except UnicodeDecodeError as why:
-        raise Trouble(f"{name} is no UTF-8.") from why
+def say_if_unsent(name: str, is_sent: bool) -> None:
+    """Says that what was done isn't sent, where it isn't."""
+    if not is_sent:
+        print(f"note: kept in {notes.path_of(name)}, and not sent yet.", file=sys.stderr)

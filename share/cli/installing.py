@@ -20,9 +20,9 @@ from share.text.errors import Trouble
 PREFIX = "/usr/local"
 LIB, CURRENT, MANIFEST, NEW = "lib", "vialshoal", "installed", "new"
 TREE = re.compile(r"vialshoal-[0-9a-f]{8}")
-ROOMS = ("text", "format", "admission", "log", "program", "store", "sync", "engine", "editors", "cli")
+ROOMS = ("text", "format", "admission", "review", "log", "program", "store", "sync", "engine", "editors", "cli")
 PARTS = ("bin/note", "bin/built", "share/*.py", *(f"share/{room}/**/*.py" for room in ROOMS), "share/editors/web/*.*",
-         "share/completions/*", "share/systemd/*", "editors/emacs/vialshoal.el", "editors/neovim/plugin/*.lua",
+         "share/completions/*", "share/systemd/*", "editors/emacs/*.el", "editors/neovim/plugin/*.lua",
          "editors/neovim/lua/vialshoal/*.lua", "editors/neovim/doc/*", "docs/SHARING.md", "docs/ENGINE.md", "docs/man/*.1")
 PROGRAM = str(BUILT.relative_to(TOP))
 PROGRAM_BUILT_FROM = str(BUILT.with_name(BUILT_FROM).relative_to(TOP))
@@ -37,7 +37,8 @@ LINKS = {
     "share/zsh/site-functions/_note": "share/completions/_note",
     "share/zsh/vendor-completions/_note": "share/completions/_note",
     "share/doc/vialshoal": "docs",
-    "share/emacs/site-lisp/vialshoal.el": "editors/emacs/vialshoal.el",
+    **{f"share/emacs/site-lisp/{name}.el": f"editors/emacs/{name}.el"
+       for name in ("vialshoal", "vialshoal-review", "vialshoal-remarks", "vialshoal-changed", "vialshoal-suggesting")},
     "share/man/man1/note.1": "docs/man/note.1",
     "share/man/man1/site_cli.1": "docs/man/site_cli.1",
     "share/nvim/site/pack/vialshoal/start/vialshoal": "editors/neovim",

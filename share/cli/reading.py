@@ -4,8 +4,9 @@ import pathlib
 from contextlib import closing
 from datetime import datetime
 
-from share.cli import access, html
-from share.cli.output import print_bytes, print_json, print_text, report, report_missing
+from share.cli import access, critic_files, html
+from share.cli.output import print_bytes, print_json, print_text, quoted, report, report_missing
+from share.cli.script_words import WHICH_TEXTS
 from share.engine import server
 from share.format.history import Messages
 from share.format.operation import INSERT, TEXT
@@ -16,6 +17,7 @@ from share.program.replay import Replays, HistoryStep, Wrote
 from share.program.site import Site
 from share.store import atomic, contents, nicknames, notes, read_only
 from share.store.contents import Contents
+from share.store.read_only import Judged
 from share.text.errors import Trouble, counted
 from share.text.line import Line
 from share.text.rope import readable, swapped
@@ -24,8 +26,6 @@ from share.text.rope import readable, swapped
 DONE = {"looked": "changed the looks of"}
 # What stands in a step's place before what was left out for good.
 LEFT_OUT = "left out"
-# How much of what was typed is shown in a line.
-MOST_QUOTED = 60
 # The status where no note has the words that are looked for.
 NOTHING_FOUND = 1
 
@@ -42,12 +42,11 @@ def cat(given: argparse.Namespace) -> int:
 
 def export(given: argparse.Namespace) -> int:
     """Writes a note's text as a file."""
-    messages, missing, _ = _found_messages(given, given.of_text)
-    site = _site_of(messages, given.of_text)
-    data = swapped(site.text())
-    if given.format == "html":
-        data = html.page(given.name, site.text(), site.runs()).encode()
-    site.close()
+    if given.format == "critic" or given.remarks:
+        if given.of_text != TEXT or given.format == "text":
+            raise Trouble("Remarks and suggestions are about a note's text 1, and are written as html or as critic.")
+    there = _what_there_is(given)
+    data, missing = (critic_files.exported if given.format == "critic" else _exported)(given, there)
     if given.file == "-":
         print_bytes(data)
     elif not given.replace and atomic.exists(given.file):
@@ -55,6 +54,17 @@ def export(given: argparse.Namespace) -> int:
     else:
         atomic.save(given.file, data)
     return report_missing(missing)
+
+
+def _exported(given: argparse.Namespace, there: Judged) -> tuple[bytes, list[str]]:
+    """A note's text as a file, and what is missing in it."""
+    messages, missing, _ = _messages_of(given, there, given.of_text)
+    with closing(_site_of(messages, given.of_text)) as site:
+        text = site.text()
+        if given.format == "text":
+            return swapped(text), missing
+        said = critic_files.in_margin(given, there, text) if given.remarks else []
+        return html.page(given.name, text, site.runs(), said).encode(), missing
 
 
 def history(given: argparse.Namespace) -> int:
@@ -75,8 +85,9 @@ def history(given: argparse.Namespace) -> int:
 
 def log(given: argparse.Namespace) -> int:
     """Says what was done, step by step, and by whom."""
-    messages, missing, left_out = _found_messages(given)
-    found = replay.steps(messages, 0, len(messages))
+    there = _what_there_is(given)
+    messages, missing, left_out = contents.contents_of(given.name, there)
+    found = replay.steps(messages, 0, len(messages), contents.suggested(there))
     own, names = _own_sites(given.name), nicknames.known(given.name)
     if given.json:
         steps = [replay.as_line(one) | {"own": one.site in own, "name": names.get(one.site, ""),
@@ -84,12 +95,12 @@ def log(given: argparse.Namespace) -> int:
         return print_json({"note": given.name, "length": len(messages), "steps": steps, "left_out": left_out}, missing)
     for one in found:
         who = names.get(one.site) or f"site {one.site}" + (" (you)" if one.site in own else "")
-        what = (f"typed {_quoted(_text_of(messages, one))}" if one.did == "typed" else
+        what = (f"typed {quoted(_text_of(messages, one))}" if one.did == "typed" else
                 f"{DONE.get(one.did, one.did)} {counted(one.size, 'byte')}")
         what += f" in the place of {counted(one.gave_way, 'byte')}" if one.gave_way else ""
         print_text(f"{one.end:>9}  {who:<18}  {what}\n")
     for line in left_out:
-        print_text(f"{LEFT_OUT:>9}  {retyping.called(line):<18}  typed {_quoted(line['text'])}\n")
+        print_text(f"{LEFT_OUT:>9}  {retyping.called(line):<18}  typed {quoted(line['text'])}\n")
     return report_missing(missing)
 
 
@@ -135,9 +146,20 @@ def _text_here(name: str) -> bytes:
         return site.text()
 
 
+def _what_there_is(given: argparse.Namespace) -> Judged:
+    """What there is of a note."""
+    return contents.found_of(given.name, access.given_url(given), access.given_link(given), access.given_password(given))
+
+
 def _found_messages(given: argparse.Namespace, text: int = TEXT) -> Contents:
     """The messages of a text of a note, and what is missing of that."""
-    found = contents.found_of(given.name, access.given_url(given), access.given_link(given), access.given_password(given))
+    return _messages_of(given, _what_there_is(given), text)
+
+
+def _messages_of(given: argparse.Namespace, found: Judged, text: int) -> Contents:
+    """The same of what there is of it."""
+    if text not in found.about.form().texts:
+        raise Trouble(f"The note {given.name} has no text {text}: {WHICH_TEXTS}.")
     return contents.contents_of(given.name, found, text)
 
 
@@ -174,9 +196,3 @@ def _text_of(messages: Messages, step: HistoryStep) -> str:
 
 def _stretch(text: bytes, one: Wrote) -> Line:
     return {"site": one.site, "text": readable(swapped(text[one.begin:one.end]))}
-
-
-def _quoted(text: str) -> str:
-    """The begin of a text, in quotes."""
-    cut = text if len(text) <= MOST_QUOTED else text[:MOST_QUOTED - 1] + "…"
-    return repr(cut)

@@ -6,7 +6,7 @@ import pathlib
 import sys
 
 from share.cli import access
-from share.cli.output import print_bytes, report_missing
+from share.cli.output import print_bytes, report_missing, says_once
 from share.cli.renewing import renew_note
 from share.editors.client import note_for_script
 from share.editors.note import EngineNote
@@ -85,7 +85,7 @@ def in_browser(given: argparse.Namespace, name: str) -> None:
     access.require_agreement(given, name, link)
     if link:
         os.environ["VIALSHOAL_LINK"] = link.spelled()
-    words = [("--log", given.log), ("--password-file", given.password_file)]
+    words = [("--log", given.log), ("--password-file", given.password_file), ("--form", given.form and str(given.form))]
     options = [word for pair in words if pair[1] for word in pair]
 
     def commands(note: str) -> tuple[list[str], dict[str, str]]:
@@ -114,7 +114,7 @@ def retype(given: argparse.Namespace, name: str) -> int:
     if not notes.is_here(name):
         raise Trouble(f"There is no note {name} here.")
     access.require_agreement(given, name, access.given_link(given))
-    with note_for_script(name, access.quiet_opener(given, name)) as note:
+    with note_for_script(name, access.quiet_opener(given, name), says_once(name)) as note:
         found = note.recover()
         unsent = bool(found) and not note.is_sent()
     for line in found:

@@ -24,9 +24,12 @@ for scripts, each with --help:
   bin/note append NAME [TEXT]     types at its end; --new makes a note that isn't here
   bin/note replace NAME OLD NEW   replaces what stands in it
   bin/note import NAME FILE ..    makes a file's text the note's, also of several notes at once
-  bin/note export NAME FILE       writes its text as a file, or as HTML
+  bin/note export NAME FILE       writes its text as a file, as HTML, or with what is remarked as CriticMarkup
   bin/note log NAME               says what was done, and by whom
   bin/note history NAME --at N    prints its text as it was after step N of that
+  bin/note changed NAME           says what changed since you looked last, and by whom
+  bin/note remarks [NAME ..]      lists remarks and suggestions; remark, suggest, reply, resolve, reopen, accept, reject,
+                                  revise and withdraw are about one
   bin/note list                   the notes that are here, what of them is unsent, and when they changed
   bin/note search WORDS           looks for words in all of them
   bin/note sync [NAME ..]         sends and gets what is new of all notes, or of these; --every SECONDS goes on
@@ -43,6 +46,10 @@ keys:
   mouse                           a click goes there, drawing selects, the wheel scrolls; with Shift it is the terminal's
   Ctrl-F                          find; without words, what was looked for last
   Ctrl-R, Ctrl-L                  replace; go to a line
+  Ctrl-T, Ctrl-U                  remark on what is selected, or on the cursor's place; suggest something in its place
+  Alt-U                           have what you type and delete be suggested, or done again
+  F8, Shift-F8                    mark what changed since you looked, then go to the next change, the one before; Esc ends it
+  Ctrl-N, Ctrl-O                  go to the next open remark, and show it, with keys to answer it; list all
   Ctrl-S                          save as a file
   Ctrl-Q                          quit
 """
@@ -56,8 +63,9 @@ nobody else reads it.
 A link is read from VIALSHOAL_LINK, from the file that --link-file names, or asked for; a server's password from
 VIALSHOAL_PASSWORD or the file that --password-file names. A server needs Debian's python3-nacl.
 VIALSHOAL_NAME is what others see at your cursor, without it your account's name. VIALSHOAL_PAUSE is how many
-seconds of silence end an edit that Ctrl-Z takes back, without it 1. VIALSHOAL_PROGRAM names another program than
-bin/built; VIALSHOAL_BUILD, which is proved, tried or rust, one of its builds.
+seconds of silence end an edit that Ctrl-Z takes back, without it 1, and a suggestion as you type it, without it 4.
+VIALSHOAL_PROGRAM names another program than bin/built; VIALSHOAL_BUILD, which is proved, tried or rust, one of its
+builds.
 
 Ends with 0; with 2 and a sentence where the note couldn't be opened; --print with 3 where something is missing
 in what it printed, which standard error says. docs/SHARING.md says more.
@@ -75,8 +83,7 @@ def parsed(words: list[str]) -> argparse.Namespace:
                         help="letters, digits, dots, hyphens and underscores")
     parser.add_argument("--log", metavar="URL", help="where the note's log is; without it, where it was last")
     parser.add_argument("--new", action="store_true", help="make the note where it isn't here, without asking")
-    parser.add_argument("--form", metavar="FORM", type=int, choices=(1, 2),
-                        help="of which form a note is that is made or renewed: 1, or 2, which versions before this one can't read")
+    script_words.add_form(parser, "made, or renewed into another one")
     parser.add_argument("--print", action="store_true", dest="prints", help="print the note and end")
     parser.add_argument("--lost", action="store_true",
                         help="recover: show what was left out of the note NAME for good, and type it again")

@@ -16,8 +16,14 @@ _note_options() {
     case $1 in
         cat) echo "--help $log --json --text" ;;
         replace | log) echo "--help $log --json" ;;
-        append | import) echo "--help $log --json --new" ;;
-        export) echo "--help $log --json --format --replace --text" ;;
+        append) echo "--help $log --json --new --form" ;;
+        import) echo "--help $log --json --new --form --format" ;;
+        export) echo "--help $log --json --format --replace --text --remarks --all" ;;
+        changed) echo "--help $log --json --since --until" ;;
+        remarks) echo '--help --json --open --author --password-file' ;;
+        remark | suggest) echo "--help $log --json --at --on" ;;
+        reply | resolve | reopen | reject | revise | withdraw) echo "--help $log --json" ;;
+        accept) echo "--help $log --json --anyway" ;;
         history) echo "--help $log --json --at" ;;
         list | search | rename) echo '--help --json' ;;
         delete) echo '--help --json --yes' ;;
@@ -34,8 +40,8 @@ _note_options() {
 
 _note() {
     local word=${COMP_WORDS[COMP_CWORD]} before=${COMP_WORDS[COMP_CWORD - 1]} verb='' offered=''
-    local verbs='append cat delete engine export history import install link list log open recover rename renew replace search sync'
-    verbs+=' uninstall web'
+    local verbs='accept append cat changed delete engine export history import install link list log open recover reject remark remarks'
+    verbs+=' rename renew reopen replace reply resolve revise search suggest sync uninstall web withdraw'
     [[ $COMP_CWORD -gt 1 ]] && verb=${COMP_WORDS[1]}
     COMPREPLY=()
     case $before in
@@ -48,16 +54,24 @@ _note() {
             return
             ;;
         --format)
-            mapfile -t COMPREPLY < <(compgen -W 'text html' -- "$word")
+            offered='text critic'
+            [[ $verb == export ]] && offered+=' html'
+            mapfile -t COMPREPLY < <(compgen -W "$offered" -- "$word")
             return
             ;;
-        --log | --at | --without | --every) return ;;
+        --since)
+            mapfile -t COMPREPLY < <(compgen -W 'looked' -- "$word")
+            return
+            ;;
+        --log | --at | --on | --author | --until | --without | --every | --form | --text) return ;;
         *)
             case $word,$verb in
                 -*) offered=$(_note_options "$verb") ;;
                 *,'') offered="$verbs $(_note_names "$word")" ;;
                 *,install | *,uninstall | *,list | *,search) ;;
-                *,rename) [[ $COMP_CWORD -eq 2 ]] && offered=$(_note_names "$word") ;;
+                *,rename | *,remark | *,suggest | *,reply | *,resolve | *,reopen | *,accept | *,reject | *,revise | *,withdraw)
+                    [[ $COMP_CWORD -eq 2 ]] && offered=$(_note_names "$word")
+                    ;;
                 *) offered=$(_note_names "$word") ;;
             esac
             ;;

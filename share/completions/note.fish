@@ -1,6 +1,9 @@
 # Completes what note is given in fish: verbs, options, and the names of the notes that are here.
 
-set -l verbs append cat delete engine export history import install link list log open recover rename renew replace search sync uninstall web
+set -l verbs accept append cat changed delete engine export history import install link list log open recover reject remark remarks rename renew
+set -a verbs reopen replace reply resolve revise search suggest sync uninstall web withdraw
+# Those that name one note, and then no file.
+set -l once accept reject remark rename reopen reply resolve revise suggest withdraw
 
 # The notes of the data folder.
 function __note_names
@@ -25,22 +28,33 @@ end
 
 complete -c note -f
 complete -c note -n '__note_has -eq 1' -a "$verbs"
-complete -c note -n '__note_has -eq 1; or not __note_verb install uninstall list search rename recover' -a '(__note_names)'
-complete -c note -n '__note_verb rename; and __note_has -eq 2' -a '(__note_names)'
+complete -c note -n "__note_has -eq 1; or not __note_verb install uninstall list search recover $once" -a '(__note_names)'
+complete -c note -n "__note_verb $once; and __note_has -eq 2" -a '(__note_names)'
 complete -c note -n '__note_verb import export recover' -F
 complete -c note -l help
-set -l logged append cat replace import log export history web renew recover open engine link
-set -l scripts append cat delete export history import list log rename replace search sync
+set -l logged accept append cat changed replace import log export history web renew recover open engine link reject remark reopen reply resolve
+set -a logged revise suggest withdraw
+set -l scripts accept append cat changed delete export history import list log reject remark remarks rename reopen replace reply
+set -a scripts resolve revise search suggest sync withdraw
 for option in log link-file
     complete -c note -n "__note_has -eq 1; or __note_verb $logged" -l $option -r
 end
-complete -c note -n "__note_has -eq 1; or __note_verb $logged sync" -l password-file -r -F
+complete -c note -n "__note_has -eq 1; or __note_verb $logged sync remarks" -l password-file -r -F
 complete -c note -n "__note_verb $scripts" -l json
 complete -c note -n '__note_has -eq 1; or __note_verb append import web open' -l new
-complete -c note -n '__note_verb export' -l format -x -a 'text html'
+complete -c note -n '__note_verb export' -l format -x -a 'text html critic'
+complete -c note -n '__note_verb import' -l format -x -a 'text critic'
 complete -c note -n '__note_verb export' -l replace
+complete -c note -n '__note_verb export' -l remarks
+complete -c note -n '__note_verb export' -l all
+complete -c note -n '__note_verb remarks' -l open
+complete -c note -n '__note_verb remarks' -l author -x
+complete -c note -n '__note_verb remark suggest' -l on -x
+complete -c note -n '__note_verb accept' -l anyway
 complete -c note -n '__note_verb cat export' -l text -x
-complete -c note -n '__note_verb history' -l at -x
+complete -c note -n '__note_verb history remark suggest' -l at -x
+complete -c note -n '__note_verb changed' -l since -xa looked
+complete -c note -n '__note_verb changed' -l until -x
 complete -c note -n '__note_verb sync' -l every -x
 complete -c note -n '__note_verb install uninstall' -l prefix -r
 complete -c note -n '__note_has -eq 1; or __note_verb web' -l no-browser
@@ -49,5 +63,5 @@ complete -c note -n '__note_has -eq 1; or __note_verb renew' -l fresh
 complete -c note -n '__note_has -eq 1; or __note_verb renew' -l without -x
 complete -c note -n '__note_has -eq 1; or __note_verb renew delete' -l yes
 complete -c note -n '__note_has -eq 1; or __note_verb recover' -l lost
-complete -c note -n '__note_has -eq 1; or __note_verb renew web open' -l form -x
+complete -c note -n '__note_has -eq 1; or __note_verb append import renew web open' -l form -x
 complete -c note -n '__note_has -eq 1' -l version

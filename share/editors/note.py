@@ -10,6 +10,9 @@ from collections.abc import Callable, Sequence
 from contextlib import suppress
 
 from share.editors.mirror import Mirror, TextChange
+from share.editors.since import NoteChanges
+from share.editors.suggesting import Gathering
+from share.editors.threads import NoteThreads
 from share.engine import protocol
 from share.log.polling import can_read
 from share.sync.session import SEND_SECONDS, Bar, Status
@@ -27,6 +30,8 @@ TELL_CURSOR_SECONDS = 0.1
 # How long a watcher waits for what came to be read, before it looks again.
 WATCH_SECONDS = 0.5
 UTF_8 = UNITS["utf-8"]
+# The requests whose answers are waited for; one that wasn't understood is answered without its name.
+ANSWERED = ("edit", "undo", "redo", "remark", "suggest", "reply", "resolve", "reopen", "reject", "accept", "revise", "withdraw", "")
 
 
 class _Mirror(Mirror):
@@ -55,11 +60,16 @@ class AtEngine:
         offline = state.get("why", "away") if state["log"] == "away" else None
         return Status(state["site"], state["on"], state["unsent"], offline, state["waiting"], state.get("trouble"),
                       state["types"], state["log"] != "none", (state["read"], state["of"]) if "of" in state else None,
-                      state.get("left_out", []), state.get("renewed"), state.get("unproved", False))
+                      state.get("left_out", []), state.get("renewed"), state.get("unproved", False), state.get("searching", False))
 
     def close(self) -> None:
         """Closes the note; what isn't sent stays in its file."""
         self._note.close()
+
+
+def typed_text(characters: str) -> str:
+    """What is typed by keys or pasted, as an engine is told it."""
+    return re.sub("\r\n|\r", "\n", characters).encode("utf-8", "ignore").decode()
 
 
 class EngineNote:
@@ -82,7 +92,8 @@ class EngineNote:
         # Answers that nobody has looked at; all lines, as long as the note isn't open.
         self._answers: list[Line] = []
         self._is_open = False
-        self._send({"do": "open", "protocol": 1, "units": ["utf-8"], "name": name})
+        self.threads, self.changes, self.gathering = NoteThreads(), NoteChanges(), Gathering()
+        self._send({"do": "open", "protocol": 1, "units": ["utf-8"], "name": name, "remarks": True})
         opened = self._opened()
         self.text[:] = swapped(UTF_8.encode(opened["text"]))
         self.mirror = _Mirror(opened, self._send, self)
@@ -97,7 +108,7 @@ class EngineNote:
 
     def type(self, characters: str) -> None:
         """Types characters at the cursor. The engine knows which keys are taken back as one."""
-        text = re.sub("\r\n|\r", "\n", characters).encode("utf-8", "ignore").decode()
+        text = typed_text(characters)
         begin, end = self.selected() or (self.cursor, self.cursor)
         self.anchor = None
         if text:
@@ -117,16 +128,21 @@ class EngineNote:
 
     def replace(self, old: str, new: str) -> int:
         """Puts words in the place of others, wherever they stand; how often."""
+        changes = self.occurrences(old, new)
+        self._goes_on = False
+        if changes:
+            self._edit(changes)
+        return len(changes)
+
+    def occurrences(self, old: str, new: str) -> list[TextChange]:
+        """The changes by which words take the place of others, wherever they stand, the last one first."""
         wanted, changes = old.replace("\r", "\n").encode("utf-8", "ignore"), list[TextChange]()
         data, put = swapped(bytes(self.text)), new.replace("\r", "\n").encode("utf-8", "ignore").decode()
         place = data.rfind(wanted) if wanted else -1
         while place >= 0:
             changes.append((place, place + len(wanted), put))
             place = data.rfind(wanted, 0, place)
-        self._goes_on = False
-        if changes:
-            self._edit(changes)
-        return len(changes)
+        return changes
 
     def take_back(self) -> bool:
         """Takes back this editor's last edit that stands, by names: nobody else's is touched. False where there is
@@ -137,11 +153,31 @@ class EngineNote:
         """Does again what was taken back last. False where there is nothing."""
         return self._by_names("redo")
 
+    def say(self, what: str, **more: object) -> Line | None:
+        """Says something of the text, or does what was suggested; the answer, None where it was refused, which the notice says."""
+        self._goes_on = False
+        self._send({"do": what, "id": what, **({"version": self.mirror.version} if "begin" in more else {}), **more})
+        answer = self._until(what)
+        if "error" not in answer:
+            return answer
+        self.notice, self.mirror.words = answer["words"], ""
+        return None
+
+    def suggest_all(self, changes: Sequence[TextChange]) -> list[str]:
+        """Suggests changes of the text as it is; what the suggestions are named that were made."""
+        for begin, end, new in changes:
+            self._send({"do": "suggest", "id": "suggest", "version": self.mirror.version, "begin": begin, "end": end, "new": new})
+        answers = [self._until("suggest") for _ in changes]
+        self.notice, self.mirror.words = next((one["words"] for one in answers if "error" in one), self.notice), ""
+        return [one["thread"] for one in answers if "error" not in one]
+
     def take_in(self) -> bool:
         """Takes in what came from the others; whether the text changed."""
         version: int = self.mirror.version
         while self._receive(0):
             pass
+        for asks in self.threads.ask, self.changes.ask:
+            asks(self.mirror.version, self.mirror.answered == self.mirror.made, self._send)
         self._say_cursor()
         if self.mirror.words:
             self.notice, self.mirror.words = self.mirror.words, ""
@@ -180,6 +216,8 @@ class EngineNote:
         """Changes the text, and moves the places with it."""
         change.look(self.text[max(0, change.begin - 1):change.begin], len(self.text))
         self.text[change.begin:change.end] = change.new
+        for follow in self.threads.follow, self.changes.follow, self.gathering.follow:
+            follow(change)
         (cursor, anchor), top = change.moved_both(self.cursor, self.anchor), change.moved(self.top, True)
         self.cursor, self.top = boundary(self.text, cursor), boundary(self.text, top)
         self.anchor = None if anchor is None else boundary(self.text, anchor)
@@ -269,9 +307,11 @@ class EngineNote:
             return
         if line.get("notice") == "opening":
             self._bar(line["done"], line["of"])
-        if line.get("answer") in ("edit", "undo", "redo", ""):
+        if line.get("answer") in ANSWERED:
             self._answers.append(line)
         self.mirror.take(line)
+        self.threads.take(line, self.mirror.version, self.mirror.made, self._send)
+        self.changes.take(line, self.mirror.made)
 
     def _watch(self) -> None:
         """Wakes the editor when something comes."""

@@ -14,15 +14,19 @@ from share.editors.terminal.keys import Event, Key, Mouse, Pasted
 from share.editors.terminal.layout import ScreenRow, cluster_after, cluster_before, word_after, word_before
 from share.editors.terminal.moves import Moves
 from share.editors.terminal.prompts import Prompts
+from share.editors.terminal.requests import Clipboard, Requests
+from share.editors.terminal.review import Review
 from share.editors.terminal.saving import Saving
 from share.editors.terminal.screen import Screen
+from share.editors.terminal.since import ChangesSince
 from share.editors.terminal.status_line import HELP, StatusLine, bar, sentence, state
+from share.editors.terminal.suggesting import Suggesting
 from share.editors.terminal.view import View
 from share.editors.terminal.waiting import LOOK_AGAIN_SECONDS, WORK_SECONDS, UserLeft, Waiting
 from share.editors.terminal.work import Work
 from share.editors.terminal.worker import Worker
 from share.sync.session import Bar, Status
-from share.text.errors import Trouble
+from share.text.errors import NOT_BEGUN, Trouble
 
 # How long quitting waits for the note to close.
 LEAVE_SECONDS = 3.5
@@ -43,14 +47,19 @@ class Editor:
         self._screen, self._note, self._prompts = screen, note, Prompts()
         self._line, self._view, self._waiting = StatusLine(name, screen), View(note, screen), Waiting(screen, self)
         self.work = Work(note, status, thread, screen, self._waiting, self._view, self._line)
-        self._edits = Edits(note, self.work, self._view, self._line, self._prompts)
+        clipboard = Clipboard()
+        requests = Requests(note, self.work, self._line, clipboard)
+        self._suggesting = Suggesting(note, self.work, self._view, self._line, requests)
+        self._edits = Edits(note, self.work, self._view, self._line, self._prompts, clipboard, self._suggesting)
         self._moves = Moves(self._view, screen)
         self._saving = Saving(self._view, self._line, self._prompts, self._waiting)
+        self._review = Review(self._view, self._line, self._prompts, screen, requests)
+        self._clipboard, self._since = clipboard, ChangesSince(note, self._view, self._line)
         self.quits, self._opened, self._searched = False, time.monotonic(), ""
         self._commands = self._commands_of_keys()
 
     def _commands_of_keys(self) -> dict[Key, Callable[[], None]]:
-        edits, moves, view, ask = self._edits, self._moves, self._view, self._prompts.ask
+        edits, moves, view, ask, review = self._edits, self._moves, self._view, self._prompts.ask, self._review
         return {
             Key.LEFT: lambda: moves.by(cluster_before), Key.RIGHT: lambda: moves.by(cluster_after),
             Key.WORD_LEFT: lambda: moves.by(word_before), Key.WORD_RIGHT: lambda: moves.by(word_after),
@@ -59,8 +68,10 @@ class Editor:
             Key.HOME: moves.home, Key.END: moves.end, Key.LINE: lambda: ask("Go to line", moves.to_line),
             Key.ENTER: lambda: edits.type("\r"), Key.BACKSPACE: edits.backspace, Key.DELETE: edits.delete,
             Key.UNDO: edits.undo, Key.REDO: edits.redo, Key.REPLACE: lambda: ask("Replace", edits.ask_for_replacement),
-            Key.MARK: view.mark, Key.ESCAPE: view.unmark, Key.CUT: edits.cut, Key.COPY: edits.copy, Key.PUT: edits.put,
-            Key.KILL: edits.kill,
+            Key.MARK: view.mark, Key.ESCAPE: self._escape, Key.NEXT_CHANGE: lambda: self._since.step(1),
+            Key.PREVIOUS_CHANGE: lambda: self._since.step(-1), Key.CUT: edits.cut, Key.COPY: edits.copy, Key.PUT: edits.put,
+            Key.KILL: edits.kill, Key.REMARK: review.ask_for_remark, Key.SUGGEST: review.ask_for_suggestion,
+            Key.THREADS: review.open_list, Key.NEXT_THREAD: review.open_next, Key.SUGGESTING: self._suggesting.toggle,
             Key.FIND: lambda: ask("Find", self._find), Key.SAVE: self._saving.ask, Key.QUIT: self._quit,
             Key.OTHER: lambda: self._line.say(HELP),
         }
@@ -81,7 +92,7 @@ class Editor:
 
     def _turn(self) -> None:
         # What a key did is shown before anything else is looked at.
-        steps: list[Callable[[], None]] = [self._press, self.draw, self.work.take_in, self.draw,
+        steps: list[Callable[[], None]] = [self._press, self.draw, self._suggesting.look, self.work.take_in, self._since.look, self.draw,
                                            lambda: self._waiting.for_a_key(self._is_early)]
         for step in steps:
             try:
@@ -100,6 +111,8 @@ class Editor:
             self._line.forget_notice()
             if self._prompts.asks:
                 self._answer(key)
+            elif self._review.is_on and self._review.press(key):
+                continue
             elif isinstance(key, str) or key is Key.ENTER:
                 typed += "\r" if isinstance(key, Key) else key
             else:
@@ -120,12 +133,13 @@ class Editor:
         if key is Key.QUIT or key is Key.SAVE:
             self._command(key)
         else:
-            self._prompts.press(key)
+            self._prompts.press(self._clipboard.pasted() if key is Key.PUT else key)
 
     def _is_early(self, key: Event) -> bool:
         """Whether a key waits for the number of a note that has just been opened."""
         edits = not isinstance(key, Mouse) and (key not in self._commands or key in EDITING)
-        can_wait = not (self._prompts.asks or self.work.failure or self.work.status.can_type)
+        status = self.work.status
+        can_wait = not (self._prompts.asks or self.work.failure or status.can_type or status.trouble == NOT_BEGUN)
         return edits and can_wait and time.monotonic() < self._opened + EARLY_SECONDS
 
     def _command(self, key: Event) -> None:
@@ -152,11 +166,21 @@ class Editor:
             self._line.say(f"{self._searched!r} isn't in the note.")
         self._view.look()
 
+    def _escape(self) -> None:
+        """Selects nothing; where nothing is selected, shows no changes."""
+        if self._view.selected() or not self._since.is_on:
+            self._view.unmark()
+        else:
+            self._since.close()
+
     def _quit(self) -> None:
-        self.quits = True
+        # Who suggested something that isn't taken is told so first.
+        self.quits = self._suggesting.end()
 
     def _leave(self) -> None:
         """Closes the note, and waits some time for that; no longer, where the user quits once more."""
+        with suppress(UserLeft):
+            self._suggesting.end()
         keys = self._screen.keys
         keys.clear()
         closing = self.work.close()
@@ -178,12 +202,15 @@ class Editor:
         rows = self._rows()
         asks = self._prompts.asks and not words
         said = (words or self._prompts.words(), "") if words or asks else self._line.words(
-            self.work.status, self._waiting.silent, self.work.failure)
-        self._screen.draw(rows, self._view.cursor, said, asks, self._view.others, self._view.selected())
+            self.work.status, self._waiting.silent, self.work.failure, self._review.help(), self._view.many_open)
+        self._screen.draw(rows, self._view.cursor, said, asks, self._view.others, self._view.selected(), self._view.marked())
 
     def _rows(self) -> list[ScreenRow]:
         try:
-            return self._view.visible(note_is_idle=not self._waiting.silent)
+            rows = self._review.rows()
+            if not self._review.is_on:
+                self._view.below = self._suggesting.shown() or self._since.shown()
+            return rows or self._view.visible(note_is_idle=not self._waiting.silent)
         except Exception as why:
             # Where the text can't be drawn, the status line says so.
             self.work.stop(why)

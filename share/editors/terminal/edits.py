@@ -3,7 +3,9 @@ from share.editors.note import EngineNote
 from share.editors.terminal.keys import Pasted
 from share.editors.terminal.layout import cluster_after, cluster_before
 from share.editors.terminal.prompts import Prompts
+from share.editors.terminal.requests import Clipboard
 from share.editors.terminal.status_line import StatusLine
+from share.editors.terminal.suggesting import Suggesting
 from share.editors.terminal.view import View
 from share.editors.terminal.work import Work
 from share.text.change import LINE_END
@@ -13,14 +15,18 @@ from share.text.errors import counted
 class Edits:
     """What keys change in the note."""
 
-    def __init__(self, note: EngineNote, work: Work, view: View, line: StatusLine, prompts: Prompts):
+    def __init__(self, note: EngineNote, work: Work, view: View, line: StatusLine, prompts: Prompts, clipboard: Clipboard,
+                 suggesting: Suggesting):
         self._note, self._work, self._view, self._line, self._prompts = note, work, view, line, prompts
-        # What was cut or copied last, and whether it goes on with what is cut next to a line's end.
-        self._kept, self._kills = "", False
+        self._clipboard, self._suggesting = clipboard, suggesting
+        # Whether what is cut next to a line's end goes on with what was cut last.
+        self._kills = False
 
     def type(self, characters: str) -> None:
         """Types characters, if there are any."""
-        if characters:
+        if characters and self._suggesting.is_on:
+            self._suggesting.take(*(self._view.selected() or (self._view.cursor, self._view.cursor)), characters)
+        elif characters:
             self._work.edit(lambda: self._note.type(characters))
 
     def paste(self, pasted: Pasted) -> None:
@@ -36,7 +42,7 @@ class Edits:
     def copy(self) -> None:
         """Keeps what is selected, to be put elsewhere."""
         if stretch := self._view.selected():
-            self._kept = self._view.text[slice(*stretch)].decode("utf-8", "ignore")
+            self._clipboard.text = self._view.text[slice(*stretch)].decode("utf-8", "ignore")
         self._view.unmark()
 
     def cut(self) -> None:
@@ -50,7 +56,7 @@ class Edits:
         text, begin = self._view.text, self._view.cursor
         end = text.find(LINE_END, begin)
         end = len(text) if end < 0 else end + (end == begin)
-        self._kept = (self._kept if self._kills else "") + text[begin:end].decode("utf-8", "ignore")
+        self._clipboard.text = (self._clipboard.text if self._kills else "") + text[begin:end].decode("utf-8", "ignore")
         self._kills = True
         self._erase(begin, end)
 
@@ -59,14 +65,17 @@ class Edits:
         self._kills = False
 
     def put(self) -> None:
-        """Types what was cut or copied last."""
-        if self._kept:
-            self.paste(Pasted(self._kept))
+        """Types what was cut or copied last, or written in vain."""
+        if self._clipboard.text:
+            self.paste(self._clipboard.pasted())
 
     def backspace(self) -> None:
         """Deletes what is selected, or the character before the cursor."""
         end = self._view.cursor
-        self._erase(*self._view.selected() or (cluster_before(self._view.text, end), end))
+        if stretch := self._view.selected():
+            self._erase(*stretch)
+        else:
+            self._erase(cluster_before(self._view.text, end), end, 1)
 
     def delete(self) -> None:
         """Deletes what is selected, or the character after the cursor."""
@@ -74,8 +83,10 @@ class Edits:
         self._erase(*self._view.selected() or (begin, cluster_after(self._view.text, begin)))
 
     def undo(self) -> None:
-        """Takes back this editor's last edit."""
-        if self._work.edit(self._note.take_back) is False:
+        """Takes back this editor's last edit, or suggestion."""
+        if self._suggesting.is_on:
+            self._suggesting.take_back()
+        elif self._work.edit(self._note.take_back) is False:
             self._line.say("You have made no edit since the note was opened that could be taken back.")
 
     def redo(self) -> None:
@@ -90,9 +101,16 @@ class Edits:
 
     def _replace(self, old: str, new: str) -> None:
         """Puts words in the place of others, as one edit."""
+        if self._suggesting.is_on:
+            self._suggesting.replace(old, new)
+            return
         many = self._work.edit(lambda: self._note.replace(old, new))
         if many is not None:
             self._line.say(f"Replaced {counted(many, 'time')}." if many else f"{old!r} isn't in the note.")
 
-    def _erase(self, begin: int, end: int) -> None:
-        self._work.edit(lambda: self._note.erase(begin, end))
+    def _erase(self, begin: int, end: int, back: int = 0) -> None:
+        """Deletes a stretch, by a key that may delete backwards."""
+        if self._suggesting.is_on:
+            self._suggesting.take(begin, end, "", back)
+        else:
+            self._work.edit(lambda: self._note.erase(begin, end))

@@ -70,6 +70,13 @@ class Key(Enum):
     PUT = auto()
     KILL = auto()
     FIND = auto()
+    REMARK = auto()
+    SUGGEST = auto()
+    THREADS = auto()
+    NEXT_THREAD = auto()
+    SUGGESTING = auto()
+    NEXT_CHANGE = auto()
+    PREVIOUS_CHANGE = auto()
     SAVE = auto()
     QUIT = auto()
     OTHER = auto()
@@ -110,12 +117,15 @@ Event = Key | Pasted | Mouse | str
 _CONTROLS = {"\r": Key.ENTER, "\n": Key.ENTER, "\b": Key.BACKSPACE, "\x7f": Key.BACKSPACE, "\x1a": Key.UNDO,
              "\x19": Key.REDO, "\x12": Key.REPLACE, "\x0c": Key.LINE, "\0": Key.MARK, "\x18": Key.CUT,
              "\x16": Key.PUT, "\x01": Key.HOME, "\x05": Key.END, "\x0b": Key.KILL,
+             "\x14": Key.REMARK, "\x15": Key.SUGGEST, "\x0f": Key.THREADS, "\x0e": Key.NEXT_THREAD,
              "\x06": Key.FIND, "\x13": Key.SAVE, "\x11": Key.QUIT, "\x03": Key.ESCAPE, "\x07": Key.ESCAPE}
 # By the last letter of a sequence, and by the number of one that ends in ~.
 _LETTERS = {"A": Key.UP, "B": Key.DOWN, "C": Key.RIGHT, "D": Key.LEFT, "H": Key.HOME, "F": Key.END}
-_NUMBERS = {1: Key.HOME, 3: Key.DELETE, 4: Key.END, 5: Key.PAGE_UP, 6: Key.PAGE_DOWN, 7: Key.HOME, 8: Key.END}
+_NUMBERS = {1: Key.HOME, 3: Key.DELETE, 4: Key.END, 5: Key.PAGE_UP, 6: Key.PAGE_DOWN, 7: Key.HOME, 8: Key.END, 19: Key.NEXT_CHANGE,
+            32: Key.PREVIOUS_CHANGE}
 _BY_WORDS = {Key.LEFT: Key.WORD_LEFT, Key.RIGHT: Key.WORD_RIGHT}
-_ALT: dict[str, Key] = {"w": Key.COPY, "b": Key.WORD_LEFT, "f": Key.WORD_RIGHT, "\x11": Key.QUIT, "\x13": Key.SAVE}
+_BY_SHIFT = {Key.NEXT_CHANGE: Key.PREVIOUS_CHANGE}
+_ALT: dict[str, Key] = {"w": Key.COPY, "u": Key.SUGGESTING, "b": Key.WORD_LEFT, "f": Key.WORD_RIGHT, "\x11": Key.QUIT, "\x13": Key.SAVE}
 # The keys of a number pad that is switched to sequences.
 _PAD: dict[str, Event] = {"M": Key.ENTER, "X": "=", **dict(zip("jklmnopqrstuvwxy", "*+,-./0123456789"))}
 _SHIFT = 1
@@ -302,4 +312,6 @@ def _with(sequence: bytes, key: Key | None, numbers: bytes, control: bool = Fals
     held = control or sequence.startswith(b"\x1b\x1b") or (number - 1) & ~_SHIFT
     if key is None:
         return Key.OTHER
+    if (number - 1) & _SHIFT:
+        key = _BY_SHIFT.get(key, key)
     return _BY_WORDS.get(key, key) if held else key

@@ -4,7 +4,7 @@ A *character* here is what people see as one: a letter with its marks, a flag, a
 finds where each ends, and python3-wcwidth how wide it is; without them simpler rules do."""
 import importlib
 import unicodedata
-from collections.abc import Callable
+from collections.abc import Callable, Iterable
 from dataclasses import dataclass
 from functools import lru_cache
 
@@ -51,6 +51,19 @@ class ScreenRow:
             if width and at > column:
                 return self.part + begin
         return self.end
+
+
+class AsideRow(ScreenRow):
+    """A row that is none of the text, and where no position is."""
+
+    def __init__(self, cells: list[Cell]):
+        super().__init__(-1, -1, cells, -1)
+
+
+def asides(lines: Iterable[str], width: int) -> list[ScreenRow]:
+    """The rows of lines that are none of the text."""
+    rows = (rows_of(line.encode("utf-8", "surrogateescape"), width) for line in lines)
+    return [AsideRow(cells) for some in rows for _, _, cells in some]
 
 
 def decoded(data: Text) -> str:

@@ -6,13 +6,18 @@ from share.editors.terminal.keys import Event, Key, Pasted
 from share.editors.terminal.layout import clusters
 
 
+def is_yes(answer: str) -> bool:
+    """Whether an answer agrees."""
+    return answer.strip().lower() in ("y", "yes")
+
+
 @dataclass
 class Prompt:
     """A question, the answer as it is typed, and what is done with the answer; whether that needs no note."""
 
     question: str
     answer: str
-    then: Callable[[str], None]
+    then: Callable[[str], object]
     needs_no_note: bool
 
 
@@ -22,7 +27,7 @@ class Prompts:
     def __init__(self) -> None:
         self._prompt: Prompt | None = None
 
-    def ask(self, question: str, then: Callable[[str], None], answer: str = "", needs_no_note: bool = False) -> None:
+    def ask(self, question: str, then: Callable[[str], object], answer: str = "", needs_no_note: bool = False) -> None:
         """Asks a question, in place of another; an answer may be given that is then changed."""
         self._prompt = Prompt(question, answer, then, needs_no_note)
 

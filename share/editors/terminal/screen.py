@@ -6,14 +6,32 @@ import time
 from collections import deque
 from collections.abc import Iterator, Sequence
 from contextlib import contextmanager, suppress
+from enum import Enum
+from typing import NamedTuple
 
 from share.editors.terminal.keys import MOUSE_OFF, MOUSE_ON, PASTES_OFF, PASTES_ON, Event, Keyboard, safe_for_terminal
-from share.editors.terminal.layout import ScreenRow, rows_of
+from share.editors.terminal.layout import AsideRow, ScreenRow, rows_of
 from share.log.bell import Bell
 from share.log.polling import can_read, ready
 
 # What is read of a paste at a time, and in one read.
 MOST_TYPED_AT_ONCE, READ_BYTES = 1 << 18, 1 << 16
+
+
+class Mark(Enum):
+    """Why a stretch is marked: what stands at the end of the row in which it begins, and how it looks."""
+
+    CAME = "+", curses.A_UNDERLINE | curses.A_BOLD
+    WENT = "-", 0
+    REMARKED = "*", curses.A_UNDERLINE
+
+
+class Marked(NamedTuple):
+    """A stretch that is marked."""
+
+    begin: int
+    end: int
+    why: Mark
 
 
 class Screen:
@@ -100,12 +118,22 @@ class Screen:
             self.window.clrtoeol()
             self.window.addstr(line, 0, words, look)
 
-    def _mark(self, line: int, row: ScreenRow, begin: int, end: int) -> None:
-        """Shows a stretch reversed, as far as it is in a row; of its end at least a cell."""
+    def _mark(self, line: int, row: ScreenRow, begin: int, end: int, look: int = curses.A_REVERSE) -> None:
+        """Shows a stretch with a look, as far as it is in a row; of its end at least a cell."""
         if begin <= row.end and end > row.begin:
             first, last = row.column(max(begin, row.begin)), row.column(min(end, row.end))
             with suppress(curses.error):
-                self.window.chgat(line, min(first, self.width), max(1, last - first), curses.A_REVERSE)
+                self.window.chgat(line, min(first, self.width), max(1, last - first), look)
+
+    def _show_marked(self, line: int, row: ScreenRow, marked: Sequence[Marked], goes_on: bool) -> None:
+        """Shows stretches as what they are, and says so at the end of a row where one begins; the last one counts."""
+        for begin, end, why in marked:
+            sign, look = why.value
+            if begin < end:
+                self._mark(line, row, begin, end, look)
+            if row.begin <= begin < row.end + (not goes_on):
+                with suppress(curses.error):
+                    self.window.addstr(line, self.width, sign, curses.A_BOLD)
 
     def _name(self, rows: list[ScreenRow], place: int, name: str) -> None:
         """Writes the name of who has a cursor at a place after the text of its row, or of a row beside it that has room."""
@@ -140,16 +168,17 @@ class Screen:
         return self.height, 1 + size
 
     def draw(self, rows: list[ScreenRow], cursor: int, words: tuple[str, str], asks: bool = False,
-             others: Sequence[tuple[int, str]] = (), selected: tuple[int, int] | None = None) -> None:
-        """Draws rows of a text with others' cursors and what is selected, the status line, and the cursor at its place;
+             others: Sequence[tuple[int, str]] = (), selected: tuple[int, int] | None = None, marked: Sequence[Marked] = ()) -> None:
+        """Draws rows of a text with others' cursors, what is marked and what is selected, the status line, and the cursor at its place;
         after a question, where one is asked."""
         at = 0, 0
         for line in range(self.height):
             row = rows[line] if line < len(rows) else None
-            self.put(line, "".join(cell for _, cell, _ in row.cells) if row else "")
+            self.put(line, "".join(cell for _, cell, _ in row.cells) if row else "", curses.A_DIM if isinstance(row, AsideRow) else 0)
             if row and row.begin <= cursor <= row.end:
                 at = line, row.column(cursor)
             if row:
+                self._show_marked(line, row, marked, any(one.begin == row.end for one in rows[line + 1:]))
                 for begin, end in [*((place, place + 1) for place, _ in others), *([selected] if selected else [])]:
                     self._mark(line, row, begin, end)
         for place, name in others:

@@ -55,23 +55,34 @@ class StatusLine:
     def __init__(self, name: str, screen: Screen):
         self.name, self._screen = name, screen
         self._notice, self._noticed_at = "", 0.0
+        # In which the editor is, if in one.
+        self.mode = ""
 
     def say(self, words: str) -> None:
         """Shows a notice."""
         self._notice, self._noticed_at = words, time.monotonic()
+
+    def add(self, words: str) -> None:
+        """Shows more behind the notice that there is."""
+        self.say(f"{self._notice} {words}".strip())
 
     def forget_notice(self) -> None:
         """Drops the notice, once it could be read."""
         if time.monotonic() >= self._noticed_at + NOTICE_SECONDS:
             self._notice = ""
 
-    def words(self, status: Status, silent: float, failure: BaseException | None) -> tuple[str, str]:
-        """What is said to the left and to the right. The note has been silent for some seconds, and may have failed."""
+    def words(self, status: Status, silent: float, failure: BaseException | None, keys: str = "",
+              remarks: int = 0) -> tuple[str, str]:
+        """What is said to the left and to the right. The note has been silent for some seconds, and may have failed; keys may have another
+        meaning, and remarks be open."""
         parts = self._notice, self._waits(silent), _trouble(status, failure)
         if words := " ".join(part for part in dict.fromkeys(parts) if part):
             return words, ""
+        if keys:
+            return keys, ""
         site = f"site {status.site}" if status.can_type else "no number yet"
-        return f"{self.name}  {site}  {status.on} on  {state(status)}{state_of_others(status)}", HELP
+        mode = f"  {self.mode}" if self.mode else ""
+        return f"{self.name}{mode}  {site}  {status.on} on  {state(status)}{_remarks(remarks)}{state_of_others(status)}", HELP
 
     def _waits(self, silent: float) -> str:
         """What is waited for."""
@@ -82,6 +93,10 @@ class StatusLine:
         if self._screen.keyboard.paste:
             return f"Pasting: {counted(self._screen.keyboard.paste.size, 'byte')} so far."
         return ""
+
+
+def _remarks(many: int) -> str:
+    return f"  {counted(many, 'remark')}" if many else ""
 
 
 def _trouble(status: Status, failure: BaseException | None) -> str:

@@ -1,8 +1,13 @@
 """What is seen of a note."""
+from collections.abc import Sequence
+
 from share.editors.note import EngineNote
-from share.editors.terminal.layout import Layout, ScreenRow, cluster_before
-from share.editors.terminal.screen import Screen
+from share.editors.terminal.layout import AsideRow, Layout, ScreenRow, asides, cluster_before
+from share.editors.terminal.screen import Mark, Marked, Screen
 from share.text.change import boundary
+
+# The most stretches that are marked on a screen.
+MOST_MARKED = 500
 
 
 class View:
@@ -12,6 +17,8 @@ class View:
         self._note, self._screen = note, screen
         # The rows that were drawn last.
         self._shown: list[ScreenRow] = []
+        # What is shown below a position, in lines.
+        self.below: tuple[int, Sequence[str]] | None = None
         self.look()
 
     def look(self) -> None:
@@ -20,6 +27,8 @@ class View:
         self.text, self.cursor, self.top = bytes(note.text), note.cursor, note.top
         # Where others' cursors are, and whose; and the other end of what is selected.
         self.others, self._anchor = note.others(), note.anchor
+        self.threads, self.many_open = note.threads.found, note.threads.many_open
+        self.gathered, self.changes = note.gathering.now, note.changes.found
         self.layout = Layout(self.text, self._screen.width)
 
     def go_to(self, position: int) -> None:
@@ -43,11 +52,25 @@ class View:
         if not self._shown or line >= self._screen.height:
             return None
         row = self._shown[min(line, len(self._shown) - 1)]
+        if isinstance(row, AsideRow):
+            return None
         place = row.position(column) if line < len(self._shown) else row.end
         # Where a long line goes on in the row below, the place after its last character is there.
         place = cluster_before(self.text, place) if place == row.end and self.layout.goes_on(row) else place
         # The text may be another one since it was drawn.
         return boundary(self.text, min(place, len(self.text)))
+
+    def marked(self) -> list[Marked]:
+        """The stretches on the screen that changed, and those that something open is said of, or is to be."""
+        shown = [row for row in self._shown if not isinstance(row, AsideRow)]
+        if not shown:
+            return []
+        begin, end = shown[0].begin, shown[-1].end
+        changed = [Marked(one.begin, one.end, Mark.WENT if one.gone else Mark.CAME) for one in self.changes or ()]
+        own = [Marked(*self.gathered[:2], Mark.REMARKED)] if self.gathered else []
+        said = [Marked(one.begin, one.end, Mark.REMARKED) for one in self.threads
+                if one.begin is not None and one.end is not None and one.is_open]
+        return [one for some in (changed, own + said) for one in some if one.begin <= end and one.end >= begin][:MOST_MARKED]
 
     def select_from(self, position: int) -> None:
         """Begins to select at a position."""
@@ -84,5 +107,16 @@ class View:
         self.top = first.begin
         if note_is_idle:
             self._note.top = first.begin
-        self._shown = rows
-        return rows
+        self._shown = self._with_what_is_below(rows)
+        return self._shown
+
+    def _with_what_is_below(self, rows: list[ScreenRow]) -> list[ScreenRow]:
+        """The rows, with what is shown below one of them, for which others give way."""
+        if self.below is None:
+            return rows
+        place, lines = self.below
+        height = self._screen.height
+        number = next((number for number, row in reversed([*enumerate(rows)]) if row.begin <= place <= row.end), len(rows) - 1)
+        said = asides(lines, self._screen.width)[:height - 1]
+        first = max(0, min(number, number + 1 + len(said) - height))
+        return [*rows[first:number + 1], *said, *rows[number + 1:]][:height]

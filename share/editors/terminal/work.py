@@ -8,6 +8,7 @@ from share.editors.terminal.status_line import StatusLine
 from share.editors.terminal.view import View
 from share.editors.terminal.waiting import Waiting
 from share.editors.terminal.worker import Returned, Worker
+from share.sync.number_search import NONE_FOUND_YET
 from share.sync.session import Status
 from share.text.errors import Refused
 
@@ -46,10 +47,13 @@ class Work:
 
     def edit(self, work: Callable[[], Returned]) -> Returned | None:
         """Makes an edit, where one can be made."""
-        if self.status.can_type:
-            return self.do(work)
-        self._line.say(CANT_TYPE)
-        return None
+        return self.do(work) if self.may_edit() else None
+
+    def may_edit(self) -> bool:
+        """Whether an edit can be made; says so where none can."""
+        if not self.status.can_type:
+            self._line.say(self.status.trouble or (NONE_FOUND_YET if self.status.searching else CANT_TYPE))
+        return self.status.can_type and not self.failure
 
     def take_in(self) -> None:
         """Takes in what came from others."""

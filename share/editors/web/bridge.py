@@ -15,7 +15,8 @@ from share.text.line import PIECE, Assembler, Line
 
 # What a page may ask for. It names no file: who has the secret alone is to reach notes and nothing else. `notes` is the bridge's own.
 LIST = "notes"
-REQUESTS = {"open", "edit", "undo", "redo", "looks", "cursor", "seen", "text", "on", "who", "history", "past", "close", LIST}
+REQUESTS = {"open", "edit", "undo", "redo", "looks", "cursor", "seen", "text", "on", "who", "history", "past", "close", "remarks", "remark",
+            "suggest", "reply", "resolve", "reopen", "reject", "revise", "withdraw", "accept", "changed", LIST}
 NO_FIELDS = {"path", "replace", "link", "log", "url"}
 # The most bytes of a page's message, so that who hasn't said the secret can't fill the memory.
 MOST_MESSAGE = 1 << 18

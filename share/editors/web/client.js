@@ -45,7 +45,7 @@ export class Lines {
 
 /**
  * An editor of a note. `view` shows what it is told: `change(changes, cursor)`, `replace(text)`, `looks(list)`,
- * `cursors(list)`, `state(line)`, `say(words)` and `answered()`.
+ * `cursors(list)`, `state(line)`, `remarks(line)`, `say(words)` and `answered()`.
  */
 export class Client {
   #send;
@@ -98,18 +98,23 @@ export class Client {
     this.#since = this.#clock();
   }
 
-  /** Sends a request, for its answer. */
-  ask(request) {
+  /** Sends a request, for its answer. Of a quiet one the user isn't told that it failed: whoever asks does that. */
+  ask(request, isQuiet = false) {
     this.#flush();
     this.#ids += 1;
     const id = this.#ids;
     this.#send({ ...request, id });
-    return new Promise((resolve) => { this.#asked.set(id, resolve); });
+    return new Promise((resolve) => { this.#asked.set(id, { resolve, isQuiet }); });
+  }
+
+  /** Asks about places of the text as it is; the answer's `isOld()` says whether its places aren't those of the text any more. */
+  askOf(request, isQuiet = false) {
+    return this.ask({ ...request, version: this.version }, isQuiet);
   }
 
   /** Says that nothing more comes; what was asked isn't answered. */
   end() {
-    for (const resolve of this.#asked.values()) resolve({ error: "away" });
+    for (const { resolve } of this.#asked.values()) resolve({ error: "away" });
     this.#asked.clear();
   }
 
@@ -132,21 +137,26 @@ export class Client {
   }
 
   #answer(line) {
+    const asked = this.#asked.get(line.id);
     if ("error" in line) {
-      this.#view.say(line.words);
+      if (!asked?.isQuiet) this.#view.say(line.words);
       if (!("edits" in line) && !("id" in line)) this.#send({ do: "text", edits: this.made });
     }
     if (line.answer === "edit" && "edits" in line) {
       this.answered = line.edits;
       this.#view.answered();
     }
-    this.#asked.get(line.id)?.(line);
+    // Whoever asked goes on later, and what came meanwhile is shown by then.
+    const { version } = this;
+    const isOld = () => version !== this.version || line.edits !== this.made || this.#gathered.length > 0;
+    asked?.resolve({ ...line, isOld });
     this.#asked.delete(line.id);
   }
 
   #notice(line) {
     if (line.notice === "state") this.#view.state(line);
     else if (line.notice === "says") this.#view.say(line.words);
+    else if (line.notice === "remarks") this.#view.remarks(line);
     else if (line.edits === this.made) this.#agreed(line);
   }
 

@@ -91,6 +91,9 @@ export class Composing {
     clearTimeout(this.#input.readDOMTimeout);
     Object.assign(this.#input, { composing: null, readDOMTimeout: null });
     this.#input.updateFromDOM();
-    if (isHere) this.#field.focus({ preventScroll: true });
+    if (!isHere) return;
+    // What was drawn without the focus has left the browser's cursor at the line's begin, from where CodeMirror would take it over.
+    this.#input.showSelection(this.#input.prepareSelection(), true);
+    this.#field.focus({ preventScroll: true });
   }
 }

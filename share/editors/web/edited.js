@@ -51,7 +51,10 @@ export class Edited {
   #isOwn = true;
   #told;
 
-  /** `told` is told of `edit(changes)`, `moved()` and, of what others change, `changed(place)`. */
+  /**
+   * `told` is told of `edit(changes)`, `moved()` and, of what others change, `changed(place)`; where it `takes(change)` the user's change
+   * isn't made.
+   */
   constructor(cm, told) {
     this.cm = cm;
     this.places = new Places(cm);
@@ -59,6 +62,10 @@ export class Edited {
     cm.on("beforeChange", (_, change) => {
       if (!this.#isOwn) return;
       whole(cm, this.places, change);
+      if (told.takes?.(change)) {
+        change.cancel();
+        return;
+      }
       const { from, to, text } = change;
       const end = this.places.of(to);
       gather(this.#gathered, this.places.of(from), end, text.join("\n"));

@@ -114,6 +114,14 @@ export class Editor extends Edited {
     return [{ line: from, ch: 0 }, end].map((place) => this.places.of(place));
   }
 
+  /** The first and the last place of the lines that are in sight, and of some screens above and below. */
+  inSight(screens) {
+    const { top, clientHeight } = this.cm.getScrollInfo();
+    const [from, to] = [top - screens * clientHeight, top + (1 + screens) * clientHeight]
+      .map((height) => Math.min(this.cm.lineAtHeight(height, "local"), this.cm.lastLine()));
+    return [{ line: from, ch: 0 }, { line: to, ch: this.cm.getLine(to).length }];
+  }
+
   /** Marks stretches so, in the place of other marks. */
   marked(before, list) {
     return this.cm.operation(() => {

@@ -14,6 +14,13 @@ export function isBetween(line, ch) {
   return signs.segment(line.slice(begin, ch + AROUND)).containing(ch - begin)?.index === ch - begin;
 }
 
+/** A text without its last sign. */
+export function withoutLast(text) {
+  const end = text.slice(-AROUND);
+  const last = signs ? [...signs.segment(end)].at(-1)?.segment : [...end].at(-1);
+  return text.slice(0, text.length - (last?.length ?? 0));
+}
+
 /** Does what moves the cursors by a character, until all of them are between two signs. */
 function passes(cm, does) {
   const isIn = () => cm.listSelections().some(({ head }) => !isBetween(cm.getLine(head.line), head.ch));

@@ -1,5 +1,5 @@
 // The page of a note: a connection to the note's engine, and what is shown of it.
-import { Changes, isHeard, tell } from "./aloud.js";
+import { Changes, isHeard } from "./aloud.js";
 import { Client } from "./client.js";
 import { Connection, NO_ENGINE, WRONG_SECRET } from "./connection.js";
 import { Editor, paste } from "./editor.js";
@@ -10,15 +10,18 @@ import { Keys } from "./keys.js";
 import { opensLinks } from "./links.js";
 import { Notes } from "./notes.js";
 import { Past } from "./past.js";
-import { colourOf, paint, shownName } from "./people.js";
+import { colourOf } from "./people.js";
+import { Present } from "./present.js";
 import { printsAll } from "./printing.js";
+import { Review } from "./review.js";
+import { say, showState } from "./said.js";
+import { Since } from "./since.js";
 import { stateWords } from "./state.js";
 import { Writers } from "./writers.js";
 
 /* global CodeMirror */
 
 const CURSOR_MS = 50;
-const MOST_WORDS = 5;
 // After how many lines that wait the engine is told what the text has.
 const WAITING = 100;
 
@@ -37,23 +40,26 @@ class Page {
   #last;
   #cursorTimer;
   #isRenamed = false;
-  // How many are on, and whose cursors are shown; and who they are.
-  #known = {};
-  #people = new Map();
-  // The colours of the sites that are on.
-  #colours = new Map();
 
   constructor() {
     this.editor = new Editor(element("text"), {
       edit: (changes) => this.#client?.edit(changes), moved: () => this.#moved(), changed: (place) => this.changes.at(place),
+      takes: (change) => this.review?.suggesting.takes(change),
     });
     const { cm } = this.editor;
     this.changes = new Changes(cm);
     this.keys = new Keys(cm, () => this.#client);
-    this.past = new Past((request) => this.#ask(request), (site) => this.#colours.get(site), () => this.editor.show());
+    const ask = (request) => this.#ask(request);
+    this.present = new Present(ask);
+    const colourOfSite = (site) => this.present.colourOf(site);
+    this.since = new Since(this.editor, (request) => this.#askOf(request, false), colourOfSite);
+    this.past = new Past(ask, colourOfSite, { left: () => this.editor.show(), since: (at) => this.since.show({ at }) });
     this.finding = new Finding(cm, () => this.#settle());
     this.formatted = new Formatted(() => this.editor.text);
-    this.writers = new Writers(this.editor, (begin, end) => this.#whoWrote(begin, end), (site) => this.#colours.get(site));
+    this.writers = new Writers(this.editor, (begin, end) => this.#askOf({ do: "who", begin, end }, false), colourOfSite);
+    this.review = new Review(this.editor, {
+      ask: (request) => this.#ask(request, true), askOf: (request) => this.#askOf(request, true), say, settle: () => this.#settle(),
+    });
     this.notes = new Notes((words) => this.#ask({ do: "notes", words }));
     opensLinks(cm);
     isHeard(cm, "Text of the note");
@@ -83,7 +89,7 @@ class Page {
       this.writers.toggle();
     });
     element("name").addEventListener("change", () => this.#rename());
-    window.addEventListener("beforeunload", (event) => { if (this.#isUnanswered()) event.preventDefault(); });
+    window.addEventListener("beforeunload", (event) => { if (this.#isUnanswered() || this.review.hasWords) event.preventDefault(); });
     cm.on("paste", paste);
     cm.on("changes", () => this.formatted.changed());
     // The browser's own undo, of its menu, would take back letters that the note has already.
@@ -98,7 +104,10 @@ class Page {
   #commands() {
     const { commands } = CodeMirror;
     for (const command of ["undo", "redo"]) {
-      commands[command] = (cm) => { if (cm === this.editor.cm) this.#ask({ do: command }); };
+      commands[command] = (cm) => {
+        const isDropped = command === "undo" && this.review.suggesting.drops();
+        if (cm === this.editor.cm && !isDropped) this.#ask({ do: command });
+      };
     }
     commands.bold = () => this.#look({ bold: !this.editor.isBold() });
     const finds = { find: () => this.finding.open(false), replace: () => this.finding.open(true), replaceAll: () => this.finding.open(true),
@@ -126,18 +135,16 @@ class Page {
   #look(looks) {
     const ranges = this.editor.selected();
     if (ranges.length) this.#client?.look(ranges, looks);
-    else this.#say("First select what is to look so. ");
+    else say("First select what is to look so. ");
   }
 
-  async #ask(request) {
-    return this.#client ? this.#client.ask(request) : { error: "away" };
+  async #ask(request, isQuiet = false) {
+    return this.#client ? this.#client.ask(request, isQuiet) : { error: "away" };
   }
 
-  /** Who wrote a stretch; an old answer where something was typed meanwhile. */
-  async #whoWrote(begin, end) {
-    const client = this.#client;
-    const answer = await this.#ask({ do: "who", version: client?.version, begin, end });
-    return { ...answer, isOld: answer.edits !== client?.made };
+  /** Asks about places of the text. */
+  async #askOf(request, isQuiet) {
+    return this.#client ? this.#client.askOf(request, isQuiet) : { error: "away" };
   }
 
   #isUnanswered() {
@@ -164,21 +171,21 @@ class Page {
 
   #came(line) {
     if (line.notice === "welcome") this.#open(line);
-    else if (line.notice === "opening") this.#state(`reading, ${Math.floor((100 * line.done) / (line.of || 1))} %`);
+    else if (line.notice === "opening") showState(`reading, ${Math.floor((100 * line.done) / (line.of || 1))} %`);
     else if (line.answer === "open") this.#opened(line);
     else if (this.#client) this.#client.take(line);
-    else if (line.words) this.#say(line.words);
+    else if (line.words) say(line.words);
   }
 
   #open({ name, missing }) {
     this.formatted.missing = missing;
     element("name").value = sessionStorage.getItem("name") ?? name;
-    this.#send({ do: "open", id: 0, protocol: 1, units: ["utf-16"], looks: true, name: element("name").value });
+    this.#send({ do: "open", id: 0, protocol: 1, units: ["utf-16"], looks: true, remarks: true, name: element("name").value });
   }
 
   #opened(line) {
     if (line.error) {
-      this.#state(line.words, true);
+      showState(line.words, true);
       return;
     }
     document.title = line.note;
@@ -190,7 +197,8 @@ class Page {
     for (const option of element("colour").options) option.style.color = colourOf(line.colours[option.value]);
     this.#client = new Client(line, (request) => this.#send(request), this.#view(line.colours));
     this.#last = this.#client;
-    this.#known = {};
+    this.present.begin();
+    this.review.opened();
     this.#moved();
   }
 
@@ -206,7 +214,7 @@ class Page {
     }
     const words = { [WRONG_SECRET]: "This page can't be opened so: open the file that bin/note web has named.",
       [NO_ENGINE]: `${reason} Trying again. What was answered is kept.` };
-    this.#state(words[code] ?? "bin/note web has ended. What was answered is kept. This page goes on when it runs again.", true);
+    showState(words[code] ?? "bin/note web has ended. What was answered is kept. This page goes on when it runs again.", true);
     return false;
   }
 
@@ -214,6 +222,7 @@ class Page {
   #rename() {
     sessionStorage.setItem("name", element("name").value);
     this.#settle();
+    this.review.suggesting.end();
     this.editor.types = false;
     this.#isRenamed = this.#client !== undefined;
     this.#ask({ do: "close" });
@@ -228,68 +237,24 @@ class Page {
       looks: (list) => this.editor.looks(list, colours),
       cursors: (list) => {
         this.editor.cursors(list);
-        this.#askWhoIsOn({ cursors: list.map(({ who, name, colour }) => [who, name, colour]) });
+        this.present.heard({ cursors: list.map(({ who, name, colour }) => [who, name, colour]) });
       },
       state: (line) => {
         this.editor.types = line.types;
-        this.#state(stateWords(line), Boolean(line.trouble), line.trouble ?? line.why);
-        this.#askWhoIsOn({ on: line.on });
+        showState(stateWords(line), Boolean(line.trouble), line.trouble ?? line.why);
+        this.present.heard({ on: line.on });
       },
-      say: (words) => this.#say(words),
+      remarks: (line) => this.review.counted(line),
+      say,
       answered: () => { if (!this.#isUnanswered()) this.keys.release(); },
     };
-  }
-
-  #state(words, isTrouble = false, why = "") {
-    const shown = isTrouble && why ? `${words}: ${why}` : words;
-    // What is the same isn't read aloud again.
-    if (element("state").textContent !== shown) element("state").textContent = shown;
-    element("state").title = why ?? "";
-    element("state").classList.toggle("trouble", isTrouble);
-  }
-
-  /** Shows words for the user, until they are put away. */
-  #say(words, ...more) {
-    const line = document.createElement("p");
-    const away = document.createElement("button");
-    line.append(words, ...more, away);
-    away.textContent = "OK";
-    away.addEventListener("click", () => line.remove());
-    element("words").append(line);
-    while (element("words").children.length > MOST_WORDS) element("words").firstChild.remove();
   }
 
   #keep(text) {
     const button = document.createElement("button");
     button.textContent = "Show it";
     button.addEventListener("click", () => this.past.keep(text, "your text as it was before the interruption"));
-    this.#say("Your last edits weren't answered, and the note is another one now. Your text of before is kept beside. ", button);
-  }
-
-  /** Asks who is on, where what came says that they are others than before. */
-  async #askWhoIsOn(news) {
-    const known = { ...this.#known, ...news };
-    if (JSON.stringify(known) === JSON.stringify(this.#known)) return;
-    const isFirst = !this.#known.on;
-    this.#known = known;
-    const answer = await this.#ask({ do: "on" });
-    if (!answer.people) return;
-    this.#colours = new Map(answer.people.map(({ site, colour }) => [site, colour]));
-    element("people").replaceChildren(...answer.people.map(({ name, colour }) => {
-      const item = document.createElement("li");
-      item.textContent = shownName(name);
-      paint(item, colour);
-      return item;
-    }));
-    this.#tellWhoCame(new Map(answer.people.map(({ who, name }) => [who, shownName(name)])), isFirst);
-  }
-
-  #tellWhoCame(people, isFirst) {
-    const names = (here, others) => [...here].filter(([who]) => !others.has(who)).map(([, name]) => name);
-    const [came, left] = [names(people, this.#people), names(this.#people, people)];
-    this.#people = people;
-    const words = [came.length && `${came.join(", ")} came.`, left.length && `${left.join(", ")} left.`].filter(Boolean).join(" ");
-    if (words && !isFirst) tell(words);
+    say("Your last edits weren't answered, and the note is another one now. Your text of before is kept beside. ", button);
   }
 
   // The user's cursor.

@@ -46,10 +46,10 @@ export class Past {
   #isAsking = false;
 
   /**
-   * `ask` sends a request and gives its answer, `colourOf` has the colour of a site that is on, and `left` is called as the
-   * user goes back to the note.
+   * `ask` sends a request and gives its answer, `colourOf` has the colour of a site that is on; `left` is called as the user goes back to
+   * the note, and `since` as he does to see what has changed there since a place of the history.
    */
-  constructor(ask, colourOf, left) {
+  constructor(ask, colourOf, { left, since }) {
     this.#ask = ask;
     this.#colourOf = colourOf;
     this.cm = CodeMirror(element("past-text"), { ...OPTIONS, readOnly: true });
@@ -58,11 +58,14 @@ export class Past {
     element("earlier").addEventListener("click", () => this.#go(-1));
     element("later").addEventListener("click", () => this.#go(1));
     element("slide").addEventListener("submit", (event) => event.preventDefault());
-    element("back").addEventListener("click", () => {
-      element("past").hidden = true;
-      element("sheets").hidden = false;
-      left();
-    });
+    for (const id of ["back", "since-here"]) {
+      element(id).addEventListener("click", () => {
+        element("past").hidden = true;
+        element("sheets").hidden = false;
+        left();
+        if (id === "since-here") since(this.#steps[Number(element("at").value) - 1]?.end ?? 0);
+      });
+    }
   }
 
   /** Shows the history, from today on. */
@@ -96,7 +99,7 @@ export class Past {
   #open(slides) {
     element("past").hidden = false;
     element("sheets").hidden = true;
-    for (const id of ["at", "earlier", "later"]) element(id).hidden = !slides;
+    for (const id of ["at", "earlier", "later", "since-here"]) element(id).hidden = !slides;
   }
 
   #go(by) {
@@ -107,6 +110,7 @@ export class Past {
   /** Shows the text where the slider is; one is asked for at a time. */
   async #look() {
     const at = Number(element("at").value);
+    element("since-here").disabled = at >= this.#steps.length;
     if (at > this.#steps.length) {
       element("step").textContent = wordsOfLeftOut(this.#leftOut);
       this.#shows(asPast(this.#leftOut));

@@ -43,7 +43,7 @@ export class Writers {
   async #look() {
     const answer = await this.#ask(...this.#editor.seen());
     if (!this.isShown || answer.error) return;
-    if (answer.isOld) this.#soon();
+    if (answer.isOld()) this.#soon();
     else this.#show(answer.stretches);
   }
 

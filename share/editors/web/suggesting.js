@@ -1,0 +1,133 @@
+// Typing that suggests: what is typed and deleted isn't done, but gathered, as long as it goes on at one place, into one suggestion.
+import { withoutLast } from "./graphemes.js";
+import { mark, placeOf } from "./stretches.js";
+
+/* global CodeMirror */
+
+/** @type {(id: string) => any} */
+const element = (id) => document.getElementById(id);
+// How long nothing is typed before it is sent.
+const REST_MS = 4000;
+const isBefore = (one, other) => CodeMirror.cmpPos(one, other) < 0;
+const isSame = (one, other) => CodeMirror.cmpPos(one, other) === 0;
+
+export class Suggesting {
+  #editor;
+  #sends;
+  #fails;
+  // Changes that weren't made and are to be looked at.
+  #taken = [];
+  // What is gathered: its mark, and what is put there.
+  #mark;
+  #put = "";
+  #timer;
+  #isMoving = false;
+  // A key that would also indent begins a line alone.
+  #keys = { Enter: (cm) => cm.replaceSelection("\n"), "Shift-Tab": () => undefined };
+
+  /** `sends(request)` sends a suggestion, and gives whether that was done; else `fails(from, to, put)` gets what was typed. */
+  constructor(editor, sends, fails) {
+    [this.#editor, this.#sends, this.#fails] = [editor, sends, fails];
+    editor.cm.on("cursorActivity", () => this.#passes());
+    editor.cm.on("blur", () => this.end());
+  }
+
+  get #isOn() {
+    return element("suggesting").ariaPressed === "true";
+  }
+
+  /** Whether something is gathered. */
+  get hasWords() {
+    return this.#mark !== undefined;
+  }
+
+  /** Whether the user's typing suggests, or not any more. */
+  toggle() {
+    this.end();
+    const isOn = !this.#isOn;
+    element("suggesting").ariaPressed = String(isOn);
+    if (isOn) this.#editor.cm.addKeyMap(this.#keys);
+    else this.#editor.cm.removeKeyMap(this.#keys);
+    this.#editor.cm.focus();
+  }
+
+  /** Takes a change that is about to be made. */
+  takes({ from, to, text }) {
+    if (!this.#isOn) return false;
+    const { anchor } = this.#editor.cm.listSelections()[0];
+    if (!this.#taken.length) queueMicrotask(() => this.#does());
+    this.#taken.push({ from, to, put: text.join("\n"), isBack: isSame(anchor, to) && isBefore(from, to) });
+    return true;
+  }
+
+  #does() {
+    const taken = this.#taken;
+    this.#taken = [];
+    this.#isMoving = true;
+    try {
+      this.#editor.cm.operation(() => taken.forEach((one) => this.#gathers(one)));
+    } finally {
+      this.#isMoving = false;
+    }
+    clearTimeout(this.#timer);
+    this.#timer = setTimeout(() => this.end(), REST_MS);
+  }
+
+  #gathers({ from, to, put, isBack }) {
+    const { cm } = this.#editor;
+    let at = this.#place();
+    if (at && (isBefore(at.to, from) || isBefore(to, at.from))) {
+      this.end();
+      at = undefined;
+    }
+    if (at && isBack && !put && this.#put && isSame(to, at.to)) {
+      this.#shows(at.from, at.to, withoutLast(this.#put));
+      cm.setCursor(at.to);
+      return;
+    }
+    const [begin, end] = [at && isBefore(at.from, from) ? at.from : from, at && isBefore(to, at.to) ? at.to : to];
+    this.#shows(begin, end, this.#put + put);
+    cm.setCursor(put ? end : isBack ? from : to);
+  }
+
+  /** Shows what is gathered, if that is anything. */
+  #shows(from, to, put) {
+    this.#mark?.clear();
+    this.#put = put;
+    this.#mark = isSame(from, to) && !put ? undefined : mark(this.#editor.cm, from, to, { className: "suggestion open own", put });
+    // The browser may show what it typed.
+    if (!this.#mark) this.#editor.cm.refresh();
+  }
+
+  #place() {
+    return this.#mark && placeOf(this.#mark);
+  }
+
+  /** The cursor is where it is: elsewhere, what was gathered is all. */
+  #passes() {
+    const at = this.#place();
+    if (!at || this.#isMoving || this.#taken.length) return;
+    const cursor = this.#editor.cm.getCursor();
+    if (isBefore(cursor, at.from) || isBefore(at.to, cursor)) this.end();
+  }
+
+  /** Drops what is gathered; whether there was anything. */
+  drops() {
+    const { hasWords } = this;
+    this.#mark?.clear();
+    [this.#mark, this.#put] = [undefined, ""];
+    return hasWords;
+  }
+
+  /** Sends what is gathered. */
+  async end() {
+    const [at, shown, put] = [this.#place(), this.#mark, this.#put];
+    [this.#mark, this.#put] = [undefined, ""];
+    if (!at) return;
+    const { places } = this.#editor;
+    const isDone = await this.#sends({ do: "suggest", begin: places.of(at.from), end: places.of(at.to), new: put });
+    const { from, to } = placeOf(shown) ?? at;
+    shown.clear();
+    if (!isDone) this.#fails(from, to, put);
+  }
+}
