@@ -13,7 +13,8 @@
 ;; `C-/' takes back your own last edit, whoever wrote since; `C-M-_' makes it
 ;; again.  `C-x C-w' saves the text as a file.  `M-x vialshoal-history' goes
 ;; through older texts, `M-x vialshoal-who-wrote-this' names the authors of
-;; the region or the line.
+;; the region or the line.  `M-x vialshoal-changed' marks what came since you
+;; looked, `M-x vialshoal-remark' and `M-x vialshoal-suggest' begin a review.
 ;;
 ;; All is kept as it is typed.  The mode line says whether others have it.
 ;;
@@ -56,6 +57,10 @@ or else your account's full name."
 (defcustom vialshoal-colour nil
   "The colour of your cursor at others, as \"#3366cc\"; nil lets one be chosen."
   :type '(choice (const :tag "Chosen for you" nil) string))
+
+(defcustom vialshoal-shows-remarks t
+  "Whether remarks and suggestions are shown in notes that are opened."
+  :type 'boolean)
 
 (defcustom vialshoal-major-mode #'text-mode
   "The major mode in which a note is opened.
@@ -101,6 +106,8 @@ hooks are also called for text that stays as it is, and some changes
 are made with no hook called.")
 (vialshoal--defvar vialshoal--changes nil
   "The changes that were gathered and aren't sent, the last one first.")
+(vialshoal--defvar vialshoal--diverts nil
+  "What takes a change that the user made, in place of the engine, if anything.")
 (vialshoal--defvar vialshoal--tick nil
   "The buffer's tick after the last change that was seen.")
 (vialshoal--defvar vialshoal--is-lost nil
@@ -109,6 +116,8 @@ are made with no hook called.")
   "Whether characters were typed that are none of Unicode.")
 (vialshoal--defvar vialshoal--state nil
   "The last notice `state'.")
+(vialshoal--defvar vialshoal--remarks nil
+  "The last notice `remarks'.")
 (vialshoal--defvar vialshoal--words nil
   "What the engine said last for the user.")
 (vialshoal--defvar vialshoal--beside nil
@@ -144,6 +153,12 @@ are made with no hook called.")
 What a command does that holds places is one edit.")
 (vialshoal--defvar vialshoal--wanted-place nil
   "Where point is to be once the note is open.")
+
+(defvar vialshoal--close-hook nil
+  "What is called before a note is closed.")
+
+(defvar vialshoal--forget-hook nil
+  "What is called where all is forgotten that an engine said.")
 
 (defvar vialshoal--applying nil
   "The buffer that is being changed as the engine says.")
@@ -363,11 +378,14 @@ From then on it keeps what is needed to carry edits over from there."
   (vialshoal--in-note
     (unless (or (eq vialshoal--applying (current-buffer))
                 (not vialshoal--is-open))
-      (save-restriction
-        (widen)
-        (vialshoal--gather beg end length))
+      (unless vialshoal--diverts
+        (save-restriction
+          (widen)
+          (vialshoal--gather beg end length)))
       (vialshoal--soon))
-    (setq vialshoal--tick (buffer-chars-modified-tick))))
+    ;; What is diverted is found once the command has done its work.
+    (setq vialshoal--tick (and (not vialshoal--diverts)
+                               (buffer-chars-modified-tick)))))
 (put 'vialshoal--after-change 'permanent-local-hook t)
 
 (defun vialshoal--gather (beg end length)
@@ -508,10 +526,12 @@ What comes in where the region ends isn't in it, so that stays."
                (= (buffer-size) (buffer-size vialshoal--mirror)))
     ;; A hook that fails has Emacs take all functions out of it.
     (add-hook 'after-change-functions #'vialshoal--after-change nil t)
-    (save-restriction
-      (widen)
-      (vialshoal--gather (point-min) (point-max)
-                         (buffer-size vialshoal--mirror)))
+    (if vialshoal--diverts
+        (funcall vialshoal--diverts)
+      (save-restriction
+        (widen)
+        (vialshoal--gather (point-min) (point-max)
+                           (buffer-size vialshoal--mirror))))
     (setq vialshoal--tick (buffer-chars-modified-tick))))
 
 (defun vialshoal--show-clean ()
@@ -710,6 +730,9 @@ Where a region isn't shown as one, every command may work on it."
     ("says" (vialshoal--say (plist-get line :words)))
     ("opening" (setq vialshoal--state line)
      (force-mode-line-update))
+    ("remarks" (setq vialshoal--remarks line)
+     (force-mode-line-update)
+     (vialshoal-review--noticed))
     ((and (or "changes" "text" "cursors") notice)
      (when (= (plist-get line :edits) vialshoal--made)
        (cond ((equal notice "cursors")
@@ -949,6 +972,7 @@ What is typed there is sent by the note's own buffer."
               (format ", %s of %s read" (plist-get state :read) (plist-get state :of)))
             (when (> (or (plist-get state :on) 1) 1)
               (format ", %s on" (plist-get state :on)))
+            (vialshoal--remarks-words)
             (unless (plist-get state :types)
               ", can't type yet")
             (vialshoal--left-out-words (plist-get state :left_out))
@@ -960,6 +984,13 @@ What is typed there is sent by the note's own buffer."
             (when (plist-get state :trouble)
               (concat ", trouble: "
                       (vialshoal--shown-name (plist-get state :trouble) 60))))))
+
+(defun vialshoal--remarks-words ()
+  "Return how many open remarks there are."
+  (pcase (or (plist-get vialshoal--remarks :open) 0)
+    (0 nil)
+    (1 ", 1 remark")
+    (open (format ", %s remarks" open))))
 
 (defun vialshoal--left-out-words (left-out)
   "Return how much LEFT-OUT of a state is and whose it is."
@@ -1043,6 +1074,7 @@ If ASKS is non-nil, it makes no note that isn't here."
   (apply #'vialshoal--send :id 0 :do "open" :protocol 1 :units ["utf-32"]
          :name (vialshoal--shown-name vialshoal-name)
          (append (and vialshoal-colour (list :colour vialshoal-colour))
+                 (and vialshoal-shows-remarks '(:remarks t))
                  (and asks (list :new :false))))
   (setq vialshoal--waiting (list (cons 0 #'vialshoal--opened))))
 
@@ -1064,10 +1096,12 @@ If ASKS is non-nil, it makes no note that isn't here."
         vialshoal--asked 0
         vialshoal--waiting nil
         vialshoal--state nil
+        vialshoal--remarks nil
         vialshoal--place nil
         vialshoal--piece nil
         vialshoal--lines nil)
-  (vialshoal--show-cursors nil))
+  (vialshoal--show-cursors nil)
+  (run-hooks 'vialshoal--forget-hook))
 
 (defun vialshoal--make-process (log link)
   "Return the engine's process, with LOG and LINK if any."
@@ -1182,6 +1216,7 @@ An indirect buffer has the note go on."
   (when (and vialshoal--note (not (buffer-base-buffer)))
     (when vialshoal--is-open
       (vialshoal--flush))
+    (run-hooks 'vialshoal--close-hook)
     (vialshoal--part)
     (vialshoal--forget)
     (when vialshoal--timer
@@ -1588,6 +1623,25 @@ STRETCH, a property list, says where, as the text is here."
   "Show the text with which the history ends."
   (interactive)
   (vialshoal-history-jump (length vialshoal-history--steps)))
+
+;;;; Reviews, each part in a file of its own
+
+;; Where this file was loaded by its path, too.
+(when load-file-name
+  (add-to-list 'load-path (file-name-directory load-file-name)))
+(autoload 'vialshoal-review--noticed "vialshoal-review")
+(pcase-dolist (`(,file . ,commands)
+               '(("vialshoal-review"
+                  vialshoal-remark vialshoal-suggest vialshoal-reply
+                  vialshoal-resolve vialshoal-reopen vialshoal-reject
+                  vialshoal-accept vialshoal-revise vialshoal-withdraw
+                  vialshoal-show-remark vialshoal-next-remark
+                  vialshoal-previous-remark)
+                 ("vialshoal-remarks" vialshoal-remarks)
+                 ("vialshoal-changed" vialshoal-changed)
+                 ("vialshoal-suggesting" vialshoal-suggest-mode)))
+  (dolist (command commands)
+    (autoload command file nil t)))
 
 (provide 'vialshoal)
 ;;; vialshoal.el ends here

@@ -8,19 +8,23 @@
 
 (require 'vialshoal-support)
 
-(defconst vialshoal-vectors--file
-  (expand-file-name "../../../share/engine/vectors/client.json"
+(defconst vialshoal-vectors--folder
+  (expand-file-name "../../../share/engine/vectors/"
                     (file-name-directory (or load-file-name buffer-file-name)))
-  "The file that has the cases.")
+  "The folder that has the cases.")
 
-(defun vialshoal-vectors--cases ()
-  "Return the cases of the file that are of this editor's units."
+(defun vialshoal-vectors--file (name)
+  "Return what the file of NAME has."
   (let ((coding-system-for-read 'utf-8-unix))
     (with-temp-buffer
-      (insert-file-contents vialshoal-vectors--file)
-      (cl-remove-if-not
-       (lambda (case) (member (plist-get case :units) '("any" "utf-32")))
-       (plist-get (vialshoal-support--read (buffer-string)) :cases)))))
+      (insert-file-contents (concat vialshoal-vectors--folder name))
+      (vialshoal-support--read (buffer-string)))))
+
+(defun vialshoal-vectors--cases ()
+  "Return the cases that are of this editor's units."
+  (cl-remove-if-not
+   (lambda (case) (member (plist-get case :units) '("any" "utf-32")))
+   (plist-get (vialshoal-vectors--file "client.json") :cases)))
 
 (defun vialshoal-vectors--edit (changes)
   "Make CHANGES as a user does who has no engine."

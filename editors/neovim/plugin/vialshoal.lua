@@ -37,3 +37,26 @@ end, { desc = 'Go through the older texts of this note' })
 command('VialshoalWho', function(given)
   require('vialshoal').who(given.line1, given.line2)
 end, { range = true, desc = 'Say who wrote the line, or those of the range' })
+
+-- What a review has: how each command is called, what it does, and what it takes.
+for name, of in pairs({
+  Remark = { 'remark', 'Remark on the selection, the lines of the range or the cursor', range = true, nargs = '*', bang = true },
+  Suggest = { 'suggest', 'Suggest another text for them, or one that comes in at the cursor', range = true, nargs = '*', bang = true },
+  SuggestMode = { 'suggest_mode', 'Have what you type and delete be suggested, or be done again' },
+  Reply = { 'reply', 'Reply to the remark at the cursor', nargs = '*', bang = true },
+  Revise = { 'revise', 'Have your own remark or reply at the cursor say something else', nargs = '*', bang = true },
+  Withdraw = { 'withdraw', 'Take back your own remark or reply at the cursor' },
+  Resolve = { 'resolve', 'Say that the remark at the cursor is resolved' },
+  Reopen = { 'reopen', 'Open the remark at the cursor again' },
+  Accept = { 'accept', 'Accept the suggestion at the cursor' },
+  Reject = { 'reject', 'Reject the suggestion at the cursor' },
+  Read = { 'read', 'Show all that the remark at the cursor says' },
+  Next = { 'next', 'Go to the next open remark, or so many further', count = 1 },
+  Previous = { 'previous', 'Go to the previous open remark, or so many back', count = 1 },
+  Remarks = { 'list', 'List the open remarks; with ! all', bang = true },
+  Changed = { 'changed', 'Show what changed since you looked, or since so many hours; with ! no more', nargs = '?', bang = true },
+}) do
+  command('Vialshoal' .. name, function(given)
+    require('vialshoal').review(of[1], given)
+  end, { desc = of[2], range = of.range, nargs = of.nargs, bang = of.bang, count = of.count })
+end

@@ -17,6 +17,7 @@ function M.note(opened)
   note = Note.new(buffer, send, function() return note.now end, {
     words = function(words) note.told.words = words end,
     cursors = function() end,
+    remarks = function() require('vialshoal.review').noticed(note) end,
     state = function() end,
     beside = function(words) note.told.beside = words end,
   })

@@ -49,6 +49,15 @@ function M.wait(condition, what)
   return value
 end
 
+--- Calls a body while a field of a table is another one.
+function M.with(owner, name, other, body)
+  local kept = owner[name]
+  owner[name] = other
+  local is_done, why = xpcall(body, debug.traceback)
+  owner[name] = kept
+  assert(is_done, why)
+end
+
 --- The text of a note's buffer.
 function M.text(note)
   return require('vialshoal.text').join(vim.api.nvim_buf_get_lines(note.buffer, 0, -1, false), note.has_end)

@@ -1,6 +1,7 @@
 --- What an editor does with which lines: the cases that editors in all languages run.
 local fake = require('test.fake')
 local support = require('test.support')
+local Suggesting = require('vialshoal.suggesting')
 local text = require('vialshoal.text')
 
 local function read(path)
@@ -60,6 +61,19 @@ local function play(case)
     fake.check(note)
   end
 end
+
+local function as_gathered(one)
+  return one and one ~= vim.NIL and { begin = one[1], ending = one[2], new = one[3] } or nil
+end
+
+support.test('what is typed is gathered as the vectors say', function()
+  local cases = read(support.top .. '/../../share/engine/vectors/suggesting.json').cases
+  assert(#cases > 20)
+  for _, case in ipairs(cases) do
+    local found, cursor, is_done = Suggesting.gathered(as_gathered(case.gathered), { case.from, case.to, case.put }, case.back or 0)
+    support.same({ as_gathered(case['then']) or false, case.cursor, case.sends or false }, { found or false, cursor, is_done }, case.name)
+  end
+end)
 
 -- Else a cursor can't be behind a line's last character, where one is typing.
 vim.o.virtualedit = 'onemore'

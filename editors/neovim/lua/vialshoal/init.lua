@@ -8,6 +8,7 @@ local cursors = require('vialshoal.cursors')
 local engine = require('vialshoal.engine')
 local history = require('vialshoal.history')
 local interrupt = require('vialshoal.interrupt')
+local review = require('vialshoal.review')
 local text = require('vialshoal.text')
 local undo = require('vialshoal.undo')
 
@@ -41,9 +42,9 @@ local function own_name()
   return name and name ~= '' and name or vim.env.USER or ''
 end
 
-M.options = { command = { program() }, name = own_name(), colour = nil }
+M.options = { command = { program() }, name = own_name(), colour = nil, remarks = true }
 
---- Sets options: `command`, a list; `name`, by which others see you; `colour`, as "#3366cc".
+--- Sets options: `command`, a list; `name`, by which others see you; `colour`, as "#3366cc"; whether `remarks` are shown.
 function M.setup(options)
   M.options = vim.tbl_extend('force', M.options, options or {})
 end
@@ -168,6 +169,9 @@ local function refill(note)
   set_options(note.buffer)
   note:fill(text.join(note.lines, note.has_end))
   attach(note)
+  if note.remarks then
+    review.noticed(note)
+  end
 end
 
 --- Calls a function, and says why where that fails. CTRL-C ends what is called here, too; but the user's macro is
@@ -207,6 +211,7 @@ local function ended(note, words)
   note.is_open = false
   vim.bo[note.buffer].modifiable = false
   note.shows.cursors({})
+  review.ended(note)
   if was_steady then
     say('The engine has ended, and is started anew. ' .. words)
     start(note)
@@ -295,7 +300,7 @@ function send_open(note)
     end,
   }
   note.send({ id = 0, ['do'] = 'open', protocol = 1, units = { 'utf-8' }, name = text.name(M.options.name),
-    colour = M.options.colour, new = note.makes })
+    colour = M.options.colour, new = note.makes, remarks = M.options.remarks or nil })
 end
 
 --- Tells once that the log can't be reached, and that all is sent again: a status line may not have that.
@@ -316,6 +321,10 @@ local function new_note(buffer, name, log, link, makes)
     words = say,
     beside = beside,
     cursors = function(shown) cursors.show(buffer, note.lines, shown) end,
+    remarks = function()
+      review.noticed(note)
+      vim.cmd('redrawstatus!')
+    end,
     state = function(state)
       -- Only where that changes, so that the user can set it, too.
       if state.types ~= nil and state.types ~= note.types then
@@ -428,6 +437,9 @@ function M.close(buffer)
   end
   notes[buffer] = nil
   note.is_closing = true
+  if note.suggesting then
+    note.suggesting:stop()
+  end
   if note.is_open and api.nvim_buf_is_loaded(buffer) then
     pcall(note.flush, note)
   end
@@ -475,7 +487,13 @@ end
 
 --- Takes back your own last edit, or so many of them, whatever others wrote since.
 function M.undo(count)
-  with_note(function(note) undo.ask(note, 'undo', count) end)
+  with_note(function(note)
+    if note.suggesting then
+      note.suggesting:undo()
+    else
+      undo.ask(note, 'undo', count)
+    end
+  end)
 end
 
 --- Makes again what was taken back.
@@ -513,6 +531,22 @@ function M.who(first, last)
   end)
 end
 
+--- Does a command of a review.
+function M.review(what, given)
+  local reviewing = require('vialshoal.reviewing')
+  local listed = reviewing.of_threads[what] and review.listed_here()
+  if listed and notes[listed.buffer] then
+    return reviewing[what](notes[listed.buffer], given)
+  end
+  with_note(function(note) reviewing[what](note, given) end)
+end
+
+--- How many open remarks a note has, in words.
+local function remarks_words(note)
+  local open = note.remarks and note.remarks.open or 0
+  return open == 0 and '' or (', %d remark%s'):format(open, open == 1 and '' or 's')
+end
+
 --- How a note is, in words.
 function M.state_words(note)
   local state = note.state
@@ -529,6 +563,7 @@ function M.state_words(note)
   if (state.on or 1) > 1 then
     words = ('%s, %d on'):format(words, state.on)
   end
+  words = words .. remarks_words(note) .. (note.suggesting and ', suggesting' or '')
   if not state.types then
     words = words .. ", can't type yet"
   end

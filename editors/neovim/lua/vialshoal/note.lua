@@ -25,12 +25,13 @@ local CURSOR_SECONDS, LOST_SECONDS = 0.05, 0.1
 local HOLDING = { '^no', '^c', '^r', '^[iR]c' }
 
 --- A note that is not open yet. `send` sends a line, `clock` says the time in seconds, and `shows` has functions for
---- what is to be shown: `words`, `cursors`, `state`, `beside` for a text that has to give way.
+--- what is to be shown: `words`, `cursors`, `remarks`, `state`, `beside` for a text that has to give way.
 function Note.new(buffer, send, clock, shows)
   return setmetatable({
     buffer = buffer, send = send, clock = clock, shows = shows,
     is_open = false, version = 0, made = 0, answered = 0, since = 0, lines = { '' }, has_end = false,
     changes = {}, state = {}, cursors = {}, waiting = {}, asked = 0, seen = 0, place_sent = 0,
+    review = { threads = {}, unanswered = {} },
     -- What of the changes is undone together, by their numbers.
     unit_of = setmetatable({}, { __mode = 'k' }),
   }, Note)
@@ -40,7 +41,10 @@ end
 function Note:opened(line)
   self.version, self.made, self.answered = line.version, line.edits, line.edits
   self.changes, self.waiting, self.place, self.is_lost, self.is_open = {}, {}, nil, false, true
-  self.told_version = nil
+  self.told_version, self.remarks, self.review = nil, nil, { threads = {}, unanswered = {} }
+  if self.suggesting then
+    self.suggesting:soon()
+  end
   if self:size() == 0 then
     self:fill(line.text)
   else
@@ -55,6 +59,10 @@ end
 function Note:changed(first, last, new_last)
   if self.applies or self.is_lost or not self.is_open then
     return
+  end
+  if self.suggesting then
+    self.is_unsure = true
+    return self:soon()
   end
   local count = api.nvim_buf_line_count(self.buffer)
   if count == 1 and new_last == first then
@@ -87,8 +95,8 @@ function Note:hinted(row, column, gone, came)
   end
 end
 
---- Gathers what differs in lines.
-function Note:gather(first, last, new_last)
+--- What differs in lines, as changes; the first of these lines, and what they are and were.
+function Note:differences(first, last, new_last)
   local is_last = not self.has_end and last == #self.lines
   if is_last and first > 0 and new_last ~= last then
     -- The line end before them has come or gone, too.
@@ -96,20 +104,26 @@ function Note:gather(first, last, new_last)
   end
   local new = api.nvim_buf_get_lines(self.buffer, first, new_last, false)
   local old = vim.list_slice(self.lines, first + 1, last)
-  local hints, is_told = {}, self.hints ~= nil
+  local hints = {}
   for row, column in pairs(self.hints or {}) do
     hints[row - first] = column
   end
   self.hints, self.late = nil, nil
-  local found = text.changes(old, new, text.offset(self.lines, first), is_last, hints)
+  return text.changes(old, new, text.offset(self.lines, first), is_last, hints), first, new, old
+end
+
+--- Gathers what differs in lines.
+function Note:gather(first, last, new_last)
+  local is_told = self.hints ~= nil
+  local found, begin, new, old = self:differences(first, last, new_last)
   for _, change in ipairs(found) do
     if text.clean(change[3]) ~= change[3] then
       self.is_unsure = true
       return
     end
   end
-  found = self:joined(found, old, text.offset(self.lines, first)) or found
-  text.splice(self.lines, first, last, new)
+  found = self:joined(found, old, text.offset(self.lines, begin)) or found
+  text.splice(self.lines, begin, last, new)
   for _, change in ipairs(found) do
     self:add(change)
   end
@@ -149,10 +163,45 @@ function Note:add(change)
   until begin > #new
 end
 
+--- Has the buffer be what is known again; what differed, as changes of that, and what each took away.
+function Note:put_back()
+  local lines = api.nvim_buf_get_lines(self.buffer, 0, -1, false)
+  local first, last, new_last = text.differing(self.lines, lines)
+  local row
+  for each in pairs(self.hints or {}) do
+    row = math.min(row or each, each)
+  end
+  if row then
+    -- A line end that was typed at a line's end differs from there on.
+    first = math.min(first, row)
+    self.hints = #lines == #self.lines and self.hints or { [row] = self.hints[row] }
+  end
+  local known = text.join(self.lines, self.has_end)
+  local found, begin, _, old = self:differences(first, last, new_last)
+  local has_end = vim.bo[self.buffer].endofline
+  if has_end ~= self.has_end then
+    table.insert(found, has_end and { #known, #known, '\n' } or { #known - 1, #known, '' })
+  end
+  self:apply(function()
+    api.nvim_buf_set_lines(self.buffer, begin, new_last, false, old)
+    vim.bo[self.buffer].endofline = self.has_end
+  end)
+  self.is_unsure = false
+  vim.bo[self.buffer].modified = self.made ~= self.answered
+  local grown = 0
+  return vim.tbl_map(function(change)
+    local from, to, new = change[1] - grown, change[2] - grown, text.clean(change[3])
+    grown = grown + #change[3] - (to - from)
+    return { { from, to, new }, known:sub(from + 1, to) }
+  end, found)
+end
+
 --- Gathers what has changed although nobody told, and shows U+FFFD for what is no character, as all others do.
 function Note:find_changes()
   if not self.is_unsure and api.nvim_buf_line_count(self.buffer) == #self.lines then
     return
+  elseif self.suggesting then
+    return self.suggesting:take()
   end
   -- Until all of it is known.
   self.is_unsure, self.hints = true, nil
@@ -171,7 +220,10 @@ end
 
 --- Takes note that the hidden line end came or went, by the option 'endofline'.
 function Note:end_changed(has_end)
-  if self.is_open and has_end ~= self.has_end then
+  if self.is_open and has_end ~= self.has_end and self.suggesting then
+    self.is_unsure = true
+    self:soon()
+  elseif self.is_open and has_end ~= self.has_end then
     interrupt.behind(self.find_changes, self)
     local size = self:size()
     self.has_end = has_end
@@ -182,8 +234,10 @@ end
 
 --- Sends what a command has changed, unless many edits are unanswered: then it goes with what follows.
 function Note:flush_command()
-  -- What was told behind its lines is no hint for the next ones.
-  self.hints, self.late = nil, nil
+  if not self.suggesting then
+    -- What was told behind its lines is no hint for the next ones.
+    self.hints, self.late = nil, nil
+  end
   if self.made - self.answered < MOST_UNANSWERED then
     self:flush()
   end
@@ -283,6 +337,9 @@ function Note:before_key()
     if why == -2 then
       interrupt.press()
     end
+  end
+  if self.suggesting then
+    self.suggesting:before_key()
   end
   -- As Vim's own undo would: a key that is typed in normal mode begins anew, one of a macro or an insertion doesn't.
   if vim.fn.undotree().synced == 1 and not self:is_held() then
@@ -391,6 +448,9 @@ function Note:noticed(line)
   if line.notice == 'state' or line.notice == 'opening' then
     self.state = line
     self.shows.state(line)
+  elseif line.notice == 'remarks' then
+    self.remarks = line
+    self.shows.remarks()
   elseif line.notice == 'says' then
     self.shows.words(line.words)
   elseif line.edits ~= self.made then
@@ -452,11 +512,17 @@ function Note:change(changes)
   self:apply(function()
     for _, change in ipairs(changes) do
       self:move_places(kept, change)
+      if self.suggesting then
+        self.suggesting:follow(change)
+      end
       self:replace(change[1], change[2], change[3])
     end
     self:hide_end(kept)
   end)
   self:restore_places(kept)
+  if self.suggesting then
+    self.suggesting:draw()
+  end
 end
 
 --- Has a text be in the place of what is between two places.
@@ -467,15 +533,13 @@ function Note:replace(from, to, new)
   local row, column = text.position(self.lines, from)
   local last_row, last_column = text.position(self.lines, to)
   local lines = vim.split(new, '\n', { plain = true })
-  if row == last_row then
-    api.nvim_buf_set_text(self.buffer, row, column, row, last_column, lines)
+  if row ~= last_row then
+    -- Neovim 0.7 would read memory that it has freed where the first line was just changed and no other one was read since.
+    api.nvim_buf_get_lines(self.buffer, last_row, last_row + 1, true)
   end
+  api.nvim_buf_set_text(self.buffer, row, column, last_row, last_column, lines)
   lines[#lines] = lines[#lines] .. self.lines[last_row + 1]:sub(last_column + 1)
   lines[1] = self.lines[row + 1]:sub(1, column) .. lines[1]
-  if row ~= last_row then
-    -- From a line that was just changed to another one, Neovim 0.7 reads memory that it has freed.
-    api.nvim_buf_set_lines(self.buffer, row, last_row + 1, false, lines)
-  end
   text.splice(self.lines, row, last_row + 1, lines)
 end
 

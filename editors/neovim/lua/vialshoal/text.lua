@@ -138,6 +138,19 @@ function M.changes(old, new, base, is_last, hints)
   return M.change(text(old), text(new), base, most)
 end
 
+--- The part of some lines that differs in others, as Neovim's API counts lines, and where that ends in the others.
+function M.differing(old, new)
+  local first, least = 0, math.min(#old, #new)
+  while first < least and old[first + 1] == new[first + 1] do
+    first = first + 1
+  end
+  local same = 0
+  while same < least - first and old[#old - same] == new[#new - same] do
+    same = same + 1
+  end
+  return first, #old - same, #new - same
+end
+
 --- Some bytes of lines, from a row and a column on. A line end that isn't shown is one of them.
 local function slice(lines, row, column, size)
   local found, number = lines[row + 1]:sub(column + 1), row + 2
@@ -191,6 +204,27 @@ function M.position(lines, offset)
       return number - 1, math.min(offset, #line)
     end
     offset = offset - #line - 1
+  end
+end
+
+--- The function that position() is for many places of one text.
+function M.positions(lines)
+  local begins, at = {}, 0
+  for number, line in ipairs(lines) do
+    begins[number] = at
+    at = at + #line + 1
+  end
+  return function(offset)
+    local low, high = 1, #lines
+    while low < high do
+      local middle = math.ceil((low + high) / 2)
+      if begins[middle] <= offset then
+        low = middle
+      else
+        high = middle - 1
+      end
+    end
+    return low - 1, math.min(offset - begins[low], #lines[low])
   end
 end
 
@@ -288,6 +322,32 @@ function M.name(name, most)
     end
   end
   return table.concat(found)
+end
+
+local INSTEAD = '\239\191\189'
+
+--- What somebody wrote as it may be shown: with no controls but a tab and a line end, and nothing that turns the
+--- direction of writing.
+function M.words(words)
+  local found = M.clean(type(words) == 'string' and words or '')
+  for _, pattern in ipairs({ '[%z\1-\8\11-\31\127]', '\194[\128-\159]', '\226\128[\168-\174]', '\226\129[\166-\169]' }) do
+    found = found:gsub(pattern, INSTEAD)
+  end
+  return found
+end
+
+-- For a cell of a line no more bytes are looked at of words, which can be long.
+local MOST_OF_CELL = 16
+
+--- The same in a line of so many cells.
+function M.line(words, most)
+  local begun = type(words) == 'string' and words:sub(1, most * MOST_OF_CELL) or ''
+  local found = vim.trim((M.words(begun):gsub('[ \t\n]+', ' ')))
+  local short = vim.fn.strcharpart(found, 0, most)
+  while vim.fn.strdisplaywidth(short) > most do
+    short = vim.fn.strcharpart(short, 0, vim.fn.strchars(short) - 1)
+  end
+  return short == found and found or short .. '..'
 end
 
 return M
