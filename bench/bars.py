@@ -97,3 +97,7 @@ UNPACKED = {
     # A square: each Delete and Restore notes a change for each piece.
     "letters before all others, deleted and restored by turns": 5500,
 }
+# The same as chunks that the library takes in, where noting has ended.
+UNNOTED = {
+    "letters before all others, deleted and restored by turns": 60,
+}

@@ -15,7 +15,7 @@ from traces import TRACES
 BENCH = pathlib.Path(__file__).resolve().parent
 TOP = BENCH.parent
 OUT = TOP / "library" / "out"
-NODE = ["node", "--expose-gc", str(BENCH / "library_sites.js")]
+NODE = ["node", "--expose-gc", str(BENCH / "library_sites.mjs")]
 NODE_PATH = os.environ.get("NODE_PATH", "/usr/share/nodejs")
 ENVIRONMENT = {
     **os.environ,

@@ -91,3 +91,11 @@ def ordinary() -> list[str] | None:
     environment = {**os.environ, "VIALSHOAL_BUILD": "rust"}
     subprocess.run([TOP / "bin" / "site_cli"], stdin=subprocess.DEVNULL, env=environment, check=True)
     return [str(TOP / "out" / "rust" / "site_cli")]
+
+
+def unnoted() -> list[str]:
+    """What takes chunks in by the library as ordinary Rust, which cargo builds, where noting has ended."""
+    workspace = TOP / "rust"
+    subprocess.run(["cargo", "build", "--quiet", "--release", "--offline", "--locked", "-p", "vialshoal_c"], cwd=workspace, check=True)
+    library = workspace / "target" / "release" / "libvialshoal_c.so"
+    return ["env", f"VIALSHOAL_LIBRARY={library}", sys.executable, "-B", str(TOP / "bench" / "unnoted.py")]

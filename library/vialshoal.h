@@ -7,19 +7,25 @@
  * Units. Positions and lengths count bytes (which are the text's characters), from 0; a range goes from `beg` up to `end`,
  * without it. A text and a site have numbers, 1 to 65535; all sites of a text have its number, and each one its own.
  *
- * Answers. Each call answers a number. 0: it was done. 1 to 23: the replica refused it, by the table "Refusals" of
- * docs/FORMATS.md. From 101 on: it was misused (VIALSHOAL_NOT_OPEN and so on). A call that was refused or misused changed
- * nothing, but for an edit or a chunk of which a part stands: see `sent` and `done`.
+ * Answers. Each call answers a number. 0: it was done. 1 to 23: the replica refused it (VIALSHOAL_MALFORMED and so on). From
+ * 101 on: it was misused (VIALSHOAL_NOT_OPEN and so on). A call that was refused or misused changed nothing, but for an edit
+ * or a chunk of which a part stands: see `sent` and `done`. vialshoal_strerror has words for each number.
  *
- * Memory. The library allocates what a handle holds, by the program's malloc, realloc and free, and vialshoal_free, or
- * vialshoal_past_free, frees it. All else is the caller's: what is written goes into rooms that the caller passes. `need`
+ * Memory. The library allocates what a handle holds, by the program's malloc, realloc and free (or by others, see
+ * vialshoal_heap_malloc), and vialshoal_free, or vialshoal_past_free, frees it. All else is the caller's: what is written goes into rooms that the caller passes. `need`
  * is set to how many elements there are to be written; where the room is shorter, nothing is written and the number is
  * VIALSHOAL_TOO_SHORT, so a length of 0 asks how long a room has to be.
  *
- * What the caller owes, and nothing checks: a handle is {0} before it is used first, and isn't copied; every pointer
- * points to as much memory as the call reads or writes, and isn't null, even at length 0; what is written lies apart from
- * all else that the same call is given, so the two handles of vialshoal_merge are two; one call at a time on a handle, on
- * the thread that opened it; malloc, realloc and free are of one allocator, which aligns as C says.
+ * What the caller owes, and nothing checks: a handle is {0} before it is used first, and isn't copied, since of two copies
+ * the one wouldn't know that the other one was freed (hand on a pointer to it); every pointer points to as much memory as the
+ * call reads or writes, and isn't null, but for one beside a length of 0; what is written lies apart from all else that the
+ * same call is given, so the two handles of vialshoal_merge are two; one call at a time on a handle (see below); malloc,
+ * realloc and free are of one allocator, which aligns as C says.
+ *
+ * Threads. Any thread may call with any handle. The calls of one handle, also those that only read, are made one after the
+ * other, and each thread sees what was done before (a mutex does both); so is an edit with the calls that take its messages,
+ * since vialshoal_let_go lets those of all edits go. Calls of different handles may run beside each other; vialshoal_merge
+ * is a call of both its handles, and vialshoal_past of the text and of the past it opens, which share nothing afterwards.
  */
 #ifndef VIALSHOAL_H
 #define VIALSHOAL_H
@@ -32,6 +38,32 @@
 extern "C" {
 #endif
 
+/* The version of this header. Its first number is that of the shared library's name (libvialshoal.so.0), and moves when
+ * programs have to be compiled anew; the second moves when there is more than before. */
+#define VIALSHOAL_VERSION_MAJOR 0
+#define VIALSHOAL_VERSION_MINOR 1
+#define VIALSHOAL_VERSION_PATCH 0
+#define VIALSHOAL_VERSION (VIALSHOAL_VERSION_MAJOR * 1000000u + VIALSHOAL_VERSION_MINOR * 1000u + VIALSHOAL_VERSION_PATCH)
+
+/* The version of the library, as VIALSHOAL_VERSION has that of the header. */
+uint32_t vialshoal_version(void);
+
+/* Whether the library has all that this header says. */
+static inline bool vialshoal_fits(void) {
+    uint32_t version = vialshoal_version();
+    return version / 1000000u == VIALSHOAL_VERSION_MAJOR && version >= VIALSHOAL_VERSION;
+}
+
+/* What a number means, in a few words, which are the library's and stay. */
+const char *vialshoal_strerror(uint32_t number);
+
+/* By these the library has all its memory; they call the program's malloc, realloc and free. A program that defines all three
+ * itself gives the library another heap, whether it is linked with the archive or with the shared library. They owe what C says
+ * of malloc, realloc and free; they are called in the thread that calls the library, with no lock held. */
+void *vialshoal_heap_malloc(size_t size);
+void *vialshoal_heap_realloc(void *block, size_t size);
+void vialshoal_heap_free(void *block);
+
 /* A replica of a text, or none, which is {0}. The word is the library's alone. */
 typedef struct vialshoal_text {
     void *at;
@@ -43,6 +75,34 @@ typedef struct vialshoal_past_text {
     void *at;
 } vialshoal_past_text;
 
+/* Numbers of refusals, as docs/FORMATS.md, "Refusals", has them. Those from 14 to 20, which are about viewers and events, no
+ * call here answers. */
+enum {
+    VIALSHOAL_MALFORMED = 1,        /* the bytes are no message or no chunk, or a chunk's are over 16,000 */
+    VIALSHOAL_WRONG_TEXT = 2,       /* the message or the chunk is of another text */
+    VIALSHOAL_CONFLICT = 3,         /* another operation has this identity */
+    VIALSHOAL_BAD_OFFSET = 4,       /* an insertion begins elsewhere than its site's file ends, or a name lies beyond */
+    VIALSHOAL_BAD_STAMP = 5,        /* the stamp isn't above each cause's */
+    VIALSHOAL_ROOM_FULL = 6,        /* 64 messages wait already */
+    VIALSHOAL_OUT_OF_MEMORY = 7,    /* memory was refused, or a text would have 2^32 pieces, or more operations */
+    VIALSHOAL_BEHIND = 8,           /* what waits shows that the site was further once */
+    VIALSHOAL_STAMPS_SPENT = 9,     /* the greatest stamp was taken in */
+    VIALSHOAL_FILE_SPENT = 10,      /* the site's file, or a stretch, would pass 2^24 bytes */
+    VIALSHOAL_OUT_OF_RANGE = 11,    /* a position lies outside its text; of misuse it is VIALSHOAL_OUT_OF_TEXT */
+    VIALSHOAL_SCATTERED = 12,       /* a set of names needs more than 1,024 ranges */
+    VIALSHOAL_BAD_FILE = 13,        /* the file is no site's; the text is too long, or has too many operations, for a file */
+    VIALSHOAL_NO_ROOM = 14,         /* no viewer may open there, or no top may move there */
+    VIALSHOAL_NO_VIEWER = 15,       /* no viewer has this number or this cell */
+    VIALSHOAL_UNKNOWN_COMMAND = 16, /* no command's word is in the cell */
+    VIALSHOAL_BAD_PARAMETER = 17,   /* the command can't take this parameter */
+    VIALSHOAL_NO_SELECTION = 18,    /* nothing is selected that is shown */
+    VIALSHOAL_NO_CARET = 19,        /* there is no caret */
+    VIALSHOAL_BAD_EVENT = 20,       /* the line spells no event */
+    VIALSHOAL_READ_FAULT = 21,      /* a file wasn't read */
+    VIALSHOAL_WRITE_FAULT = 22,     /* a file wasn't written */
+    VIALSHOAL_SEQ_SPENT = 23        /* the site has made its last operation in the text */
+};
+
 /* Numbers of misuse. */
 enum {
     VIALSHOAL_NOT_OPEN = 101,     /* the handle is {0}: it wasn't opened, or was freed */
@@ -52,7 +112,8 @@ enum {
     VIALSHOAL_NO_NUMBER = 105,    /* a number is that of no text, site, name, selection or colour; a font is none */
     VIALSHOAL_NO_NAME = 106,      /* the name is that of no character that was taken in */
     VIALSHOAL_TOO_SHORT = 107,    /* the room is too short, and nothing was changed; see `need` */
-    VIALSHOAL_NO_MESSAGE = 108    /* no message that is kept has this index, or none is left */
+    VIALSHOAL_NO_MESSAGE = 108,   /* no message that is kept has this index, or none is left */
+    VIALSHOAL_STILL_NOTED = 109   /* changes are noted, so vialshoal_changes tells them */
 };
 
 /* What the taking of a message did. */
@@ -130,6 +191,12 @@ typedef struct vialshoal_change {
     uint64_t end;
 } vialshoal_change;
 
+/* All that was reported last gives way to all that is shown: one deletion and one insertion at most. */
+typedef struct vialshoal_replacing {
+    uint64_t deleted;  /* how many characters are deleted, from 0 on */
+    uint64_t inserted; /* how many are inserted at 0 then */
+} vialshoal_replacing;
+
 typedef struct vialshoal_looks_run {
     uint64_t end;   /* one past the last character that looks so */
     uint8_t colour; /* 0 to 15 */
@@ -179,7 +246,7 @@ uint32_t vialshoal_delete(vialshoal_text *text, uint64_t beg, uint64_t end, uint
 
 /* Gives the range the looks of these that `selected` names, a sum of VIALSHOAL_FONT, _COLOUR and _OFFSET: a font's name
  * (1 to 31 letters, digits and full stops, the first a letter), a colour (0 to 15), an offset. What isn't selected isn't
- * read, but `font` may not be null. VIALSHOAL_NO_NUMBER. */
+ * read. VIALSHOAL_NO_NUMBER. */
 uint32_t vialshoal_change_looks(vialshoal_text *text, uint64_t beg, uint64_t end, uint8_t selected, const uint8_t *font,
                                 size_t font_length, uint8_t colour, int8_t offset, uint32_t *sent);
 
@@ -282,6 +349,16 @@ uint32_t vialshoal_find(vialshoal_text *text, uint16_t site, uint32_t offset, vi
  * other. They are handed out once. Where the room is too short they stay, and are what the next call hands out, before
  * any that come later: so call until `need` is 0. VIALSHOAL_TOO_SHORT. */
 uint32_t vialshoal_changes(vialshoal_text *text, vialshoal_change *room, size_t length, uint64_t *need);
+
+/* Ends the noting of changes, for good: those that weren't handed out are let go with their memory, and vialshoal_changes has
+ * none from now on. Until then a change that nobody asks for takes 24 bytes, and few bytes from another site can make many:
+ * to restore all that was deleted is a change for each stretch. `shown` is how many characters the caller shows, 0 where it
+ * shows none yet; vialshoal_replacement goes on from there. */
+uint32_t vialshoal_end_noting(vialshoal_text *text, uint64_t shown);
+
+/* Where noting has ended, how many characters were reported last and how many are shown: the former are to give way to the
+ * latter, which are then reported. It says so even where nothing changed. VIALSHOAL_STILL_NOTED. */
+uint32_t vialshoal_replacement(vialshoal_text *text, vialshoal_replacing *replacing);
 
 /* Puts the text as an Oberon text file into the room: its characters with their looks, and nothing of who wrote them
  * (docs/FORMATS.md, "Text files"). 13 for more than 2^20 characters; 7; VIALSHOAL_TOO_SHORT. */

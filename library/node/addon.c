@@ -1,13 +1,16 @@
-/* The C library's calls for Node. index.js makes of them what its users see, and checks what it hands over. */
+/* The C library's calls for Node. text.js makes of them what its users see, and checks what it hands over. */
 #include <node_api.h>
 #include <stdlib.h>
 #include <string.h>
 
+#include "counted.h"
 #include "vialshoal.h"
 
 #define MOST 8
 /* No message is longer. */
 #define MESSAGE 10297
+/* The collector is told of as much memory as this, and not of each byte. */
+#define MUCH 4096
 
 #define TRY(call)                                                          \
     do {                                                                   \
@@ -17,14 +20,19 @@
         }                                                                  \
     } while (0)
 
-/* What index.js has of a text, or of one as it was. */
+/* What text.js has of a text, or of one as it was. */
 typedef struct {
     bool is_past;
     vialshoal_text text;
     vialshoal_past_text past;
     /* How long the last file of it was. */
     uint64_t filed;
+    /* How many bytes it holds, and of how many the collector was told. */
+    int64_t holds, told;
 } shown;
+
+/* What the call that runs is of. */
+static _Thread_local shown *touched;
 
 typedef struct {
     napi_value at[MOST];
@@ -34,11 +42,31 @@ typedef struct {
 
 static uint32_t freed(shown *it) { return it->is_past ? vialshoal_past_free(&it->past) : vialshoal_free(&it->text); }
 
+static void tell(napi_env env, shown *it) {
+    int64_t all;
+    if (napi_adjust_external_memory(env, it->holds - it->told, &all) == napi_ok) it->told = it->holds;
+}
+
 static void let_go(napi_env env, void *data, void *hint) {
-    (void)env;
     (void)hint;
-    freed(data);
-    free(data);
+    shown *it = data;
+    freed(it);
+    it->holds = 0;
+    tell(env, it);
+    free(it);
+}
+
+/* Does a call, and tells the collector what that has made of the memory which its text holds. */
+static napi_value counted(napi_env env, napi_callback_info info) {
+    void *data;
+    TRY(napi_get_cb_info(env, info, NULL, NULL, NULL, &data));
+    int64_t before = vialshoal_held;
+    touched = NULL;
+    napi_value answered = (*(const napi_callback *)data)(env, info);
+    if (touched == NULL) return answered;
+    touched->holds += vialshoal_held - before;
+    if (llabs(touched->holds - touched->told) >= MUCH) tell(env, touched);
+    return answered;
 }
 
 /* The arguments of a call, the first of which is a text, or one as it was. */
@@ -50,7 +78,7 @@ static bool taken_shown(napi_env env, napi_callback_info info, size_t count, arg
         napi_throw_error(env, NULL, "vialshoal: a text was expected");
         return false;
     }
-    given->shown = data;
+    given->shown = touched = data;
     given->text = &given->shown->text;
     return true;
 }
@@ -111,6 +139,7 @@ static napi_value opened(napi_env env, shown *it, uint32_t number) {
         free(it);
         return ANSWER(number);
     }
+    touched = it;
     TRY(napi_create_external(env, it, let_go, NULL, &made));
     return made;
 }
@@ -555,6 +584,66 @@ static napi_value names(napi_env env, napi_callback_info info) {
     return list == NULL ? ANSWER(7) : list;
 }
 
+/* How many names are asked for at once. */
+#define NAMES 4096
+
+/* Stretches of names, as a site, an offset and a length each, after a number for the call's own. */
+typedef struct {
+    double *numbers;
+    uint64_t count, most;
+} stretches;
+
+static bool has_room(stretches *it) {
+    if (it->numbers != NULL && it->count + 3 <= it->most) return true;
+    double *numbers = realloc(it->numbers, 2 * it->most * sizeof *numbers);
+    if (numbers == NULL) return false;
+    it->numbers = numbers;
+    it->most *= 2;
+    return true;
+}
+
+/* Adds a name, to the last stretch where it follows that. */
+static bool add_name(stretches *it, const vialshoal_name *name) {
+    double *last = it->numbers + it->count - 3;
+    if (it->count > 1 && last[0] == name->site && last[1] + last[2] == name->offset) {
+        last[2]++;
+        return true;
+    }
+    if (!has_room(it)) return false;
+    it->numbers[it->count++] = name->site;
+    it->numbers[it->count++] = name->offset;
+    it->numbers[it->count++] = 1;
+    return true;
+}
+
+static uint32_t add_names(stretches *it, shown *of, uint64_t beg, uint64_t end) {
+    vialshoal_name room[NAMES];
+    uint64_t need;
+    uint32_t number = asked_names(of, beg, end, room, NAMES, &need);
+    for (uint64_t i = 0; number == 0 && i < need; i++) number = add_name(it, &room[i]) ? 0 : 7;
+    return number;
+}
+
+static napi_value ranges(napi_env env, napi_callback_info info) {
+    arguments given;
+    uint64_t beg, end, need;
+    vialshoal_name none;
+    if (!taken_shown(env, info, 3, &given)) return NULL;
+    TRY(number_of(env, given.at[1], &beg) ? napi_ok : napi_invalid_arg);
+    TRY(number_of(env, given.at[2], &end) ? napi_ok : napi_invalid_arg);
+    uint32_t number = asked_names(given.shown, beg, end, &none, 0, &need);
+    stretches found = {NULL, 1, NAMES};
+    if (number == VIALSHOAL_TOO_SHORT) number = 0;
+    if (number == 0 && !has_room(&found)) number = 7;
+    for (; number == 0 && beg < end; beg += NAMES) {
+        number = add_names(&found, given.shown, beg, end - beg > NAMES ? beg + NAMES : end);
+    }
+    if (number == 0) found.numbers[0] = 0;
+    napi_value list = number == 0 ? answer(env, found.count, found.numbers) : ANSWER(number);
+    free(found.numbers);
+    return list;
+}
+
 static napi_value find(napi_env env, napi_callback_info info) {
     arguments given;
     uint64_t site, offset;
@@ -589,6 +678,22 @@ static napi_value changes(napi_env env, napi_callback_info info) {
     free(room);
     free(numbers);
     return list == NULL ? ANSWER(7) : list;
+}
+
+static napi_value end_noting(napi_env env, napi_callback_info info) {
+    arguments given;
+    uint64_t shown_before;
+    if (!taken(env, info, 2, &given)) return NULL;
+    TRY(number_of(env, given.at[1], &shown_before) ? napi_ok : napi_invalid_arg);
+    return ANSWER(vialshoal_end_noting(given.text, shown_before));
+}
+
+static napi_value replacement(napi_env env, napi_callback_info info) {
+    arguments given;
+    vialshoal_replacing replacing = {0};
+    if (!taken(env, info, 1, &given)) return NULL;
+    uint32_t number = vialshoal_replacement(given.text, &replacing);
+    return ANSWER(number, (double)replacing.deleted, (double)replacing.inserted);
 }
 
 NAPI_MODULE_INIT() {
@@ -626,12 +731,15 @@ NAPI_MODULE_INIT() {
         {"bytes", bytes},
         {"look", look},
         {"names", names},
+        {"ranges", ranges},
         {"find", find},
         {"changes", changes},
+        {"endNoting", end_noting},
+        {"replacement", replacement},
     };
     for (size_t i = 0; i < sizeof calls / sizeof calls[0]; i++) {
         napi_value made;
-        TRY(napi_create_function(env, calls[i].name, NAPI_AUTO_LENGTH, calls[i].call, NULL, &made));
+        TRY(napi_create_function(env, calls[i].name, NAPI_AUTO_LENGTH, counted, (void *)&calls[i].call, &made));
         TRY(napi_set_named_property(env, exports, calls[i].name, made));
     }
     return exports;

@@ -1,6 +1,4 @@
-'use strict';
-
-// What index.js and its files use of Node's module `buffer`, for pages and workers.
+// What the package uses of Node's module `buffer`, for pages and workers.
 
 const ENCODER = new TextEncoder();
 const DECODER = new TextDecoder('utf-8', { ignoreBOM: true });
@@ -35,19 +33,27 @@ class Bytes extends Uint8Array {
         return this[at] + 256 * this[at + 1];
     }
 
+    readUInt16BE(at) {
+        return 256 * this[at] + this[at + 1];
+    }
+
+    readUInt32BE(at) {
+        return 65536 * this.readUInt16BE(at) + this.readUInt16BE(at + 2);
+    }
+
     toString(encoding = 'utf8', beg = 0, end = this.length) {
         return ENCODINGS[encoding](this.subarray(beg, end));
     }
 }
 
-function isAscii(bytes) {
+export function isAscii(bytes) {
     for (let at = 0; at < bytes.length; at += 1) {
         if (bytes[at] >= 0x80) return false;
     }
     return true;
 }
 
-function isUtf8(bytes) {
+export function isUtf8(bytes) {
     try {
         STRICT_DECODER.decode(bytes);
         return true;
@@ -56,4 +62,4 @@ function isUtf8(bytes) {
     }
 }
 
-module.exports = { Buffer: Bytes, isAscii, isUtf8 };
+export { Bytes as Buffer };

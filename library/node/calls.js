@@ -1,22 +1,21 @@
-'use strict';
+import { readFileSync } from 'node:fs';
+import { createRequire } from 'node:module';
 
-const { readFileSync } = require('fs');
-const path = require('path');
+import { callsOf } from './wasm.js';
 
 // The library's calls: by the addon where it is there and loads, else by WebAssembly, which any machine has.
-function calls() {
+function found() {
     try {
-        return require('./vialshoal.node');
+        return createRequire(import.meta.url)('./vialshoal.node');
     } catch (why) {
-        const file = path.join(__dirname, 'vialshoal.wasm');
         let module;
         try {
-            module = new WebAssembly.Module(readFileSync(file));
+            module = new WebAssembly.Module(readFileSync(new URL('vialshoal.wasm', import.meta.url)));
         } catch {
             throw why;
         }
-        return require('./wasm.js').callsOf(module);
+        return callsOf(module);
     }
 }
 
-module.exports = calls();
+export const calls = found();

@@ -1,14 +1,27 @@
 /** Texts that sites edit and merge. A text is bytes, and positions and lengths count these; with `units: 'utf-16'` they count
  * UTF-16 units, as those of strings do, and a byte that is of no character is one unit, which is shown as U+FFFD. */
 
-/** A text refused what it was asked: `number` says why (docs/FORMATS.md, "Refusals"; from 101 on it was misuse), and
- * `messages` are those of the part of an edit that stands, and `done` is how many operations of a chunk were handed in, which
- * stand; mostly nothing does. */
+/** A text refused what it was asked: `code` and `number` say why (docs/FORMATS.md, "Refusals"), `message` in words. `messages` are
+ * those of the part of an edit that stands, and `done` is how many operations of a chunk were handed in, which stand; mostly
+ * nothing does. */
 export class Refused extends Error {
+    readonly code: string;
     readonly number: number;
     readonly messages: Buffer[];
     readonly done: number;
 }
+
+/** A site has made operations elsewhere that aren't those here: up to the number `seq` others (`CONFLICT`), or `seq`, which isn't here
+ * (`BEHIND`). Its file was copied, or an older one put back, and both went on: one of them has to go on as another site. */
+export class FrontsDiffer extends Refused {
+    readonly site: number;
+    readonly seq: number;
+}
+
+/** What is thrown where a call is given what no text can have, and nothing was done: `code` is `OUT_OF_TEXT`, `NO_NAME`,
+ * `NO_NUMBER`, `TOO_LONG` (each a RangeError), `NOT_OPEN` or `STILL_NOTED`. An argument of another type is a TypeError without
+ * a code. */
+export type Misused = (RangeError | TypeError) & { readonly code: string; readonly number: number };
 
 /** What became of a message, and of those that waited for it. */
 export interface Taking {
@@ -53,11 +66,43 @@ export interface Place {
     isShown: boolean;
 }
 
+/** A place in a text that stays with the character before it (side -1) or after it (1), wherever that goes; of site 0 it is the text's
+ * begin or end. It can be sent as JSON. */
+export interface Anchor extends Name {
+    side: -1 | 1;
+}
+
 /** A change of what is shown. The range is that of the text after an insertion, else of the text before. */
 export interface Change {
     kind: 'insert' | 'delete' | 'replace';
     beg: number;
     end: number;
+}
+
+/** What is done to a text, from its begin on: `retain` units stay, perhaps in other looks; `delete` units go; `insert` is put in, a
+ * string where the text's units are UTF-16, else bytes, in the default looks where it has none. What no step reaches stays. */
+export type Delta = Step[];
+export type Step =
+    | { retain: number; looks?: Required<Looks> }
+    | { delete: number }
+    | { insert: string | Buffer; looks?: Required<Looks> };
+
+/** What edits did that were made here (`own`), or that others made, with the origin that `batch` was given. */
+export interface Done {
+    delta: Delta;
+    own: boolean;
+    origin: unknown;
+}
+
+/** The same of one call, and the messages that it made. The delta is empty where nothing of what is shown changed. */
+export interface Edit extends Done {
+    messages: Buffer[];
+}
+
+/** How many bytes are deleted, from 0 on, and how many inserted at 0 then. */
+export interface Replacement {
+    deleted: number;
+    inserted: number;
 }
 
 /** A range of characters that look alike, as far as it goes. */
@@ -89,30 +134,49 @@ export interface StoreOptions {
 }
 
 /** How far the operations of sites go, each a site and the number of the last that is meant; a site that isn't named has the
- * front 0. What `fronts` answers is such. */
-export type Fronts = Iterable<readonly [site: number, seq: number]>;
+ * front 0. What `fronts` answers is such; so is another text's `state`, which is checked. */
+export type Fronts = Iterable<readonly [site: number, seq: number]> | Uint8Array;
+
+declare global {
+    interface SymbolConstructor {
+        readonly dispose: unique symbol;
+    }
+}
 
 /** What a text shows, now (a `Text`) or as it was (a `Past`), to be read. */
 export abstract class Shown {
     protected constructor();
-    /** Frees it; all other calls are refused after this. */
+    /** Frees it; all other calls are refused after this. What is dropped instead is freed by the collector, which knows how much memory
+     * it holds, between turns of the event loop. */
     close(): void;
+    /** The same, for `using`. */
+    [Symbol.dispose](): void;
     readonly length: number;
+    /** What positions and lengths count. */
+    readonly units: 'bytes' | 'utf-16';
     /** The bytes of a range. */
     bytes(beg?: number, end?: number): Buffer;
     /** The range as a string. */
     slice(beg?: number, end?: number): string;
     toString(): string;
-    /** What the characters look like; one of more bytes as its first one does. */
-    runs(): Run[];
+    /** What the characters of a range look like; one of more bytes as its first one does. */
+    runs(beg?: number, end?: number): Run[];
     /** The names of the bytes of a range; with `units: 'utf-16'` of each character that of its first byte. */
     names(beg: number, end: number): Name[];
+    /** The names of all bytes of a range, in stretches, as `deleteNames` takes them. */
+    nameRanges(beg: number, end: number): NameRange[];
     find(name: Name): Place;
+    /** A place that stays, and where it is now. */
+    anchor(pos: number, side?: -1 | 1): Anchor;
+    position(anchor: Anchor): number;
 }
 
 /** A site's replica of a text. Edits answer the messages that they made, which other sites' texts take. */
 export class Text extends Shown {
     constructor(text: number, site: number, options?: Options);
+    /** The number of the text, which it has at all sites, and that of the site. */
+    readonly number: number;
+    readonly site: number;
     /** The text of a file that `store` answered, packed or not, at its site. No edit may have been made since it was
      * stored. */
     static load(file: Uint8Array, options?: Options): Text;
@@ -155,16 +219,108 @@ export class Text extends Shown {
     /** What was taken in past these fronts, in chunks of 16,000 bytes at most, none where that is nothing: to unpack all, in this
      * order, does what taking the messages of `since` does. They have a byte for most keystrokes where messages have some 50. */
     pack(fronts?: Fronts): Buffer[];
+    /** How far this text is, as bytes to be sent: its fronts, and a hash of each site's operations up to its front. */
+    state(): Buffer;
+    /** The fronts that another text's state says. `FrontsDiffer` where that has other operations than this one, as far as this one
+     * has as many of a site, or more of this site's own. */
+    check(state: Uint8Array): Map<number, number>;
     /** The text as it was, up to these fronts. */
     past(fronts: Fronts): Past;
+    /** What makes the text as it was up to some fronts what it was up to others, or is now. */
+    diff(from: Fronts, to?: Fronts): Delta;
+    /** The text, or what it was up to some fronts, at another site, which nobody may be yet. */
+    copy(site: number, options?: Options & { at?: Fronts }): Text;
     /** What changed of what is shown since this was called last, one after the other. */
     changes(): Change[];
+    /** Calls a listener after each edit that is made or taken in, once a call, or once for a `batch`; ended by the call that it answers.
+     * What a listener edits is told after what it was called with; what it throws is thrown in a task of its own. */
+    subscribe(listener: (edit: Edit) => void): () => void;
+    /** What was done since this was called last, own edits and others' apart, in order; at first the text as it is then, as one
+     * insertion. */
+    delta(): Done[];
+    /** Calls that are one change: listeners are called once, with this origin, or once for own edits and once for others'. Edits
+     * answer no messages meanwhile; the batch answers all that was made and taken in, in chunks. Where it throws, what was done
+     * stands, and the error has these chunks as `messages`. One within another is a part of that. */
+    batch(calls: () => void, origin?: unknown): Buffer[];
+    /** As `insert`, and answers chunks of 16,000 bytes at most in place of messages. */
+    paste(pos: number, data: Uint8Array | string, looks?: Looks): Buffer[];
+    /** Ends the noting of changes, for good: those that weren't told are let go with their memory, which grows as others change the
+     * text and `changes` isn't called; `changes` has none from now on. `shown` is how many bytes the caller shows, and
+     * `replacement` goes on from there. With `units: 'utf-16'` positions are found by the changes, and it is a TypeError. */
+    endNoting(shown?: number): void;
+    /** Where noting has ended: what was reported last gives way to what is shown, which is reported by that. */
+    replacement(): Replacement;
 }
 
 /** A text as it was, up to fronts: what of the operations within them can be taken in, which leaves out one that builds on an
  * operation past them. It takes as long as taking these operations in, and is a copy that stays as it is, also when the text
- * is closed; close it when it is done with, since the collector doesn't see how much memory it holds. It counts what its text
- * counts. */
+ * is closed. It counts what its text counts. */
 export class Past extends Shown {
     constructor(text: Text, fronts: Fronts);
+}
+
+/** What `undo` and `redo` did: what is to be sent; the selection of before the edit that was taken back, or done again; and where the
+ * text changed. */
+export interface Undone<S> {
+    chunks: Buffer[];
+    selection: S | undefined;
+    beg: number;
+    end: number;
+}
+
+export interface UndoOptions<S> {
+    /** The origins whose edits are meant; where it isn't said all but those of other managers. */
+    origins?: Iterable<unknown>;
+    /** Within how many milliseconds edits are one, 500 where it isn't said. */
+    captureTime?: number;
+    /** The selection of before an edit that was made just now. Anchors stay right. */
+    selection?: () => S;
+    now?: () => number;
+}
+
+/** Takes edits of insertions and deletions back, and does them again, by the characters' names: what others wrote stays, and what they
+ * deleted. Looks aren't taken back. Names of edits before it was made aren't known. */
+export class UndoManager<S = unknown> {
+    constructor(text: Text, options?: UndoOptions<S>);
+    readonly canUndo: boolean;
+    readonly canRedo: boolean;
+    /** Takes the last edit back that still does something, if there is one. */
+    undo(): Undone<S> | undefined;
+    redo(): Undone<S> | undefined;
+    /** Has the next edit not be one with the last. */
+    stopCapturing(): void;
+    clear(): void;
+    /** Calls a listener when what can be taken back changes. */
+    subscribe(listener: (manager: UndoManager<S>) => void): () => void;
+    close(): void;
+}
+
+/** Who is there, and where: what each says of itself, as JSON, until it leaves or isn't heard of for `timeout` milliseconds (30,000).
+ * Each has an id of 64 bits of its own, in hex, since a site may be in two windows. Call `tick` every few seconds. */
+export class Presence<S extends object = Record<string, unknown>> {
+    constructor(options?: { id?: string; timeout?: number; now?: () => number });
+    readonly id: string;
+    readonly state: S | null;
+    /** Says something of oneself, or by null that one leaves, and answers what is to be sent. */
+    set(state: S | null): Buffer;
+    /** The states of those who are there, oneself too, by their ids. */
+    states(): Map<string, S>;
+    /** All that is known, for one who comes. */
+    encode(): Buffer;
+    /** Takes in what others sent, and answers the ids of whose states changed. Other bytes are `Refused`. */
+    take(bytes: Uint8Array): string[];
+    /** Lets those go who weren't heard of, and answers what is to be sent, if it is time to. */
+    tick(): Buffer | undefined;
+    /** Calls a listener with the ids of those whose states changed. */
+    subscribe(listener: (changed: string[]) => void): () => void;
+}
+
+/** Takes chunks and messages in, in whatever order they come: what comes before what it builds on is kept, `most` bytes of it (64 MiB),
+ * where a text alone lets 64 operations wait. All that others made goes by way of it. */
+export class Backlog {
+    constructor(text: Text, options?: { most?: number });
+    /** How many chunks and messages are kept. */
+    readonly length: number;
+    /** Answers how many operations were taken in, how much is kept then, and the refusals of what was kept before. */
+    take(bytes: Uint8Array): { taken: number; kept: number; refused: Refused[] };
 }

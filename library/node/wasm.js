@@ -1,7 +1,6 @@
-'use strict';
-
-// The calls of addon.c, by the same names, over the library as a module of WebAssembly: index.js takes either. What the module
+// The calls of addon.c, by the same names, over the library as a module of WebAssembly: text.js takes either. What the module
 // reads and writes is as vialshoal.h has it, with sizes and pointers of 32 bits.
+import { Buffer } from './host.js';
 
 const OUT_OF_MEMORY = 7;
 const TOO_SHORT = 107;
@@ -16,10 +15,8 @@ const HANDLE = 4;
 const SITE = 2;
 const NAME = 8;
 const CHANGE = 24;
-
-// Of which class typed arrays are, wherever they come from.
-/** @type {any} */
-const kindOf = Object.getOwnPropertyDescriptor(Object.getPrototypeOf(Uint8Array.prototype), Symbol.toStringTag)?.get;
+// How many names are asked for at once.
+const NAMES = ROOM / NAME;
 
 class NoMemory extends Error {
     constructor() {
@@ -106,7 +103,6 @@ class Library {
 
     // What `use` answers, which is called with where these bytes stand and how many they are.
     handed(data, use) {
-        if (kindOf.call(data) !== 'Uint8Array') throw new TypeError('vialshoal: an argument is none');
         return this.#within(this.given, data.length, (at) => {
             this.#bytes.set(data, at);
             return use(at, data.length);
@@ -188,6 +184,15 @@ function listed(at, count, size, of) {
     const found = [0];
     for (let item = at; item < at + size * count; item += size) found.push(...of(item));
     return found;
+}
+
+// Adds names to the stretches of them, a site, an offset and a length each; both come after a number.
+function join(stretches, names) {
+    for (let at = 1; at < names.length; at += 2) {
+        const last = stretches.length - 3;
+        if (last > 0 && stretches[last] === names[at] && stretches[last + 1] + stretches[last + 2] === names[at + 1]) stretches[last + 2] += 1;
+        else stretches.push(names[at], names[at + 1], 1);
+    }
 }
 
 function calls(library) {
@@ -281,9 +286,20 @@ function calls(library) {
         },
         names: (it, beg, end) => library.filled(NAME, (at, count) => namesOf(it, BigInt(beg), BigInt(end), at, count, answer),
             (at, count) => listed(at, count, NAME, (name) => [library.site(name), number(name + 4)])),
+        ranges(it, beg, end) {
+            const found = [0];
+            for (let from = beg, number = namesOf(it, BigInt(beg), BigInt(end), room, 0, answer); ; from += NAMES) {
+                if (number !== 0 && number !== TOO_SHORT) return [number];
+                if (from >= end) return found;
+                number = namesOf(it, BigInt(from), BigInt(Math.min(from + NAMES, end)), room, NAMES, answer);
+                if (number === 0) join(found, listed(room, wide(answer), NAME, (name) => [library.site(name), library.number(name + 4)]));
+            }
+        },
         find: (it, site, offset) => [findIn(it, site, offset, answer), wide(answer), library.byte(answer + 8)],
         changes: (it) => library.filled(CHANGE, (at, count) => call(c.vialshoal_changes, text(it), at, count, answer),
             (at, count) => listed(at, count, CHANGE, (change) => [number(change), wide(change + 8), wide(change + 16)])),
+        endNoting: (it, shown) => [call(c.vialshoal_end_noting, text(it), BigInt(shown))],
+        replacement: (it) => [call(c.vialshoal_replacement, text(it), answer), wide(answer), wide(answer + 8)],
     };
 }
 
@@ -300,9 +316,7 @@ function answering(asked) {
 }
 
 // The calls over a compiled module.
-function callsOf(module) {
+export function callsOf(module) {
     const found = calls(new Library(module));
     return Object.fromEntries(Object.entries(found).map(([name, asked]) => [name, answering(asked)]));
 }
-
-module.exports = { callsOf };

@@ -21,6 +21,10 @@ def platform(library: str) -> str:
     machine = MACHINES[re.search(r"Machine: +(.*)", told)[1].strip()]
     if not set(re.findall(r"\(NEEDED\).*\[(.*)\]", told)) <= EVERYWHERE:
         return f"linux_{machine}"
+    names = re.findall(r"Name: (\S+)", told)
+    # (what has no number, as GLIBC_ABI_DT_RELR, came with a system that its name doesn't say)
+    if not all(re.fullmatch(r"(GLIBC|GCC)_[\d.]+", name) for name in names):
+        return f"linux_{machine}"
     versions = re.findall(r"Name: GLIBC_(\d+)\.(\d+)", told)
     return "manylinux_{}_{}_{}".format(*max(FIRST[machine], *((int(a), int(b)) for a, b in versions)), machine)
 

@@ -86,6 +86,7 @@ static void refuses_a_closed_one(void) {
     vialshoal_name_range names = {1, 0, 1};
     vialshoal_place place;
     vialshoal_change change;
+    vialshoal_replacing replacing = {7, 7};
     vialshoal_looks_run run;
     uint16_t sites[2];
     IS(vialshoal_free(&none) == VIALSHOAL_NOT_OPEN);
@@ -119,6 +120,8 @@ static void refuses_a_closed_one(void) {
     IS(vialshoal_names(&none, 0, 0, &name, 1, &many) == VIALSHOAL_NOT_OPEN);
     IS(vialshoal_find(&none, 1, 0, &place) == VIALSHOAL_NOT_OPEN);
     IS(vialshoal_changes(&none, &change, 1, &many) == VIALSHOAL_NOT_OPEN);
+    IS(vialshoal_end_noting(&none, 0) == VIALSHOAL_NOT_OPEN);
+    IS(vialshoal_replacement(&none, &replacing) == VIALSHOAL_NOT_OPEN && replacing.deleted == 7);
     IS(none.at == NULL);
 }
 
@@ -283,6 +286,29 @@ static void answers(vialshoal_text *a) {
     IS(vialshoal_changes(a, changes, 1, &need) == VIALSHOAL_TOO_SHORT && need > 1);
     IS(vialshoal_changes(a, changes, 8, &need) == 0 && changes[0].kind == VIALSHOAL_INSERT && changes[0].end == 6);
     IS(vialshoal_changes(a, changes, 8, &need) == 0 && need == 0);
+}
+
+/* Where noting has ended no change is told, and what was reported last gives way to what is shown. */
+static void ends_noting(void) {
+    vialshoal_text a = {0};
+    vialshoal_change changes[8];
+    vialshoal_replacing replacing = {7, 7};
+    uint32_t sent;
+    uint64_t need;
+    IS(vialshoal_new(&a, 1, 1) == 0 && vialshoal_insert(&a, 0, BYTES("Oberon"), 6, &sent) == 0);
+    IS(vialshoal_replacement(&a, &replacing) == VIALSHOAL_STILL_NOTED && replacing.deleted == 7 && replacing.inserted == 7);
+    IS(vialshoal_changes(&a, changes, 0, &need) == VIALSHOAL_TOO_SHORT && need == 1);
+    IS(vialshoal_delete(&a, 0, 1, &sent) == 0);
+    IS(vialshoal_end_noting(&a, 0) == 0);
+    IS(vialshoal_changes(&a, changes, 8, &need) == 0 && need == 0);
+    IS(vialshoal_replacement(&a, &replacing) == 0 && replacing.deleted == 0 && replacing.inserted == 5);
+    IS(vialshoal_delete(&a, 0, 2, &sent) == 0);
+    IS(vialshoal_changes(&a, changes, 8, &need) == 0 && need == 0);
+    IS(vialshoal_replacement(&a, &replacing) == 0 && replacing.deleted == 5 && replacing.inserted == 3);
+    IS(vialshoal_restore(&a, &sent) == 0 && vialshoal_end_noting(&a, 2) == 0);
+    IS(vialshoal_replacement(&a, &replacing) == 0 && replacing.deleted == 2 && replacing.inserted == 5);
+    shows(&a, "beron");
+    IS(vialshoal_free(&a) == 0);
 }
 
 typedef uint32_t storing(vialshoal_text *text, uint8_t *room, size_t length, uint64_t *need);
@@ -955,6 +981,7 @@ int main(int count, char **words) {
     refuses_too_much();
     answers_a_part();
     two_meet();
+    ends_noting();
     packs();
     edits_by_names();
     refuses_scattered_names();

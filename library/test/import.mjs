@@ -1,4 +1,4 @@
-// The package as users have it, by its name: `import`, `require`, a worker of Node. `node library/test/import.mjs PACKAGE`
+// The package as users have it, by its name: `import`, `require` where Node has it for such modules, a worker of Node. `node library/test/import.mjs PACKAGE`
 import assert from 'node:assert';
 import { cpSync, mkdtempSync, rmSync, writeFileSync } from 'node:fs';
 import { execFileSync } from 'node:child_process';
@@ -9,11 +9,14 @@ const SAYS = 'const a = new Text(1, 1), b = new Text(1, 2); for (const message o
 const PROGRAMS = {
     'import.mjs': `import { Past, Refused, Shown, Text } from 'vialshoal'; const say = console.log; ${SAYS}`,
     'default.mjs': `import vialshoal from 'vialshoal'; const { Text } = vialshoal, say = console.log; ${SAYS}`,
-    'require.cjs': `const { Past, Refused, Shown, Text } = require('vialshoal'), say = console.log; ${SAYS}`,
-    'worker.cjs': `const { Worker, isMainThread, parentPort } = require('worker_threads');
-        if (isMainThread) new Worker(__filename).on('message', console.log);
-        else { const { Text } = require('vialshoal'), say = (words) => parentPort.postMessage(words); ${SAYS} }`,
+    'later.cjs': `import('vialshoal').then(({ Text }) => { const say = console.log; ${SAYS} })`,
+    'worker.mjs': `import { Worker, isMainThread, parentPort } from 'worker_threads'; import { Text } from 'vialshoal';
+        if (isMainThread) new Worker(new URL(import.meta.url)).on('message', console.log);
+        else { const say = (words) => parentPort.postMessage(words); ${SAYS} }`,
 };
+if (process.features.require_module) {
+    PROGRAMS['require.cjs'] = `const { Past, Refused, Shown, Text } = require('vialshoal'), say = console.log; ${SAYS}`;
+}
 
 const folder = mkdtempSync(path.join(tmpdir(), 'vialshoal-'));
 try {

@@ -1,5 +1,5 @@
-"""Chromium over the package for pages, which bin/library --wasm makes or VIALSHOAL_PACKAGE names: the tests of library/node/test.js in a
-page and in a worker, the example, and the page that docs/LIBRARY.md shows. The last line is 'N passed, M failed'."""
+"""Chromium over the package for pages, which bin/library --wasm makes or VIALSHOAL_PACKAGE names: tests of library/node/tests in a page and
+in a worker, the example, and the page that docs/LIBRARY.md shows. The last line is 'N passed, M failed'."""
 import functools
 import http.server
 import os
@@ -30,11 +30,11 @@ CHROMIUM, DRIVER = shutil.which("chromium"), shutil.which("chromedriver")
 WORDS = ["--headless=new", "--no-sandbox", "--disable-gpu", "--disable-dev-shm-usage", "--no-first-run", "--disable-extensions",
          "--no-proxy-server"]
 PATIENCE = 120
-SAID = "node: all is so"
-IN_PAGE = "const done = arguments[0]; import('/test/page.mjs').then((it) => it.tested()).then(done, (why) => done(String(why)))"
-IN_WORKER = """const done = arguments[0];
-const worker = new Worker('/test/page_worker.mjs', { type: 'module' });
-worker.onmessage = ({ data }) => done(data);
+# What runs in pages too, of library/node/tests.
+TESTS = ("text", "delta", "versions", "undo", "presence", "backlog")
+IN_PAGE = "const [name, done] = arguments; import('/test/said.mjs').then((it) => it.said(name)).then(done, (why) => done(String(why)))"
+IN_WORKER = """const [name, done] = arguments, worker = new Worker('/test/page_worker.mjs', { type: 'module' });
+worker.onmessage = ({ data }) => data === 'listening' ? worker.postMessage(name) : done(data);
 worker.onerror = ({ message }) => done(message);"""
 WAITING = """const [words, seconds, done] = arguments, end = Date.now() + 1000 * seconds;
 (function look() {
@@ -84,8 +84,11 @@ class Page(unittest.TestCase):
 
     def setUp(self) -> None:
         folder = Path(self.enterContext(tempfile.TemporaryDirectory()))
-        (folder / "out").mkdir()
-        for name, there in {"node": LIBRARY / "node", "test": LIBRARY / "test", "out/node": PACKAGE}.items():
+        for name in "out", "tests":
+            (folder / name).mkdir()
+        tests = {f"tests/{file.name}": file for file in (LIBRARY / "node" / "tests").glob("*.js")}
+        beside = {"node": LIBRARY / "node", "test": LIBRARY / "test", "out/node": PACKAGE, "tests/here.js": LIBRARY / "test" / "here.mjs"}
+        for name, there in {**tests, **beside}.items():
             (folder / name).symlink_to(there)
         address = self.enterContext(served(folder))
         self.driver.get(f"{address}/node/example/")
@@ -100,11 +103,11 @@ class Page(unittest.TestCase):
         """Waits until both boxes show a text."""
         self.wait_for(f"{BOXES}.every((shown) => shown === words[0])", text)
 
-    def test_calls_in_a_page(self) -> None:
-        self.assertEqual(self.driver.execute_async_script(IN_PAGE), SAID)
-
-    def test_calls_in_a_worker(self) -> None:
-        self.assertEqual(self.driver.execute_async_script(IN_WORKER), SAID)
+    def test_in_a_page_and_a_worker(self) -> None:
+        for name in TESTS:
+            for where, script in {"page": IN_PAGE, "worker": IN_WORKER}.items():
+                with self.subTest(name=name, where=where):
+                    self.assertEqual(self.driver.execute_async_script(script, f"{name}.test.js"), f"{name}: all is so")
 
     def test_example(self) -> None:
         self.wait_for("[...document.querySelectorAll('textarea')].every((box) => !box.disabled)")

@@ -16,8 +16,8 @@ from unittest import mock
 from hypothesis import given, settings
 from hypothesis import strategies as st
 
-import vialshoal
-from vialshoal import ChangeKind, Misused, Name, NameRange, Refused, TakingKind, Text
+from vialshoal import _library as library
+from vialshoal import ChangeKind, Misused, Name, NameRange, Refused, Replacement, TakingKind, Text
 
 TOP = Path(__file__).resolve().parents[3]
 sys.path.insert(0, str(TOP))
@@ -118,6 +118,35 @@ class AgainstAList(unittest.TestCase):
                 self.assertTrue(place.is_shown and place.pos == at + 1)
 
 
+class NotingEnds(unittest.TestCase):
+    @given(edits, edits)
+    @settings(max_examples=100, deadline=None)
+    def test_what_was_reported_gives_way_to_what_is_shown(self, here: list[Edit], there: list[Edit]) -> None:
+        with Text(1, site=1) as a, Text(1, site=2) as b:
+            for edit in here:
+                edited(a, edit)
+            with self.assertRaises(Misused):
+                a.replacement()
+            shown = len(followed(b"", a))
+            a.end_noting(shown)
+            for edit in there:
+                for message in edited(b, edit)[1]:
+                    a.take(message)
+                self.assertEqual(a.changes(), [])
+                self.assertEqual(a.replacement(), Replacement(shown, len(a)))
+                shown = len(a)
+
+    def test_it_ends_where_positions_count_bytes(self) -> None:
+        with Text(1, site=1, units="code points") as text, self.assertRaises(TypeError):
+            text.end_noting()
+        with Text(1, site=1) as plain:
+            for number in (-1, 1 << 64):
+                with self.assertRaises(Misused):
+                    plain.end_noting(number)
+        with self.assertRaises(Misused):
+            plain.end_noting()
+
+
 class Kept(unittest.TestCase):
     @given(edits, edits)
     @settings(max_examples=100, deadline=None)
@@ -141,8 +170,8 @@ class Kept(unittest.TestCase):
             self.assertEqual(went_on, [a.insert(0, b"x")] * 2)
 
     def test_a_file_that_is_kept_again_is_made_once(self) -> None:
-        store = vialshoal._calls.vialshoal_store
-        with Text(1, site=1) as text, mock.patch.object(vialshoal._calls, "vialshoal_store", wraps=store) as calls:
+        store = library.long_calls.vialshoal_store
+        with Text(1, site=1) as text, mock.patch.object(library.long_calls, "vialshoal_store", wraps=store) as calls:
             text.insert(0, b"x" * 20_000)
             first = text.store()
             self.assertEqual(calls.call_count, 2)

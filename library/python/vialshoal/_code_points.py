@@ -4,11 +4,12 @@ A code point is a whole sequence of UTF-8, or a byte that is of none: what PEP 3
 """
 from __future__ import annotations
 
-import enum
 from array import array
 from bisect import bisect_right
+from collections.abc import Callable, Iterator
 from itertools import accumulate
-from typing import Callable, Iterator
+
+from ._composing import DELETE, INSERT, REPLACE, Step, Triple, composed, growth
 
 # A block is cut up when it is longer than two of these.
 _BLOCK = 2048
@@ -28,81 +29,6 @@ def begins(data: bytes) -> Iterator[int]:
     for point in decoded(data):
         yield at
         at += len(encoded(point))
-
-
-# -- what changes do, one after the other
-
-INSERT = 1
-DELETE = 2
-REPLACE = 3
-
-
-class Step(enum.Enum):
-    """What is done to bytes: they stay, or stay in other looks, or are cut out, or are put in."""
-
-    KEEP = 0
-    DRESS = 1
-    CUT = 2
-    PUT = 3
-
-
-# What is done to how many bytes, from a text's begin on; those that it doesn't reach stay.
-Delta = list[tuple[Step, int]]
-# A change: its kind, and its range, in the text after an insertion, else in the text before.
-Triple = tuple[int, int, int]
-
-
-def _growth(changes: list[Triple]) -> int:
-    signs = {INSERT: 1, DELETE: -1, REPLACE: 0}
-    return sum(signs[kind] * (end - beg) for kind, beg, end in changes)
-
-
-def _delta(kind: int, beg: int, end: int) -> Delta:
-    step = {INSERT: Step.PUT, DELETE: Step.CUT, REPLACE: Step.DRESS}[kind]
-    return [(Step.KEEP, beg), (step, end - beg)]
-
-
-def _add(delta: Delta, step: Step, length: int) -> None:
-    if delta and delta[-1][0] is step:
-        length += delta.pop()[1]
-    delta.append((step, length))
-
-
-def _after(first: Delta, then: Delta) -> Delta:
-    """What two deltas do, the one after the other."""
-    here, there = first[::-1], then[::-1]
-    made: Delta = []
-    while here and there:
-        if here[-1][0] is Step.CUT:
-            _add(made, *here.pop())
-            continue
-        if there[-1][0] is Step.PUT:
-            _add(made, *there.pop())
-            continue
-        (did, long), (does, wide) = here.pop(), there.pop()
-        common = min(long, wide)
-        if common < long:
-            here.append((did, long - common))
-        if common < wide:
-            there.append((does, wide - common))
-        if does is Step.KEEP or did is Step.PUT and does is Step.DRESS:
-            _add(made, did, common)
-        elif did is not Step.PUT:
-            _add(made, does, common)
-    for step, length in here[::-1] + there[::-1]:
-        _add(made, step, length)
-    return made
-
-
-def _composed(deltas: list[Delta]) -> Delta:
-    """What deltas do one after the other: each is walked as often as their number can be halved."""
-    while len(deltas) > 1:
-        pairs = [_after(*deltas[at:at + 2]) for at in range(0, len(deltas) - 1, 2)]
-        deltas = pairs + deltas[len(pairs) * 2:]
-    return deltas[0] if deltas else []
-
-
-# -- where code points begin
 
 
 def _is_whole(data: bytes) -> bool:
@@ -201,8 +127,8 @@ class CodePoints:
         """Does what was changed since, where `read` reads a range of the text as it is after it."""
         at = cut = put = 0
         # (of an empty text nothing can have stayed)
-        delta = _composed([_delta(*change) for change in changes]) if self._blocks else [(Step.PUT, _growth(changes))]
-        for step, length in [*delta, (Step.KEEP, 0)]:
+        steps = composed(changes) if self._blocks else [(Step.PUT, growth(changes))]
+        for step, length in [*steps, (Step.KEEP, 0)]:
             if step is Step.CUT:
                 cut += length
             elif step is Step.PUT:

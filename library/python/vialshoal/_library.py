@@ -4,9 +4,16 @@ from __future__ import annotations
 import ctypes
 import os
 from ctypes import POINTER, c_bool, c_char_p, c_int8, c_size_t, c_uint8, c_uint16, c_uint32, c_uint64, c_void_p
+from collections.abc import Callable, Iterator
 from pathlib import Path
-from typing import Callable, NamedTuple, Union
+from typing import NamedTuple, Union, cast
 
+WRONG_TEXT = 2
+CONFLICT = 3
+ROOM_FULL = 6
+OUT_OF_MEMORY = 7
+BEHIND = 8
+BAD_FILE = 13
 NOT_OPEN = 101
 ALREADY_OPEN = 102
 OUT_OF_TEXT = 103
@@ -15,28 +22,30 @@ NO_NUMBER = 105
 NO_NAME = 106
 TOO_SHORT = 107
 NO_MESSAGE = 108
+STILL_NOTED = 109
 
 # The replica's refusals are those of docs/FORMATS.md.
 REASONS = {
     1: "the bytes are no message, or no chunk",
     2: "the message, or the chunk, is of another text",
-    3: "another operation has this identity",
-    4: "the message doesn't fit its site's others",
-    5: "the stamp isn't above each cause's",
+    3: "another operation has this identity: two copies edited as one site",
+    4: "the message does not fit the others of its site",
+    5: "the stamp is not above that of each cause",
     6: "64 messages wait already",
     7: "memory was refused",
     8: "what waits shows that the site was further once",
     9: "the greatest stamp was taken in",
-    10: "the site's file, or a stretch, would pass 2^24 bytes",
-    13: "the bytes are no site's file, or the text is too long for a file",
+    10: "the site would have put in more than 2^24 bytes",
+    13: "the bytes are no file of a site, or the text is too long for a file",
     12: "a set of names needs more than 1,024 ranges",
     23: "the site has made its last operation in the text",
     NOT_OPEN: "the text is closed",
     ALREADY_OPEN: "the text is open already",
-    OUT_OF_TEXT: "a position lies outside the text",
+    OUT_OF_TEXT: "a position lies outside the text, or a range ends before its begin",
     TOO_LONG: "more than 2^24 bytes are to be put in",
-    NO_NUMBER: "a number or a font is none",
-    NO_NAME: "the name is that of no character here",
+    NO_NUMBER: "a number is that of no text, site, name or colour, or a font is none",
+    NO_NAME: "the name is that of no character that was taken in",
+    STILL_NOTED: "changes are noted, and told as such",
 }
 
 
@@ -80,6 +89,10 @@ class CChange(ctypes.Structure):
     _fields_ = [("kind", c_uint32), ("beg", c_uint64), ("end", c_uint64)]
 
 
+class CReplacing(ctypes.Structure):
+    _fields_ = [("deleted", c_uint64), ("inserted", c_uint64)]
+
+
 class CLooksRun(ctypes.Structure):
     _fields_ = [("end", c_uint64), ("colour", c_uint8), ("offset", c_int8)]
 
@@ -117,6 +130,8 @@ CALLS = {
     "since": (HANDLE, FRONTS, c_size_t, U64, c_char_p, c_size_t, U64),
     "pack": (HANDLE, FRONTS, c_size_t, c_char_p, c_size_t, U64),
     "changes": (HANDLE, POINTER(CChange), c_size_t, U64),
+    "end_noting": (HANDLE, c_uint64),
+    "replacement": (HANDLE, POINTER(CReplacing)),
     "save": (HANDLE, c_char_p, c_size_t, U64),
     "past": (HANDLE, FRONTS, c_size_t, PAST),
     "past_free": (PAST,),
@@ -153,9 +168,8 @@ def path() -> str:
     return str(beside) if beside.is_file() else "libvialshoal.so"
 
 
-def load() -> ctypes.CDLL:
-    # (a PyDLL keeps Python's lock, which a call that takes microseconds is not worth letting go)
-    library = ctypes.PyDLL(path())
+def load(kind: type[ctypes.CDLL]) -> ctypes.CDLL:
+    library = kind(path())
     reads = {f"{kind}{name}": (handle, *arguments)
              for kind, handle in (("", HANDLE), ("past_", PAST)) for name, arguments in READS.items()}
     for name, arguments in {**CALLS, **reads}.items():
@@ -163,6 +177,31 @@ def load() -> ctypes.CDLL:
         call.argtypes = arguments
         call.restype = c_uint32
     return library
+
+
+# A PyDLL keeps the interpreter's lock, which a call that takes microseconds isn't worth letting go; calls that may take long let it go.
+calls, long_calls = load(ctypes.PyDLL), load(ctypes.CDLL)
+# What takes no longer than some microseconds.
+FEW = 1 << 16
+
+
+def calls_for(length: int) -> ctypes.CDLL:
+    """The library for a call that reads or writes so many bytes."""
+    return calls if length <= FEW else long_calls
+
+
+def begin_of(room: ctypes.Array[ctypes.c_char], length: int) -> bytes:
+    """So many bytes of a room, without a copy of the rest."""
+    return cast(bytes, room[:length])
+
+
+def chunks_in(packed: bytes) -> Iterator[bytes]:
+    """The chunks of a room, each behind its length."""
+    end = 0
+    while end < len(packed):
+        beg = end + 2
+        end = beg + int.from_bytes(packed[end:beg], "little")
+        yield packed[beg:end]
 
 
 def reads(library: ctypes.CDLL, handle: Callable[[], Union[Handle, PastHandle]], kind: str) -> Reads:

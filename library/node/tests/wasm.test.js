@@ -1,15 +1,15 @@
-'use strict';
-
 // What WebAssembly alone has: a memory that ends, addresses and lengths of 32 bits, and an addon that it stands in for.
-// `node library/node/wasm.test.js`; VIALSHOAL_PACKAGE may name another package, `--large` fills 4 GiB.
-const assert = require('assert');
-const { execFileSync } = require('child_process');
-const { cpSync, mkdtempSync, readFileSync, rmSync, writeFileSync } = require('fs');
-const { tmpdir } = require('os');
-const path = require('path');
-const { runInNewContext } = require('vm');
+// `--large` fills 4 GiB.
+import { strict as assert } from 'node:assert';
+import { execFileSync } from 'node:child_process';
+import { cpSync, mkdtempSync, readFileSync, readdirSync, rmSync, writeFileSync } from 'node:fs';
+import { tmpdir } from 'node:os';
+import path from 'node:path';
+import { fileURLToPath, pathToFileURL } from 'node:url';
+import { runInNewContext } from 'node:vm';
 
-const PACKAGE = path.resolve(__dirname, process.env.VIALSHOAL_PACKAGE ?? '../out/node');
+import { PACKAGE, part } from './here.js';
+
 const WASM = readFileSync(path.join(PACKAGE, 'vialshoal.wasm'));
 const MEMORY = 5;
 // Half of the pages that a memory can have.
@@ -46,20 +46,24 @@ function withMemory(least, most) {
 
 const { pages: PAGES } = memory();
 
+const from = (folder) => import(pathToFileURL(path.join(folder, 'index.js')).href);
+
 // A copy of the package without an addon in a folder of its own, over this module.
-function packageOver(wasm, use) {
+async function packageOver(wasm, use) {
     const folder = mkdtempSync(path.join(tmpdir(), 'vialshoal-'));
     try {
-        for (const name of ['index.js', 'positions.js', 'calls.js', 'wasm.js']) cpSync(path.join(PACKAGE, name), path.join(folder, name));
+        for (const name of readdirSync(PACKAGE)) {
+            if (!/^vialshoal\.(node|wasm)$/.test(name)) cpSync(path.join(PACKAGE, name), path.join(folder, name), { recursive: true });
+        }
         if (wasm !== undefined) writeFileSync(path.join(folder, 'vialshoal.wasm'), wasm);
-        return use(folder);
+        return await use(folder);
     } finally {
         rmSync(folder, { recursive: true });
     }
 }
 
 function wants(number, call) {
-    assert.throws(call, (error) => error.name === 'Refused' && error.number === number);
+    assert.throws(call, { name: number < 101 ? 'Refused' : 'RangeError', number });
 }
 
 // What a call answers, or undefined where memory was refused.
@@ -74,9 +78,9 @@ function unlessRefused(call) {
 
 // Edits, until memory is refused often. What was refused changed nothing but by the messages that it told; what follows is taken.
 function fillsUp(folder, most) {
-    return packageOver(withMemory(PAGES, PAGES + most), (at) => {
-        const { Refused, Text } = require(at);
-        const { Text: Other } = require(folder);
+    return packageOver(withMemory(PAGES, PAGES + most), async (at) => {
+        const { Refused, Text } = await from(at);
+        const { Text: Other } = await from(folder);
         const text = unlessRefused(() => new Text(1, 1)), other = new Other(1, 2);
         if (text === undefined) return 1;
         let refused = 0;
@@ -112,12 +116,12 @@ function fillsUp(folder, most) {
 }
 
 // A memory that ends answers that it is out of memory, wherever it ends.
-function memoryEnds() {
-    packageOver(WASM, (folder) => {
+async function memoryEnds() {
+    await packageOver(WASM, async (folder) => {
         let refused = 0;
         for (let most = 0; most < 48; most += most < 16 ? 1 : 8) {
             try {
-                refused += fillsUp(folder, most);
+                refused += await fillsUp(folder, most);
             } catch (error) {
                 // (too little to begin with)
                 if (most > 3 || error.message !== 'vialshoal: memory was refused') throw error;
@@ -129,17 +133,18 @@ function memoryEnds() {
 }
 
 // All tests of calls pass where each address has its highest bit.
-function addressesAreHigh() {
-    packageOver(withMemory(HALF + 100, 2 * HALF), (folder) => {
-        const said = execFileSync(process.execPath, [path.join(__dirname, 'test.js')], { env: { ...process.env, VIALSHOAL_PACKAGE: folder } });
-        assert.strictEqual(`${said}`, 'node: all is so\n');
+async function addressesAreHigh() {
+    await packageOver(withMemory(HALF + 100, 2 * HALF), (folder) => {
+        const test = fileURLToPath(new URL('text.test.js', import.meta.url));
+        const said = execFileSync(process.execPath, [test], { env: { ...process.env, VIALSHOAL_PACKAGE: folder } });
+        assert.strictEqual(`${said}`, 'text: all is so\n');
     });
 }
 
 // Lengths beyond 32 bits are no shorter ones.
-function lengthsAreLong() {
-    packageOver(WASM, (folder) => {
-        const { Text } = require(folder);
+async function lengthsAreLong() {
+    await packageOver(WASM, async (folder) => {
+        const { Text } = await from(folder);
         const text = new Text(1, 1);
         for (const letters of ['a', 'b', 'cde']) text.insert(text.length, letters);
         /** @type {[number, () => any, (file: any) => any][]} */
@@ -165,32 +170,32 @@ function lengthsAreLong() {
 }
 
 // Bytes of another context are bytes, and nothing else is.
-function bytesAreTold() {
-    packageOver(WASM, (folder) => {
-        const { Text } = require(folder);
+async function bytesAreTold() {
+    await packageOver(WASM, async (folder) => {
+        const { Text } = await from(folder);
         const text = new Text(1, 1);
         text.insert(0, runInNewContext('new Uint8Array([79, 98])'));
         assert.strictEqual(`${text}`, 'Ob');
         for (const wrong of [7, null, [79], new Uint16Array(2), new ArrayBuffer(2), { [Symbol.toStringTag]: 'Uint8Array', length: 1 }]) {
-            assert.throws(() => text.insert(0, wrong), /an argument is none/);
-            assert.throws(() => text.take(wrong), /an argument is none/);
+            assert.throws(() => text.insert(0, wrong), TypeError);
+            assert.throws(() => text.take(wrong), TypeError);
         }
     });
 }
 
 // An addon that doesn't load is none.
-function addonsAreChosen() {
-    packageOver(WASM, (folder) => {
+async function addonsAreChosen() {
+    await packageOver(WASM, async (folder) => {
         writeFileSync(path.join(folder, 'vialshoal.node'), 'none');
-        const { Text } = require(folder);
+        const { Text } = await from(folder);
         assert.strictEqual(new Text(1, 1).insert(0, 'Oberon').length, 1);
     });
-    packageOver(undefined, (folder) => assert.throws(() => require(folder), /vialshoal\.node/));
+    await packageOver(undefined, (folder) => assert.rejects(from(folder), /vialshoal\.node/));
 }
 
 // After a call that didn't come back none is made.
-function nothingFollowsATrap() {
-    const { callsOf } = require(path.join(PACKAGE, 'wasm.js'));
+async function nothingFollowsATrap() {
+    const { callsOf } = await part('wasm.js');
     // A memory; a function that answers 64, two that do nothing, and one that traps.
     const module = Buffer.from([0, 0x61, 0x73, 0x6d, 1, 0, 0, 0,
         1, 18, 3, 0x60, 1, 0x7f, 1, 0x7f, 0x60, 2, 0x7f, 0x7f, 0, 0x60, 3, 0x7f, 0x7f, 0x7f, 1, 0x7f,
@@ -208,9 +213,9 @@ function exported(names) {
 }
 
 // What many sites put in, until all memory is taken.
-function fills() {
-    packageOver(WASM, (folder) => {
-        const { Text } = require(folder);
+async function fills() {
+    await packageOver(WASM, async (folder) => {
+        const { Text } = await from(folder);
         const [text, most] = [new Text(1, 1), 2 ** 24];
         let site = 2, refused = false;
         for (; !refused; site += 1) {
@@ -230,6 +235,6 @@ function fills() {
     });
 }
 
-[memoryEnds, addressesAreHigh, lengthsAreLong, bytesAreTold, addonsAreChosen, nothingFollowsATrap].forEach((test) => test());
-if (process.argv[2] === '--large') fills();
-console.log('node, WebAssembly: all is so');
+for (const test of [memoryEnds, addressesAreHigh, lengthsAreLong, bytesAreTold, addonsAreChosen, nothingFollowsATrap]) await test();
+if (process.argv[2] === '--large') await fills();
+console.log('WebAssembly: all is so');

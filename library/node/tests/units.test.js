@@ -1,32 +1,21 @@
-'use strict';
-
 // Positions in UTF-16 units against plain bytes, against positions in bytes, and against the program that plays scripts.
-const assert = require('assert');
-const { spawnSync } = require('child_process');
-const path = require('path');
+import { strict as assert } from 'node:assert';
+import { spawnSync } from 'node:child_process';
+import { fileURLToPath } from 'node:url';
 
-const PACKAGE = process.env.VIALSHOAL_PACKAGE ?? '../out/node';
-const { Refused, Text } = require(PACKAGE);
-const { Positions } = require(`${PACKAGE}/positions.js`);
+import { part, vialshoal } from './here.js';
+import { drawn } from './random.js';
 
-const PROGRAM = process.env.VIALSHOAL_PROGRAM ?? path.join(__dirname, '../../bin/built');
+const { Text } = vialshoal;
+const { Positions } = await part('positions.js');
+
+const PROGRAM = process.env.VIALSHOAL_PROGRAM ?? fileURLToPath(new URL('../../../bin/built', import.meta.url));
 const IS_BUILT = spawnSync(PROGRAM, ['--help']).status === 0;
 const ROUNDS = 400;
 // Whole characters of one to four bytes, and bytes that are of none until others stand beside them.
 const ATOMS = ['61', '6263', 'c3a9', 'e282ac', 'f09f9880', '80', 'e2', '82', 'ac', 'f09f', '9880', 'eda080', 'c0', 'c3', 'f490',
     'f0', 'efbfbd'].map((hex) => Buffer.from(hex, 'hex'));
 const UTF_16 = { units: 'utf-16' };
-
-// Numbers below a bound, drawn from a seed (xorshift).
-function drawn(seed) {
-    let state = seed;
-    return (bound) => {
-        state ^= state << 13;
-        state ^= state >>> 17;
-        state ^= state << 5;
-        return (state >>> 0) % bound;
-    };
-}
 
 // A character's units where one begins with these bytes: the longest that the platform's decoder takes as one.
 function characters(bytes) {
@@ -190,10 +179,10 @@ text.insert(0, 'a\u{1f600}b');
 assert.deepStrictEqual([text.length, text.bytes().length, text.slice(1, 3)], [4, 6, '\u{1f600}']);
 for (const call of [() => text.insert(2, 'x'), () => text.insert(5, 'x'), () => text.insert(-1, 'x'), () => text.delete(1, 2),
     () => text.delete(3, 1), () => text.bytes(0, 5), () => text.names(2, 3), () => text.recall(2)]) {
-    assert.throws(call, (error) => error instanceof Refused && error.number === 103);
+    assert.throws(call, { name: 'RangeError', code: 'OUT_OF_TEXT' });
 }
 assert.throws(() => new Text(1, 1, { units: 'lines' }), TypeError);
 assert.deepStrictEqual([0, 1, 2, 3, 4, 5].map((offset) => text.find({ site: 1, offset }).pos), [1, 3, 3, 3, 3, 4]);
 text.insert(1, '\ud800');
 assert.strictEqual(`${text}`, 'a\ufffd\u{1f600}b');
-console.log('node, UTF-16 units: all is so');
+console.log('UTF-16 units: all is so');

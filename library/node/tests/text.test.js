@@ -1,12 +1,15 @@
-'use strict';
+// What the addon, or WebAssembly in its place, adds to the library: numbers in and out, buffers, errors. In Node, pages and workers.
+import { assert, Buffer, vialshoal } from './here.js';
 
-// What the addon, or WebAssembly in its place, adds to the library: numbers in and out, buffers, errors.
-// `node library/node/test.js`; VIALSHOAL_PACKAGE may name another package.
-const assert = require('assert');
-const { Past, Refused, Shown, Text } = require(process.env.VIALSHOAL_PACKAGE ?? '../out/node');
+const { Past, Refused, Shown, Text } = vialshoal;
 
+// A text's refusal has its number, a code and words; misuse is an error of the language's own, with the same.
 function refuses(number, call) {
-    assert.throws(call, (error) => error instanceof Refused && error.number === number);
+    assert.throws(call, (error) => {
+        const kinds = number < 101 ? [Refused] : [RangeError, TypeError];
+        return error.number === number && kinds.some((kind) => error instanceof kind) && /^[A-Z_]+$/.test(error.code) &&
+            /^[a-z0-9].* .*[a-z]/.test(error.message);
+    });
 }
 
 const a = new Text(1, 1);
@@ -21,6 +24,20 @@ assert.deepStrictEqual(b.changes(), [{ kind: 'insert', beg: 0, end: 6 }]);
 assert.deepStrictEqual(b.changes(), []);
 for (const message of b.delete(0, 2)) a.take(message);
 assert.strictEqual(`${a}`, 'eron');
+refuses(109, () => a.replacement());
+const followed = new Text(1, 3);
+followed.merge(a);
+followed.endNoting();
+assert.deepStrictEqual([followed.changes(), followed.replacement()], [[], { deleted: 0, inserted: 4 }]);
+followed.delete(0, 1);
+assert.deepStrictEqual([followed.changes(), followed.replacement()], [[], { deleted: 4, inserted: 3 }]);
+followed.endNoting(9);
+assert.deepStrictEqual(followed.replacement(), { deleted: 9, inserted: 3 });
+refuses(103, () => followed.endNoting(-1));
+assert.throws(() => new Text(1, 3, { units: 'utf-16' }).endNoting(), TypeError);
+followed.close();
+refuses(101, () => followed.endNoting());
+refuses(101, () => followed.replacement());
 assert.strictEqual(a.length, 4);
 assert.deepStrictEqual(a.names(0, 1), [{ site: 1, offset: 2 }]);
 assert.deepStrictEqual(a.find({ site: 1, offset: 3 }), { pos: 2, isShown: true });
@@ -127,10 +144,28 @@ const whole = new Text(1, 3);
 assert.strictEqual([...g.pack([[2, 0]])].reduce((sum, chunk) => sum + whole.unpack(chunk).taken, 0), 14);
 assert.ok(whole.bytes().equals(g.bytes()));
 for (const wrong of [[[0, 1]], [[65536, 1]], [[1, -1]], [[1, 2 ** 32]]]) refuses(105, () => g.pack(wrong));
-assert.throws(() => g.unpack('none'), /an argument is none/);
+assert.throws(() => g.unpack('none'), TypeError);
 g.close();
 refuses(101, () => g.pack());
 refuses(101, () => g.unpack(all));
+
+// Names in stretches are the names one by one, however many.
+const i = new Text(1, 1), j = new Text(1, 2);
+i.insert(0, Buffer.alloc(20000, 65));
+j.merge(i);
+for (let at = 0; at < 9000; at += 1) (at % 2 === 0 ? j : i).insert(at % 3 === 0 ? 5 : at * 2, 'x');
+i.merge(j);
+i.delete(4096, 4100);
+for (const [beg, end] of [[0, i.length], [3, 3], [5, 6], [4090, 12300], [0, 4096], [1, 8193]]) {
+    const named = i.nameRanges(beg, end).flatMap(({ site, offset, length }) => Array.from({ length }, (_, at) => ({ site, offset: offset + at })));
+    assert.deepEqual(named, i.names(beg, end));
+}
+assert.deepEqual(i.past([[1, 1]]).nameRanges(0, 9), [{ site: 1, offset: 0, length: 9 }]);
+assert.deepEqual([i.nameRanges(0, 0), new Text(1, 1).nameRanges(0, 0)], [[], []]);
+refuses(103, () => i.nameRanges(0, i.length + 1));
+refuses(103, () => i.nameRanges(2, 1));
+i.close();
+refuses(101, () => i.nameRanges(0, 0));
 
 // Looks from the start, and a text file.
 const e = new Text(3, 1), f = new Text(3, 1);
@@ -156,7 +191,20 @@ refuses(105, () => a.changeLooks(0, 1, { colour: 16 }));
 refuses(106, () => a.find({ site: 7, offset: 0 }));
 refuses(105, () => new Text(0, 1));
 refuses(1, () => a.take(Buffer.from('none')));
-assert.throws(() => a.insert(0, 7), /an argument is none/);
+assert.throws(() => a.insert(0, 7), TypeError);
 a.close();
 refuses(101, () => a.length);
-console.log('node: all is so');
+
+// What it is called with is looked at first.
+const untyped = new Text(1, 1);
+for (const call of [() => new Text('1', 1), () => new Text(1, 1, { units: 'lines' }), () => Text.load('none'), () => untyped.insert('0', 'x'),
+    () => untyped.insert(0, null), () => untyped.insert(0, 'x', null), () => untyped.insert(0, 'x', { font: 1 }), () => untyped.delete(0),
+    () => untyped.changeLooks(0, 0, undefined), () => untyped.take([1]), () => untyped.merge({}), () => untyped.pack(7),
+    () => untyped.deleteNames(7), () => untyped.deleteNames([{}]), () => untyped.past(null)]) {
+    assert.throws(call, (error) => error instanceof TypeError && /(wanted|are|is a)/.test(error.message));
+}
+assert.throws(() => untyped.take(Buffer.from('none')), { name: 'Refused', code: 'MALFORMED', message: 'the bytes are no message, or no chunk' });
+assert.throws(() => untyped.delete(0, 1), { name: 'RangeError', code: 'OUT_OF_TEXT' });
+untyped.close();
+assert.throws(() => untyped.length, { name: 'TypeError', code: 'NOT_OPEN', message: 'the text is closed' });
+console.log('text: all is so');

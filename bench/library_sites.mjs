@@ -1,15 +1,20 @@
-'use strict';
-
 // Makes the edits that bench/library hands over at one site, and takes their messages in at another, as library_sites.c does:
 // by the addon, in bytes or UTF-16 units, or in Yjs.
-const fs = require('fs');
+import fs from 'node:fs';
+import { createRequire } from 'node:module';
+import path from 'node:path';
+import { fileURLToPath, pathToFileURL } from 'node:url';
+
+const require = createRequire(import.meta.url);
+const BENCH = path.dirname(fileURLToPath(import.meta.url));
+const PACKAGE = path.resolve(BENCH, process.env.VIALSHOAL_PACKAGE ?? '../library/out/node');
+const { Text } = await import(pathToFileURL(path.join(PACKAGE, 'index.js')).href);
 
 const PASTE = 4000;
 const READINGS = 10;
 
 class AddonSite {
     constructor(site, units) {
-        const { Text } = require(process.env.VIALSHOAL_PACKAGE ?? '../library/out/node');
         this.text = new Text(1, site, { units });
     }
 

@@ -1,0 +1,127 @@
+// What happens to a text, for those who ask for it and those who listen.
+import { Log, PUT, allAfter, composed, deltaOf, filled } from './delta.js';
+
+function calls(listener, edit) {
+    try {
+        listener(edit);
+    } catch (why) {
+        // (who edits gets the messages all the same)
+        queueMicrotask(() => { throw why; });
+    }
+}
+
+// Of a text, and of a call that answers what changed of it since it was called last.
+export class Feed {
+    #text;
+    #newChanges;
+    // What `changes` is to answer; what `delta` is to answer, once that was asked for.
+    #log = new Log();
+    #runs;
+    #listeners = new Set();
+    // Edits that listeners are to be called with, the one first that they are called with now.
+    #queue = [];
+    // What is done as one, while it is: its origin, and what was done since that was told.
+    #open;
+
+    constructor(text, newChanges) {
+        this.#text = text;
+        this.#newChanges = newChanges;
+    }
+
+    #isOn() {
+        return this.#listeners.size > 0 || this.#runs !== undefined;
+    }
+
+    #drained() {
+        const changes = this.#newChanges();
+        changes.forEach((change) => this.#log.push(change));
+        return changes;
+    }
+
+    changes() {
+        this.#drained();
+        return this.#log.take();
+    }
+
+    // An edit was made here, or others' were taken in.
+    noted(own, messages = []) {
+        if (!this.#isOn()) return;
+        const steps = filled(composed(this.#drained()), this.#text);
+        if (this.#open === undefined) {
+            this.#tell({ own, origin: undefined, parts: [steps], messages });
+            return;
+        }
+        if (this.#open.edit?.own !== own) {
+            this.#flush();
+            this.#open.edit = { own, origin: this.#open.origin, parts: [], messages: [] };
+        }
+        this.#open.edit.parts.push(steps);
+        this.#open.edit.messages.push(...messages);
+    }
+
+    #flush() {
+        const { edit } = this.#open;
+        this.#open.edit = undefined;
+        if (edit !== undefined) this.#tell(edit);
+    }
+
+    #tell({ own, origin, parts, messages }) {
+        const steps = allAfter(parts);
+        this.#run(own, origin, steps);
+        if (this.#listeners.size === 0) return;
+        this.#queue.push({ delta: deltaOf(steps), own, origin, messages });
+        // (one that a listener makes is told after the one that it is told of)
+        if (this.#queue.length > 1) return;
+        for (; this.#queue.length > 0; this.#queue.shift()) {
+            for (const listener of [...this.#listeners]) calls(listener, this.#queue[0]);
+        }
+    }
+
+    #run(own, origin, steps) {
+        if (this.#runs === undefined || steps.length === 0) return;
+        const last = this.#runs.at(-1);
+        if (last !== undefined && last.own === own && last.origin === origin) last.parts.push(steps);
+        else this.#runs.push({ own, origin, parts: [steps] });
+    }
+
+    delta() {
+        if (this.#runs === undefined) {
+            this.#drained();
+            this.#runs = [];
+            const { length } = this.#text;
+            if (length > 0) this.#run(false, undefined, filled([{ step: PUT, length }], this.#text));
+        }
+        const runs = this.#runs;
+        this.#runs = [];
+        return runs.map(({ own, origin, parts }) => ({ delta: deltaOf(allAfter(parts)), own, origin }))
+            .filter(({ delta }) => delta.length > 0);
+    }
+
+    subscribe(listener) {
+        if (typeof listener !== 'function') throw new TypeError('a listener is a function');
+        if (!this.#isOn()) this.#drained();
+        const called = (edit) => listener(edit);
+        this.#listeners.add(called);
+        return () => { this.#listeners.delete(called); };
+    }
+
+    // Has calls be one change, and answers whether they are no part of another one.
+    batch(calls, origin) {
+        if (this.#open !== undefined) {
+            calls();
+            return false;
+        }
+        this.#open = { origin, edit: undefined };
+        try {
+            calls();
+        } finally {
+            this.#flush();
+            this.#open = undefined;
+        }
+        return true;
+    }
+
+    get isOpen() {
+        return this.#open !== undefined;
+    }
+}

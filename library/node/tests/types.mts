@@ -1,0 +1,38 @@
+// Calls as users write them, for the compiler alone: the types of index.d.ts.
+import {
+    Backlog, FrontsDiffer, Misused, Past, Presence, Refused, Text, UndoManager, type Anchor, type Delta, type Edit,
+} from '../index.js';
+
+export function used(): Delta {
+    const text = new Text(1, 1, { units: 'utf-16' }), past: Past = text.past(text.fronts());
+    const end = text.subscribe(({ delta, own, origin, messages }: Edit) => console.log(delta, own, origin, messages.length));
+    try {
+        text.batch(() => text.insert(0, 'Oberon', { colour: 2 }), 'keys');
+    } catch (why) {
+        if (why instanceof Refused) console.log(why.code, why.messages.length);
+        if (why instanceof RangeError) console.log((why as Misused).code);
+    }
+    end();
+    past[Symbol.dispose]();
+    return text.delta().flatMap(({ delta }) => delta.filter((step) => 'insert' in step));
+}
+
+interface State {
+    site: number;
+    cursor: { anchor: Anchor; head: Anchor };
+}
+
+export function shared(text: Text, sent: (bytes: Uint8Array) => void): number {
+    const undo = new UndoManager<Anchor>(text, { origins: ['keys'], selection: () => text.anchor(0) });
+    const presence = new Presence<State>({ timeout: 1000 }), backlog = new Backlog(text);
+    sent(presence.set({ site: text.site, cursor: { anchor: text.anchor(0), head: text.anchor(1, 1) } }));
+    const places = [...presence.states().values()].map(({ cursor }) => text.position(cursor.anchor));
+    try {
+        text.copy(2, { at: text.fronts() }).pack(text.state()).forEach((chunk) => backlog.take(chunk));
+    } catch (why) {
+        if (why instanceof FrontsDiffer) return why.seq;
+    }
+    const undone = undo.undo();
+    undone?.chunks.forEach(sent);
+    return places.length + text.diff(text.fronts()).length + (undone?.selection?.site ?? 0);
+}

@@ -1,0 +1,443 @@
+import { DEFAULT_LOOKS, INSERT } from './delta.js';
+import { between } from './diff.js';
+import { failure, NO_MESSAGE, OUT_OF_TEXT } from './errors.js';
+import { Feed } from './feed.js';
+import * as given from './given.js';
+import { calls } from './host.js';
+import { Positions, begins, decoded } from './positions.js';
+import { Digests } from './state.js';
+
+const UNITS = ['bytes', 'utf-16'];
+const TAKINGS = [undefined, 'taken', 'repeat', 'waits'];
+const TAKEN = 1;
+const CHANGES = [undefined, 'insert', 'delete', 'replace'];
+// What `using` calls; where the platform has none yet, compilers make this one.
+const DISPOSE = Symbol.dispose ?? Symbol.for('Symbol.dispose');
+
+function done([number, ...rest]) {
+    if (number !== 0) throw failure(number);
+    return rest;
+}
+
+function opened(made) {
+    if (Array.isArray(made)) throw failure(made[0]);
+    return made;
+}
+
+// What only the classes here ask of one another.
+let byteOf, positionsOf, handleOf;
+
+// What is shown, now or as it was.
+export class Shown {
+    #handle;
+    // Where the UTF-16 units are, if positions count these.
+    /** @type {any} */
+    #units;
+    // Answers what changed since it was called last.
+    #changes;
+
+    constructor(handle, units, changes) {
+        if (new.target === Shown) throw new TypeError('a Text or a Past is to be made');
+        this.#handle = handle;
+        this.#units = units === 'bytes' ? undefined : new Positions();
+        this.#changes = changes;
+    }
+
+    static {
+        byteOf = (shown, pos) => shown.#byte(pos);
+        positionsOf = (shown) => shown.#units && shown.#followed();
+    }
+
+    #bytes(beg, end) {
+        return opened(calls.bytes(this.#handle, beg, end));
+    }
+
+    #byteLength() {
+        return done(calls.length(this.#handle))[0];
+    }
+
+    // The positions in units as they are now.
+    #followed() {
+        const changes = this.#changes();
+        if (changes.length > 0) this.#units.follow(changes, (beg, end) => this.#bytes(beg, end));
+        return this.#units;
+    }
+
+    // How many bytes stand before a position.
+    #byte(pos) {
+        given.position(pos);
+        if (this.#units === undefined) return pos;
+        const units = this.#followed();
+        const byte = pos <= units.length ? units.byte(pos) : undefined;
+        if (byte === undefined) throw failure(OUT_OF_TEXT);
+        return byte;
+    }
+
+    // The position after this many bytes, or after the character that these end within.
+    #pos(byte) {
+        return this.#units === undefined ? byte : this.#followed().unit(byte);
+    }
+
+    // What positions and lengths count.
+    get units() {
+        return this.#units === undefined ? 'bytes' : 'utf-16';
+    }
+
+    close() {
+        calls.close(this.#handle);
+    }
+
+    [DISPOSE]() {
+        this.close();
+    }
+
+    get length() {
+        return this.#pos(this.#byteLength());
+    }
+
+    bytes(beg = 0, end = this.length) {
+        return this.#bytes(this.#byte(beg), this.#byte(end));
+    }
+
+    slice(beg = 0, end = this.length) {
+        return decoded(this.bytes(beg, end));
+    }
+
+    toString() {
+        return decoded(this.#bytes(0, this.#byteLength()));
+    }
+
+    runs(beg = 0, end = this.length) {
+        const found = [];
+        const last = this.#byte(end);
+        for (let at = this.#byte(beg), until = 0; at < last; at = until) {
+            const [stop, colour, offset, ...font] = done(calls.look(this.#handle, at));
+            until = Math.min(stop, last);
+            found.push({ beg: this.#pos(at), end: this.#pos(until), font: String.fromCharCode(...font), colour, offset });
+        }
+        return found.filter((run) => run.beg < run.end);
+    }
+
+    names(beg, end) {
+        const [first, last] = [this.#byte(beg), this.#byte(end)];
+        const numbers = done(calls.names(this.#handle, first, last));
+        const name = (at) => ({ site: numbers[2 * at], offset: numbers[2 * at + 1] });
+        const begun = this.#units === undefined ? Array(last - first).keys() : begins(this.#bytes(first, last));
+        return Array.from(begun, name);
+    }
+
+    nameRanges(beg, end) {
+        const numbers = done(calls.ranges(this.#handle, this.#byte(beg), this.#byte(end)));
+        return Array.from({ length: numbers.length / 3 },
+            (_, at) => ({ site: numbers[3 * at], offset: numbers[3 * at + 1], length: numbers[3 * at + 2] }));
+    }
+
+    // A place that stays with the character before it (side -1), or after it (1), wherever that goes; of site 0 at the text's ends.
+    anchor(pos, side = -1) {
+        const at = this.#byte(pos) - Number(given.side(side) < 0);
+        if (at < 0 || at === this.#byteLength()) return { site: 0, offset: 0, side };
+        const [site, offset] = done(calls.names(this.#handle, at, at + 1));
+        return { site, offset, side };
+    }
+
+    position({ site, offset, side }) {
+        const isAfter = given.side(side) > 0;
+        if (site === 0) return isAfter ? this.length : 0;
+        const [pos, isShown] = done(calls.find(this.#handle, given.site(site), given.offset(offset)));
+        return this.#pos(isAfter && isShown !== 0 ? pos - 1 : pos);
+    }
+
+    find({ site, offset }) {
+        const [pos, isShown] = done(calls.find(this.#handle, given.site(site), given.offset(offset)));
+        return { pos: this.#pos(pos), isShown: isShown !== 0 };
+    }
+}
+
+function wordAt(bytes, at) {
+    return 256 * bytes[at] + bytes[at + 1];
+}
+
+// The changes of a text's bytes since this was called last.
+function changesOf(handle) {
+    const changes = [];
+    // Those that a call before this one couldn't hand out come first, and alone.
+    for (;;) {
+        const numbers = done(calls.changes(handle));
+        if (numbers.length === 0) return changes;
+        for (let i = 0; i < numbers.length; i += 3) {
+            changes.push({ kind: numbers[i], beg: numbers[i + 1], end: numbers[i + 2] });
+        }
+    }
+}
+
+export class Text extends Shown {
+    #handle;
+    #number;
+    #site;
+    #feed;
+    // The hashes of the messages up to this one.
+    #digests = new Digests();
+    #digested = 0;
+
+    constructor(text, site, { units = 'bytes' } = {}, file = undefined) {
+        if (!UNITS.includes(units)) throw new TypeError(`units are ${UNITS.join(' or ')}, not ${units}`);
+        const handle = opened(file === undefined ? calls.open(given.site(text), given.site(site)) : calls.load(file));
+        super(handle, units, () => changesOf(handle));
+        this.#handle = handle;
+        [this.#number, this.#site] = file === undefined ? [text, site] : [wordAt(file, 4), wordAt(file, 6)];
+        this.#feed = new Feed(this, () => positionsOf(this)?.tell() ?? changesOf(handle));
+    }
+
+    static {
+        handleOf = (text) => text.#handle;
+    }
+
+    // The number of the text, which it has at all sites.
+    get number() {
+        return this.#number;
+    }
+
+    get site() {
+        return this.#site;
+    }
+
+    static load(file, options) {
+        return new Text(0, 0, options, given.bytes(file));
+    }
+
+    store({ packed = false } = {}) {
+        return opened(packed ? calls.storePacked(this.#handle) : calls.store(this.#handle));
+    }
+
+    save() {
+        return opened(calls.save(this.#handle));
+    }
+
+    #edited([number]) {
+        const messages = calls.messages(this.#handle);
+        if (messages.length > 0) this.#feed.noted(true, messages);
+        if (number !== 0) throw failure(number, messages);
+        return this.#feed.isOpen ? [] : messages;
+    }
+
+    // What others made was taken in, so many operations, and perhaps not all.
+    #taken(count, number, operations = 0) {
+        if (count > 0 || operations > 0) this.#feed.noted(false);
+        if (number !== 0) throw failure(number, [], operations);
+    }
+
+    insert(pos, data, looks = undefined) {
+        const [byte, bytes] = [byteOf(this, pos), given.bytesOrString(data)];
+        if (looks === undefined) return this.#edited(calls.insert(this.#handle, byte, bytes));
+        const { font = DEFAULT_LOOKS.font, colour = DEFAULT_LOOKS.colour, offset = DEFAULT_LOOKS.offset } = given.looks(looks);
+        return this.#edited(calls.insertInLooks(this.#handle, byte, bytes, given.font(font), given.number(colour, 0, 255),
+            given.number(offset, -128, 127)));
+    }
+
+    delete(beg, end) {
+        return this.#edited(calls.delete(this.#handle, byteOf(this, beg), byteOf(this, end)));
+    }
+
+    changeLooks(beg, end, looks) {
+        const { font, colour, offset } = given.looks(looks);
+        const selected = Number(font !== undefined) + 2 * Number(colour !== undefined) + 4 * Number(offset !== undefined);
+        return this.#edited(calls.looks(this.#handle, byteOf(this, beg), byteOf(this, end), selected,
+            given.font(font ?? ''), given.number(colour ?? 0, 0, 255), given.number(offset ?? 0, -128, 127)));
+    }
+
+    restore() {
+        return this.#edited(calls.restore(this.#handle));
+    }
+
+    recall(pos) {
+        return this.#edited(calls.recall(this.#handle, byteOf(this, pos)));
+    }
+
+    deleteNames(names) {
+        return this.#edited(calls.deleteNames(this.#handle, given.ranges(names)));
+    }
+
+    restoreNames(names) {
+        return this.#edited(calls.restoreNames(this.#handle, given.ranges(names)));
+    }
+
+    take(message) {
+        const [number, kind, drained, dropped, stopped] = calls.take(this.#handle, given.bytes(message));
+        this.#taken(kind === TAKEN ? 1 : drained, number);
+        return { kind: TAKINGS[kind], drained, dropped, stopped: stopped !== 0 };
+    }
+
+    unpack(chunk) {
+        const [number, stand, taken, known, waiting, stopped] = calls.unpack(this.#handle, given.bytes(chunk));
+        this.#taken(taken, number, stand);
+        return { taken, known, waiting, stopped: stopped !== 0 };
+    }
+
+    settle() {
+        const [number, drained, dropped, stopped] = calls.settle(this.#handle);
+        this.#taken(drained, number);
+        return { drained, dropped, stopped: stopped !== 0 };
+    }
+
+    forget() {
+        return done(calls.forget(this.#handle))[0];
+    }
+
+    merge(other) {
+        given.instance(other, Text);
+        // A closed text refuses to take in itself too.
+        done(calls.length(this.#handle));
+        const [number, taken] = calls.merge(this.#handle, other.#handle);
+        this.#taken(taken, number);
+        return taken;
+    }
+
+    get waiting() {
+        return done(calls.waiting(this.#handle))[0];
+    }
+
+    front(site) {
+        return done(calls.front(this.#handle, given.site(site)))[0];
+    }
+
+    fronts() {
+        return new Map(done(calls.sites(this.#handle)).map((site) => [site, this.front(site)]));
+    }
+
+    // How far this text is, as bytes.
+    state() {
+        return this.#followedDigests().state(this.number, this.fronts());
+    }
+
+    check(state) {
+        return this.#followedDigests().check(given.bytes(state), this, this.fronts());
+    }
+
+    #followedDigests() {
+        for (; ;) {
+            const answer = calls.since(this.#handle, new Uint32Array(0), this.#digested);
+            if (answer[0] === NO_MESSAGE) return this.#digests;
+            const [index, message] = done(answer);
+            this.#digested = index;
+            this.#digests.add(message);
+        }
+    }
+
+    // What is asked for is fronts, or another text's state, which is checked.
+    #asked(fronts) {
+        return given.isBytes(fronts) ? this.check(fronts) : fronts;
+    }
+
+    since(fronts) {
+        const asked = given.fronts(this.#asked(fronts));
+        // (a text that is closed is refused here, and not at the first step)
+        done(calls.length(this.#handle));
+        return this.#since(asked);
+    }
+
+    *#since(fronts) {
+        for (let index = 0, message; ;) {
+            const answer = calls.since(this.#handle, fronts, index);
+            if (answer[0] === NO_MESSAGE) return;
+            [index, message] = done(answer);
+            yield message;
+        }
+    }
+
+    /** @param {Iterable<readonly number[]> | Uint8Array} fronts */
+    pack(fronts = []) {
+        const packed = opened(calls.pack(this.#handle, given.fronts(this.#asked(fronts))));
+        const chunks = [];
+        for (let beg = 2, end; beg < packed.length; beg = end + 2) {
+            end = beg + packed.readUInt16LE(beg - 2);
+            chunks.push(packed.subarray(beg, end));
+        }
+        return chunks;
+    }
+
+    past(fronts) {
+        return new Past(this, fronts);
+    }
+
+    diff(from, to = this.fronts()) {
+        const [was, is] = [this.past(from), this.past(to)];
+        try {
+            return between(was, is);
+        } finally {
+            was.close();
+            is.close();
+        }
+    }
+
+    copy(site, { at = undefined, units = this.units } = {}) {
+        if (site === this.site || this.front(site) > 0) {
+            throw new RangeError(`site ${site} makes operations of its own: a copy needs a site that nobody else is`);
+        }
+        const text = new Text(this.number, site, { units });
+        if (at === undefined) text.merge(this);
+        else this.#send(text, new Map(this.#asked(at)));
+        return text;
+    }
+
+    #send(text, fronts) {
+        for (const message of this.since([])) {
+            const isMeant = message.readUInt32BE(8) <= (fronts.get(message.readUInt16BE(6)) ?? 0);
+            // (what builds on an operation past the fronts can't be taken in)
+            if (isMeant && text.take(message).kind === 'waits') text.forget();
+        }
+    }
+
+    changes() {
+        return this.#feed.changes().map(({ kind, beg, end }) => ({ kind: CHANGES[kind], beg, end }));
+    }
+
+    delta() {
+        return this.#feed.delta();
+    }
+
+    // Whether calls are a part of a batch now.
+    get isInBatch() {
+        return this.#feed.isOpen;
+    }
+
+    subscribe(listener) {
+        return this.#feed.subscribe(listener);
+    }
+
+    batch(calls, origin = undefined) {
+        if (typeof calls !== 'function') throw new TypeError('a function is wanted, which makes the calls');
+        const before = this.fronts();
+        let isWhole = false;
+        try {
+            isWhole = this.#feed.batch(calls, origin);
+        } catch (why) {
+            // (what was done stands)
+            if (!this.#feed.isOpen && why instanceof Error) /** @type {any} */ (why).messages = this.pack(before);
+            throw why;
+        }
+        return isWhole ? this.pack(before) : [];
+    }
+
+    paste(pos, data, looks = undefined) {
+        return this.batch(() => this.insert(pos, data, looks));
+    }
+
+    endNoting(shown = 0) {
+        if (this.units !== 'bytes') throw new TypeError('a text of UTF-16 units follows its changes');
+        done(calls.endNoting(this.#handle, given.position(shown)));
+    }
+
+    replacement() {
+        const [deleted, inserted] = done(calls.replacement(this.#handle));
+        return { deleted, inserted };
+    }
+}
+
+// A text as it was.
+export class Past extends Shown {
+    constructor(text, fronts) {
+        const handle = opened(calls.past(handleOf(given.instance(text, Text)), given.fronts(fronts)));
+        const changes = [{ kind: INSERT, beg: 0, end: done(calls.length(handle))[0] }];
+        super(handle, text.units, () => changes.splice(0));
+    }
+}

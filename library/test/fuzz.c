@@ -1,0 +1,407 @@
+/* Plays what libFuzzer makes up: calls of three sites of one text, with messages, chunks and files of its own, or of theirs with bytes
+ * changed. After each call the changes that were told lead to what is shown; in the end what was stored, packed and looked back at shows the
+ * same. library/test/fuzz builds and runs it. */
+#include <stdio.h>
+#include <stdlib.h>
+#include <string.h>
+
+#include "../vialshoal.h"
+
+enum { SITES = 3, MESSAGE = 10297, MOST = 1 << 23, UNKNOWN = -1, FONT = 31, FRONTS = 8, LONG = 1 << 12 };
+
+static void fail(int line, const char *what) {
+    fprintf(stderr, "fuzz.c:%d: not so: %s\n", line, what);
+    abort();
+}
+
+#define IS(what) ((what) ? (void)0 : fail(__LINE__, #what))
+
+/* A call is done, refused or misused, by a number that has words. */
+static bool is_done(uint32_t number) {
+    IS(number <= VIALSHOAL_SEQ_SPENT || (number >= VIALSHOAL_NOT_OPEN && number <= VIALSHOAL_STILL_NOTED));
+    return number == 0;
+}
+
+/* -- what is read of the input -- */
+
+typedef struct {
+    const uint8_t *at;
+    size_t left;
+} bytes;
+
+static uint32_t byte_of(bytes *in) {
+    if (in->left == 0) return 0;
+    in->left--;
+    return *in->at++;
+}
+
+static uint32_t number_of(bytes *in) {
+    uint32_t low = byte_of(in);
+    return low < 0xf0 ? low : (low & 0xf) << 24 | byte_of(in) << 16 | byte_of(in) << 8 | byte_of(in);
+}
+
+/* So many bytes as a length of two bytes says, as far as they are there. */
+static bytes span_of(bytes *in) {
+    uint32_t length = byte_of(in);
+    length |= byte_of(in) << 8;
+    bytes found = {in->at, length < in->left ? length : in->left};
+    in->at += found.left;
+    in->left -= found.left;
+    return found;
+}
+
+/* -- a site, and what is shown there by what was told of changes -- */
+
+typedef struct {
+    vialshoal_text text;
+    int16_t *shown;
+    uint64_t length;
+    bool is_noted;
+} site;
+
+static site sites[SITES];
+static uint8_t room[MOST], file[MOST];
+
+static uint64_t length_of(vialshoal_text *text) {
+    uint64_t length;
+    IS(vialshoal_length(text, &length) == 0);
+    return length;
+}
+
+static uint8_t *bytes_of(vialshoal_text *text, uint64_t length) {
+    uint64_t need;
+    uint8_t *read = malloc(length + 1);
+    IS(read != NULL && vialshoal_bytes(text, 0, length, read, length, &need) == 0 && need == length);
+    return read;
+}
+
+/* Puts in what isn't known yet, or takes out. */
+static void change(site *at, const vialshoal_change *what) {
+    uint64_t many = what->end - what->beg;
+    IS(what->beg <= what->end && what->beg <= at->length);
+    if (what->kind == VIALSHOAL_INSERT) {
+        at->shown = realloc(at->shown, (at->length + many + 1) * sizeof *at->shown);
+        IS(at->shown != NULL);
+        memmove(at->shown + what->end, at->shown + what->beg, (at->length - what->beg) * sizeof *at->shown);
+        for (uint64_t i = what->beg; i < what->end; i++) at->shown[i] = UNKNOWN;
+        at->length += many;
+    } else {
+        IS(what->end <= at->length);
+        if (what->kind == VIALSHOAL_REPLACE) return;
+        IS(what->kind == VIALSHOAL_DELETE);
+        memmove(at->shown + what->beg, at->shown + what->end, (at->length - what->end) * sizeof *at->shown);
+        at->length -= many;
+    }
+}
+
+static void follow(site *at) {
+    vialshoal_change changes[64];
+    vialshoal_replacing replacing;
+    uint64_t need;
+    while (true) {
+        uint32_t number = vialshoal_changes(&at->text, changes, 64, &need);
+        if (number == VIALSHOAL_TOO_SHORT) {
+            vialshoal_change *all = malloc(need * sizeof *all);
+            IS(all != NULL && vialshoal_changes(&at->text, all, need, &need) == 0);
+            for (uint64_t i = 0; i < need; i++) change(at, &all[i]);
+            free(all);
+        } else {
+            IS(number == 0);
+            if (need == 0) break;
+            for (uint64_t i = 0; i < need; i++) change(at, &changes[i]);
+        }
+    }
+    uint64_t length = length_of(&at->text);
+    if (!at->is_noted) {
+        IS(vialshoal_replacement(&at->text, &replacing) == 0 && replacing.deleted == at->length && replacing.inserted == length);
+        at->shown = realloc(at->shown, (length + 1) * sizeof *at->shown);
+        IS(at->shown != NULL);
+        for (uint64_t i = 0; i < length; i++) at->shown[i] = UNKNOWN;
+        at->length = length;
+    }
+    IS(at->length == length);
+    uint8_t *read = bytes_of(&at->text, length);
+    for (uint64_t i = 0; i < length; i++) {
+        IS(at->shown[i] == UNKNOWN || at->shown[i] == read[i]);
+        at->shown[i] = read[i];
+    }
+    free(read);
+}
+
+/* -- what is compared -- */
+
+static void show_the_same(vialshoal_text *one, vialshoal_text *other) {
+    uint64_t length = length_of(one);
+    IS(length == length_of(other));
+    uint8_t *mine = bytes_of(one, length), *its = bytes_of(other, length);
+    IS(memcmp(mine, its, length) == 0);
+    free(mine);
+    free(its);
+}
+
+typedef uint32_t storing(vialshoal_text *text, uint8_t *to, size_t length, uint64_t *need);
+
+/* What was stored is read again, shows the same and is stored as the same. */
+static void comes_back(vialshoal_text *text, storing *store) {
+    vialshoal_text again = {0};
+    uint64_t need, its;
+    IS(store(text, file, sizeof file, &need) == 0 && vialshoal_load(&again, file, need) == 0);
+    show_the_same(text, &again);
+    IS(store(&again, room, sizeof room, &its) == 0 && its == need && memcmp(file, room, need) == 0);
+    IS(vialshoal_free(&again) == 0);
+}
+
+static uint32_t operations_of(vialshoal_text *text, uint16_t *unused) {
+    static uint16_t found[65536];
+    uint64_t count;
+    uint32_t all = 0, front;
+    IS(vialshoal_sites(text, found, 65536, &count) == 0);
+    for (uint64_t i = 0; i < count; i++) {
+        IS(vialshoal_front(text, found[i], &front) == 0 && front > 0);
+        all += front;
+        if (*unused == found[i]) ++*unused;
+    }
+    return all;
+}
+
+/* A site that has nothing shows the same once it took all chunks, or all messages. */
+static void reaches_another(vialshoal_text *text) {
+    vialshoal_text other = {0};
+    vialshoal_unpacking unpacking;
+    vialshoal_taking taking;
+    uint16_t site = 9;
+    uint64_t need, index = 0;
+    uint32_t all = operations_of(text, &site), taken = 0;
+    if (site == 0) return;
+    IS(vialshoal_pack(text, NULL, 0, file, sizeof file, &need) == 0 && vialshoal_new(&other, 1, site) == 0);
+    for (uint64_t at = 0, length; at < need; at += 2 + length) {
+        length = file[at] + 256u * file[at + 1];
+        IS(vialshoal_unpack(&other, file + at + 2, length, &unpacking) == 0 && unpacking.waiting + unpacking.known == 0);
+        taken += unpacking.taken;
+    }
+    IS(taken == all);
+    show_the_same(text, &other);
+    IS(vialshoal_free(&other) == 0 && vialshoal_new(&other, 1, site) == 0);
+    for (taken = 0; vialshoal_since(text, NULL, 0, &index, room, sizeof room, &need) == 0; taken++) {
+        IS(vialshoal_take(&other, room, need, &taking) == 0 && taking.kind == VIALSHOAL_TAKEN);
+    }
+    IS(taken == all);
+    show_the_same(text, &other);
+    IS(vialshoal_free(&other) == 0);
+}
+
+/* The text as it was up to now is the text as it is. */
+static void looks_back(vialshoal_text *text) {
+    static uint16_t found[65536];
+    static vialshoal_site_front fronts[65536];
+    vialshoal_past_text past = {0};
+    uint64_t count, length, need;
+    IS(vialshoal_sites(text, found, 65536, &count) == 0);
+    for (uint64_t i = 0; i < count; i++) fronts[i] = (vialshoal_site_front){found[i], UINT32_MAX};
+    IS(vialshoal_past(text, fronts, count, &past) == 0);
+    IS(vialshoal_past_length(&past, &length) == 0 && length == length_of(text));
+    uint8_t *was = malloc(length + 1), *read = bytes_of(text, length);
+    IS(was != NULL && vialshoal_past_bytes(&past, 0, length, was, length, &need) == 0 && memcmp(was, read, length) == 0);
+    free(was);
+    free(read);
+    IS(vialshoal_past_free(&past) == 0);
+}
+
+/* -- calls -- */
+
+static void takes(site *at, const uint8_t *message, size_t length) {
+    vialshoal_taking taking;
+    if (is_done(vialshoal_take(&at->text, message, length, &taking))) {
+        IS(taking.kind >= VIALSHOAL_TAKEN && taking.kind <= VIALSHOAL_WAITS && !taking.stopped);
+    }
+}
+
+static void unpacks(site *at, const uint8_t *chunk, size_t length) {
+    vialshoal_unpacking unpacking;
+    IS(!is_done(vialshoal_unpack(&at->text, chunk, length, &unpacking)) || unpacking.done == 0);
+}
+
+/* Opens a site's file, in place of what a site has: that of another text, or of no text, is refused or let go. */
+static void loads(site *at, const uint8_t *from, size_t length) {
+    vialshoal_text text = {0}, probe = {0};
+    uint64_t taken;
+    if (!is_done(vialshoal_load(&text, from, length))) return;
+    IS(vialshoal_new(&probe, 1, 9) == 0);
+    if (vialshoal_merge(&probe, &text, &taken) == 0) {
+        IS(vialshoal_free(&at->text) == 0);
+        at->text = text;
+        at->length = 0;
+        at->is_noted = true;
+    } else {
+        IS(vialshoal_free(&text) == 0);
+    }
+    IS(vialshoal_free(&probe) == 0);
+}
+
+/* Hands what a site made to another one, with a byte changed where the input says so. */
+static void hands_over(site *from, site *to, bytes *in) {
+    uint64_t count, need;
+    uint32_t where = number_of(in), with = byte_of(in);
+    IS(vialshoal_messages(&from->text, &count) == 0);
+    for (uint64_t i = 0; i < count; i++) {
+        IS(vialshoal_message(&from->text, i, room, sizeof room, &need) == 0 && need <= MESSAGE);
+        room[where % need] ^= (uint8_t)with;
+        takes(to, room, need);
+    }
+    IS(vialshoal_let_go(&from->text) == 0);
+}
+
+static size_t fronts_of(bytes *in, vialshoal_site_front *fronts) {
+    size_t count = byte_of(in) % FRONTS;
+    for (size_t i = 0; i < count; i++) {
+        fronts[i].site = (uint16_t)byte_of(in);
+        fronts[i].seq = number_of(in);
+    }
+    return count;
+}
+
+/* Hands what a site has past fronts to another one in chunks, with a byte changed where the input says so. */
+static void packs(site *from, site *to, bytes *in) {
+    vialshoal_site_front fronts[FRONTS];
+    size_t count = fronts_of(in, fronts);
+    uint32_t where = number_of(in), with = byte_of(in);
+    uint64_t need;
+    if (!is_done(vialshoal_pack(&from->text, fronts, count, file, sizeof file, &need))) return;
+    for (uint64_t at = 0, length; at < need; at += 2 + length) {
+        length = file[at] + 256u * file[at + 1];
+        IS(length > 0 && length <= 16000 && at + 2 + length <= need);
+        file[at + 2 + where % length] ^= (uint8_t)with;
+        unpacks(to, file + at + 2, length);
+    }
+}
+
+static void past(site *at, bytes *in) {
+    vialshoal_site_front fronts[FRONTS];
+    vialshoal_past_text as_it_was = {0};
+    vialshoal_looks_run run;
+    vialshoal_name name;
+    vialshoal_place place;
+    uint8_t font[FONT];
+    uint64_t length, need;
+    size_t count = fronts_of(in, fronts);
+    if (!is_done(vialshoal_past(&at->text, fronts, count, &as_it_was))) return;
+    IS(vialshoal_past_length(&as_it_was, &length) == 0);
+    for (uint64_t pos = number_of(in) % (length + 1); pos < length; pos = run.end) {
+        IS(vialshoal_past_names(&as_it_was, pos, pos + 1, &name, 1, &need) == 0);
+        IS(vialshoal_past_find(&as_it_was, name.site, name.offset, &place) == 0 && place.pos == pos + 1 && place.is_shown);
+        IS(vialshoal_past_looks(&as_it_was, pos, &run, font, sizeof font, &need) == 0 && run.end > pos && run.end <= length);
+    }
+    IS(vialshoal_past_free(&as_it_was) == 0);
+}
+
+static void reads(site *at, bytes *in) {
+    vialshoal_looks_run run;
+    vialshoal_name name;
+    vialshoal_place place;
+    uint8_t font[FONT];
+    uint64_t length = length_of(&at->text), need;
+    for (uint64_t pos = number_of(in) % (length + 1); pos < length; pos = run.end) {
+        IS(vialshoal_names(&at->text, pos, pos + 1, &name, 1, &need) == 0);
+        IS(vialshoal_find(&at->text, name.site, name.offset, &place) == 0 && place.pos == pos + 1 && place.is_shown);
+        IS(vialshoal_looks(&at->text, pos, &run, font, sizeof font, &need) == 0 && run.end > pos && run.end <= length);
+    }
+    is_done(vialshoal_find(&at->text, (uint16_t)byte_of(in), number_of(in), &place));
+    IS(vialshoal_save(&at->text, room, sizeof room, &need) == 0);
+}
+
+static void edits_names(site *at, bytes *in, bool restores) {
+    vialshoal_name_range names[FRONTS];
+    uint32_t sent;
+    size_t count = byte_of(in) % FRONTS;
+    for (size_t i = 0; i < count; i++) {
+        names[i].site = (uint16_t)byte_of(in);
+        names[i].offset = number_of(in);
+        names[i].length = number_of(in);
+    }
+    is_done((restores ? vialshoal_restore_names : vialshoal_delete_names)(&at->text, names, count, &sent));
+}
+
+static void edits(site *at, bytes *in) {
+    uint64_t length = length_of(&at->text), beg = number_of(in) % (length + 2), end = number_of(in) % (length + 2);
+    uint32_t sent, what = byte_of(in);
+    bytes some = span_of(in), font = {in->at, in->left < 9 ? in->left : 9};
+    /* (copies of copies would soon be all that is done) */
+    if (length > LONG) return;
+    switch (what % 6) {
+    case 0: is_done(vialshoal_insert(&at->text, beg, some.at, some.left, &sent)); break;
+    case 1: is_done(vialshoal_delete(&at->text, beg, end, &sent)); break;
+    case 2: is_done(vialshoal_restore(&at->text, &sent)); break;
+    case 3: is_done(vialshoal_recall(&at->text, beg, &sent)); break;
+    case 4:
+        is_done(vialshoal_insert_in_looks(&at->text, beg, some.at, some.left, font.at, font.left, (uint8_t)(what >> 4), -3, &sent));
+        break;
+    default:
+        is_done(vialshoal_change_looks(&at->text, beg, end, (uint8_t)(what >> 5), font.at, font.left, (uint8_t)(what >> 4), 3, &sent));
+    }
+}
+
+/* One call or a few; test/seeds.py knows their numbers. */
+static void plays(bytes *in) {
+    uint32_t what = byte_of(in), whose = byte_of(in);
+    site *at = &sites[whose % SITES], *other = &sites[(whose + 1 + (whose >> 4) % (SITES - 1)) % SITES];
+    vialshoal_settling settling;
+    uint32_t count;
+    uint64_t taken;
+    bytes some = {NULL, 0};
+    if (what % 16 < 3) some = span_of(in);
+    switch (what % 16) {
+    case 0: takes(at, some.at, some.left); break;
+    case 1: unpacks(at, some.at, some.left); break;
+    case 2: loads(at, some.at, some.left); break;
+    case 3: hands_over(at, other, in); break;
+    case 4: packs(at, other, in); break;
+    case 5: is_done(vialshoal_merge(&at->text, &other->text, &taken)); break;
+    case 6: IS(vialshoal_settle(&at->text, &settling) == 0 && !settling.stopped); break;
+    case 7: IS(vialshoal_forget(&at->text, &count) == 0 && vialshoal_waiting(&at->text, &count) == 0 && count == 0); break;
+    case 8: past(at, in); break;
+    case 9: reads(at, in); break;
+    case 10: edits_names(at, in, false); break;
+    case 11: edits_names(at, in, true); break;
+    case 12:
+        IS(vialshoal_end_noting(&at->text, at->length) == 0);
+        at->is_noted = false;
+        break;
+    default: edits(at, in);
+    }
+    follow(at);
+    if (other != at) follow(other);
+}
+
+int LLVMFuzzerTestOneInput(const uint8_t *data, size_t length) {
+    bytes in = {data, length};
+    for (int i = 0; i < SITES; i++) {
+        IS(vialshoal_new(&sites[i].text, 1, (uint16_t)(i + 1)) == 0);
+        sites[i].length = 0;
+        sites[i].is_noted = true;
+    }
+    while (in.left > 0) plays(&in);
+    for (int i = 0; i < SITES; i++) {
+        vialshoal_text *text = &sites[i].text;
+        comes_back(text, vialshoal_store);
+        comes_back(text, vialshoal_store_packed);
+        reaches_another(text);
+        looks_back(text);
+        IS(vialshoal_free(text) == 0);
+    }
+    return 0;
+}
+
+#ifdef ALONE
+/* Plays files, without libFuzzer. */
+int main(int count, char **files) {
+    static uint8_t data[1 << 20];
+    for (int i = 1; i < count; i++) {
+        FILE *from = fopen(files[i], "rb");
+        IS(from != NULL);
+        LLVMFuzzerTestOneInput(data, fread(data, 1, sizeof data, from));
+        fclose(from);
+    }
+    printf("fuzz: %d files were played\n", count - 1);
+    return 0;
+}
+#endif

@@ -1,0 +1,234 @@
+/* Calls the library from eight threads: each with a text of its own; each with a site of one text, by messages; all with one text behind a
+ * mutex; and a text that goes from thread to thread. It is run under helgrind and DRD, which see what two threads touch without one waiting
+ * for the other. */
+#include <pthread.h>
+#include <stdio.h>
+#include <stdlib.h>
+#include <string.h>
+
+#include "../vialshoal.h"
+
+enum { THREADS = 8, MESSAGE = 10297 };
+
+static void fail(int line, const char *what) {
+    fprintf(stderr, "threads.c:%d: not so: %s\n", line, what);
+    exit(1);
+}
+
+#define IS(what) ((what) ? (void)0 : fail(__LINE__, #what))
+#define BYTES(text) ((const uint8_t *)(text))
+
+static int edits;
+
+/* Runs a job in eight threads, each of which gets its element of an array. */
+static void side_by_side(void *(*job)(void *), void *of, size_t size) {
+    pthread_t threads[THREADS];
+    for (int i = 0; i < THREADS; i++) IS(pthread_create(&threads[i], NULL, job, (char *)of + i * size) == 0);
+    for (int i = 0; i < THREADS; i++) IS(pthread_join(threads[i], NULL) == 0);
+}
+
+/* Hands all messages that a text keeps to another. */
+static void hand_over(vialshoal_text *from, vialshoal_text *to) {
+    uint8_t room[MESSAGE];
+    uint64_t count, need;
+    vialshoal_taking taking;
+    IS(vialshoal_messages(from, &count) == 0);
+    for (uint64_t i = 0; i < count; i++) {
+        IS(vialshoal_message(from, i, room, sizeof room, &need) == 0);
+        IS(vialshoal_take(to, room, need, &taking) == 0 && taking.kind == VIALSHOAL_TAKEN);
+    }
+    IS(vialshoal_let_go(from) == 0);
+}
+
+static void show_the_same(vialshoal_text *one, vialshoal_text *other) {
+    uint64_t length, its, need;
+    IS(vialshoal_length(one, &length) == 0 && vialshoal_length(other, &its) == 0 && length == its);
+    uint8_t *shown = malloc(2 * length + 1);
+    IS(shown != NULL);
+    IS(vialshoal_bytes(one, 0, length, shown, length, &need) == 0);
+    IS(vialshoal_bytes(other, 0, length, shown + length, length, &need) == 0);
+    IS(memcmp(shown, shown + length, length) == 0);
+    free(shown);
+}
+
+/* -- each its own -- */
+
+/* Most of the calls, over a text of its own, its file, its past, and another site's text. */
+static void *is_alone(void *site) {
+    static const vialshoal_site_front none = {1, 0};
+    vialshoal_text text = {0}, other = {0}, again = {0};
+    vialshoal_past_text past = {0};
+    vialshoal_change changes[64];
+    uint8_t *room = malloc(1 << 20);
+    uint32_t sent;
+    uint64_t need, count;
+    vialshoal_unpacking unpacking;
+    IS(room != NULL);
+    IS(vialshoal_new(&text, 1, *(uint16_t *)site) == 0 && vialshoal_new(&other, 1, 9) == 0);
+    for (int i = 0; i < edits; i++) {
+        IS(vialshoal_insert(&text, 0, BYTES("abc"), 3, &sent) == 0 && sent == 1);
+        IS(vialshoal_delete(&text, 1, 2, &sent) == 0 && sent == 1);
+        IS(vialshoal_change_looks(&text, 0, 1, VIALSHOAL_COLOUR, BYTES(""), 0, 3, 0, &sent) == 0);
+        hand_over(&text, &other);
+        while (vialshoal_changes(&other, changes, 64, &need) == 0 && need != 0) continue;
+    }
+    show_the_same(&text, &other);
+    IS(vialshoal_store_packed(&text, room, 1 << 20, &need) == 0 && vialshoal_load(&again, room, need) == 0);
+    IS(vialshoal_past(&again, &none, 1, &past) == 0 && vialshoal_past_length(&past, &count) == 0 && count == 0);
+    IS(vialshoal_past_free(&past) == 0 && vialshoal_free(&other) == 0 && vialshoal_new(&other, 1, 9) == 0);
+    IS(vialshoal_pack(&again, &none, 1, room, 1 << 20, &need) == 0);
+    for (uint64_t at = 0, length; at < need; at += length) {
+        length = 2 + room[at] + 256 * room[at + 1];
+        IS(vialshoal_unpack(&other, room + at + 2, length - 2, &unpacking) == 0 && unpacking.waiting == 0);
+    }
+    show_the_same(&text, &other);
+    IS(vialshoal_free(&text) == 0 && vialshoal_free(&other) == 0 && vialshoal_free(&again) == 0);
+    free(room);
+    return NULL;
+}
+
+/* -- each a site, by messages -- */
+
+/* What all sites sent, in order: each message after its length. Who takes it in has what its sender had. */
+static struct {
+    pthread_mutex_t turn;
+    uint8_t *bytes;
+    size_t length;
+} sent_by_all = {PTHREAD_MUTEX_INITIALIZER, NULL, 0};
+
+typedef struct {
+    vialshoal_text text;
+    size_t seen;
+} site;
+
+/* Sends what an edit made, and answers a copy of what wasn't seen yet. */
+static uint8_t *exchanged(site *of, size_t *length) {
+    uint64_t count, need;
+    IS(vialshoal_messages(&of->text, &count) == 0 && pthread_mutex_lock(&sent_by_all.turn) == 0);
+    for (uint64_t i = 0; i < count; i++) {
+        sent_by_all.bytes = realloc(sent_by_all.bytes, sent_by_all.length + 2 + MESSAGE);
+        IS(sent_by_all.bytes != NULL);
+        uint8_t *end = sent_by_all.bytes + sent_by_all.length;
+        IS(vialshoal_message(&of->text, i, end + 2, MESSAGE, &need) == 0);
+        end[0] = (uint8_t)need;
+        end[1] = (uint8_t)(need >> 8);
+        sent_by_all.length += 2 + need;
+    }
+    *length = sent_by_all.length - of->seen;
+    uint8_t *unseen = malloc(*length + 1);
+    IS(unseen != NULL);
+    if (*length > 0) memcpy(unseen, sent_by_all.bytes + of->seen, *length);
+    IS(pthread_mutex_unlock(&sent_by_all.turn) == 0 && vialshoal_let_go(&of->text) == 0);
+    return unseen;
+}
+
+/* Sends and takes in; what the site sent itself is a repeat. */
+static void exchange(site *of) {
+    size_t length;
+    vialshoal_taking taking;
+    uint8_t *unseen = exchanged(of, &length);
+    for (size_t at = 0, need; at < length; at += 2 + need) {
+        need = unseen[at] + 256u * unseen[at + 1];
+        IS(vialshoal_take(&of->text, unseen + at + 2, need, &taking) == 0 && taking.kind != VIALSHOAL_WAITS);
+    }
+    of->seen += length;
+    free(unseen);
+}
+
+static void *edits_with_others(void *of) {
+    vialshoal_text *text = &((site *)of)->text;
+    uint64_t length;
+    uint32_t sent;
+    for (int i = 0; i < edits; i++) {
+        IS(vialshoal_length(text, &length) == 0);
+        IS(vialshoal_insert(text, length / 2, BYTES("abc"), 3, &sent) == 0);
+        IS(vialshoal_delete(text, length / 3, length / 3 + 1, &sent) == 0);
+        exchange(of);
+    }
+    return NULL;
+}
+
+static void meet(void) {
+    static site sites[THREADS];
+    uint64_t length;
+    for (int i = 0; i < THREADS; i++) IS(vialshoal_new(&sites[i].text, 1, (uint16_t)(i + 1)) == 0);
+    side_by_side(edits_with_others, sites, sizeof sites[0]);
+    for (int i = 0; i < THREADS; i++) {
+        exchange(&sites[i]);
+        show_the_same(&sites[0].text, &sites[i].text);
+    }
+    IS(vialshoal_length(&sites[0].text, &length) == 0 && length >= 2u * THREADS * edits);
+    for (int i = 0; i < THREADS; i++) IS(vialshoal_free(&sites[i].text) == 0);
+    free(sent_by_all.bytes);
+}
+
+/* -- one that is shared -- */
+
+static pthread_mutex_t turn = PTHREAD_MUTEX_INITIALIZER;
+static vialshoal_text shared, reader;
+
+/* Edits the shared text, and hands out what an edit made in the same turn. */
+static void *takes_turns(void *site) {
+    vialshoal_past_text past = {0};
+    uint64_t count, as_it_was, need;
+    uint32_t sent;
+    uint8_t shown[4];
+    (void)site;
+    for (int i = 0; i < edits; i++) {
+        IS(pthread_mutex_lock(&turn) == 0);
+        IS(vialshoal_insert(&shared, 0, BYTES("abcd"), 4, &sent) == 0 && sent == 1);
+        hand_over(&shared, &reader);
+        IS(vialshoal_bytes(&shared, 0, 4, shown, 4, &need) == 0 && memcmp(shown, "abcd", 4) == 0);
+        if (i % 8 == 0) {
+            vialshoal_site_front front = {1, 1};
+            IS(vialshoal_past(&shared, &front, 1, &past) == 0);
+        }
+        IS(vialshoal_length(&shared, &count) == 0);
+        IS(pthread_mutex_unlock(&turn) == 0);
+        /* (a past text is a copy of its own, so it needs no turn) */
+        if (past.at != NULL) {
+            IS(vialshoal_past_length(&past, &as_it_was) == 0 && as_it_was <= count);
+            IS(vialshoal_past_free(&past) == 0);
+        }
+    }
+    return NULL;
+}
+
+/* -- one that goes from thread to thread -- */
+
+static void *opens(void *text) {
+    IS(vialshoal_new(text, 1, 1) == 0);
+    return NULL;
+}
+
+static void *types(void *text) {
+    uint32_t sent;
+    IS(vialshoal_insert(text, 0, BYTES("Oberon"), 6, &sent) == 0 && sent == 1);
+    return NULL;
+}
+
+static void *frees(void *text) {
+    uint64_t length;
+    IS(vialshoal_length(text, &length) == 0 && length == 6);
+    IS(vialshoal_free(text) == 0);
+    return NULL;
+}
+
+int main(int count, char **words) {
+    void *(*stages[])(void *) = {opens, types, frees};
+    vialshoal_text texts[THREADS] = {{0}};
+    uint16_t sites[THREADS];
+    uint32_t front;
+    edits = count > 1 ? atoi(words[1]) : 200;
+    for (int i = 0; i < THREADS; i++) sites[i] = (uint16_t)(i + 1);
+    side_by_side(is_alone, sites, sizeof sites[0]);
+    meet();
+    IS(vialshoal_new(&shared, 1, 1) == 0 && vialshoal_new(&reader, 1, 2) == 0);
+    side_by_side(takes_turns, sites, sizeof sites[0]);
+    IS(vialshoal_front(&reader, 1, &front) == 0 && front == (uint32_t)(THREADS * edits));
+    show_the_same(&shared, &reader);
+    IS(vialshoal_free(&shared) == 0 && vialshoal_free(&reader) == 0);
+    for (int i = 0; i < 3; i++) side_by_side(stages[i], texts, sizeof texts[0]);
+    puts("threads: all is so");
+    return 0;
+}
