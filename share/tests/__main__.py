@@ -24,23 +24,25 @@ from share.tests.processes import descendants, handles
 # How many modules run at a time. They wait more than they work.
 AT_A_TIME = 2 * (os.cpu_count() or 2) + 2
 # The longest first.
-MODULES = ["test_storm", "test_all_editors", "test_page", "test_of_files", "test_page_use", "test_web", "test_bad_input",
-           "test_engine_edits", "test_editor", "test_looks", "test_engine", "test_logs", "test_closing", "test_installing", "test_copies",
-           "test_rewriting", "test_damage", "test_engine_faults", "test_running", "test_killed", "test_unsent", "test_slow_editor",
-           "test_version_of_before", "test_second_losses", "test_letters",
-           "test_scripts", "test_terminal", "test_security", "test_opening", "test_losses", "test_judge", "test_numbers", "test_attacks",
-           "test_left_out", "test_first_start", "test_second_form", "test_entry", "test_keystrokes", "test_alike", "test_channel",
-           "test_old_notes", "test_file_faults", "test_joining", "test_printing", "test_wire", "test_spelling", "test_carried",
-           "test_engine_vectors", "test_chunks", "test_standing", "test_completions", "test_rooms", "test_framing", "test_trace",
-           "test_reading_once", "test_renewal", "test_slow_line", "test_presence", "test_terminal_closed", "test_convergence",
-           "test_effects", "test_undo", "test_layout_and_changes", "test_sealed", "test_transform", "test_notes_of_messages",
-           "test_snapshot", "test_intake", "test_difference", "test_state", "test_chained", "test_links", "test_copied_numbers",
-           "test_memory", "test_withdrawn", "test_held_up", "test_records", "test_claim_search", "test_message_judge",
-           "test_composing", "test_rebasing", "test_record_judge", "test_second_notes"]
+MODULES = ["test_storm", "test_all_editors", "test_page", "test_of_files", "test_page_use", "test_page_review", "test_web",
+           "test_bad_input", "test_engine_edits", "test_editor", "test_looks", "test_engine", "test_logs", "test_closing",
+           "test_installing", "test_copies", "test_rewriting", "test_damage", "test_engine_faults", "test_running",
+           "test_killed", "test_unsent", "test_slow_editor", "test_version_of_before", "test_second_losses", "test_letters",
+           "test_changed", "test_scripts", "test_terminal", "test_security", "test_opening", "test_losses", "test_judge",
+           "test_numbers", "test_attacks", "test_left_out", "test_first_start", "test_second_form", "test_entry",
+           "test_keystrokes", "test_alike", "test_channel", "test_old_notes", "test_file_faults", "test_joining",
+           "test_printing", "test_wire", "test_spelling", "test_carried", "test_engine_vectors", "test_chunks", "test_standing",
+           "test_completions", "test_rooms", "test_framing", "test_trace", "test_reading_once", "test_renewal",
+           "test_slow_line", "test_presence", "test_terminal_closed", "test_convergence", "test_effects", "test_undo",
+           "test_layout_and_changes", "test_sealed", "test_transform", "test_notes_of_messages", "test_snapshot", "test_intake",
+           "test_difference", "test_state", "test_chained", "test_links", "test_copied_numbers", "test_memory",
+           "test_withdrawn", "test_held_up", "test_records", "test_claim_search", "test_message_judge", "test_composing",
+           "test_rebasing", "test_record_judge", "test_second_notes", "test_not_begun", "test_turns", "test_margin",
+           "test_review", "test_spots", "test_reviews", "test_critic", "test_review_scripts", "test_review_terminal"]
 # These run over notes of the second form, too, which has rules of its own for what they are about: numbers, copies, losses, what is
 # sent, who is on, and attacks. Any module does as "test_one:2".
-OVER_BOTH = frozenset(("test_carried", "test_copied_numbers", "test_copies", "test_left_out", "test_losses", "test_numbers",
-                       "test_presence", "test_security", "test_withdrawn"))
+OVER_BOTH = frozenset(("test_carried", "test_changed", "test_copied_numbers", "test_copies", "test_left_out", "test_losses",
+                       "test_numbers", "test_presence", "test_security", "test_withdrawn"))
 # After this long a module is ended, on however busy a machine, unless one of these has its tests take as long as they are told to.
 MODULE_SECONDS = 1_800.0
 LONG_RUNS = "SHARE_STORM", "SHARE_ROUNDS", "SHARE_SECONDS"

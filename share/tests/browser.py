@@ -111,6 +111,17 @@ class Window:
         actions: Any = ActionChains
         actions(self.driver).send_keys(*keys).perform()
 
+    def chord(self, *keys: str) -> None:
+        """Presses the last of these keys while the others are held."""
+        actions: Any = ActionChains
+        chord = actions(self.driver)
+        for held in keys[:-1]:
+            chord.key_down(held)
+        chord.send_keys(keys[-1])
+        for held in keys[:-1]:
+            chord.key_up(held)
+        chord.perform()
+
     def paste(self, text: str) -> None:
         """Pastes a text, as it would come from another program."""
         self.run("""((text) => {

@@ -92,6 +92,10 @@ class Editor:
         end = self.mirror.units.count(self.mirror.units.encode(self.text))
         self.edit((end, end, text))
 
+    def gets_number(self, but: int | None = None) -> None:
+        """Waits until something can be typed, under another number than one where that is given. What is typed before is taken out."""
+        self.wait_for(lambda: self.state.get("types") and self.state["site"] != but, "a number")
+
     def settle(self) -> Line:
         """Waits until all edits are answered; the last answer."""
         mirror = self.mirror
@@ -114,6 +118,11 @@ class Editor:
             self.wait_for(lambda: self.text == text, "a text")
         except AssertionError as why:
             raise AssertionError(f"shows {self.text[:500]!r} and not {text[:500]!r}; {str(self.lines[-5:])[-2_000:]}") from why
+
+    @property
+    def state(self) -> Line:
+        """How things are, as it was told last."""
+        return (self.notices("state") or [{}])[-1]
 
     def notices(self, kind: str) -> list[Line]:
         """The notices of a kind that came."""
@@ -175,12 +184,14 @@ class Engines(Case):
         return engine_of(self.folder / data)
 
     def others(self, *names: str, url: str | None = None) -> list[Editor]:
-        """Editors of several people, whose notes have one log."""
+        """Editors of several people, whose notes have one log and who can type."""
         first = self.editor(names[0], log=url or self.file_log())
-        wait_for(lambda: (first.read(0.02), first.notices("state")[-1:] and first.notices("state")[-1]["types"])[1],
-                 "a number")
+        first.gets_number()
         link = self.person(names[0]).link()
-        return [first, *(self.editor(name, link=link) for name in names[1:])]
+        editors = [first, *(self.editor(name, link=link) for name in names[1:])]
+        for editor in editors:
+            editor.gets_number()
+        return editors
 
     def alike(self, *editors: Editor) -> str:
         """Waits until editors show the same, with all answered; that."""
@@ -240,7 +251,11 @@ class EngineHere(Case):
     def asks(self, number: int, what: str, **more: object) -> Line:
         """What an editor's request is answered."""
         self.editors[number][3].append(json.dumps({"do": what, "id": 1, **more}).encode())
-        return next(line for line in self.meet()[number] if line.get("answer") == what)
+
+        def answered() -> Line | None:
+            return next((line for line in self.meet()[number] if line.get("answer") == what), None)
+        found: Line = wait_for(answered, f"an answer to {what}")
+        return found
 
     def shows(self, text: str) -> None:
         """That all show a text, and the disk has it."""

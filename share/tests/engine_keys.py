@@ -65,7 +65,7 @@ def of_one_note(folder: pathlib.Path, form: str) -> None:
     """Makes a note, opens it in three editors, and types."""
     log = str(folder / "shared" / "note.log")
     first = Editor(folder / "ada", log=log)
-    first.wait_for(lambda: first.notices("state") and first.notices("state")[-1]["types"], "a number")
+    first.gets_number()
     begin = time.perf_counter()
     first.edit((0, 0, "".join(LINE.format(number) for number in range(SIZE // len(LINE.encode())))))
     first.settle()

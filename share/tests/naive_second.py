@@ -557,15 +557,20 @@ def before_of(answer: Answer, one: Saying) -> list[Saying] | Why:
     return found
 
 
+def is_loose(answer: Answer, one: Saying) -> bool:
+    """Whether a message lacks one before it, with which it may count."""
+    return before_of(answer, one) is Why.LOOSE and one.message.site not in answer.base_sites
+
+
 def _why(answer: Answer, one: Saying) -> Why:
     """Why a message doesn't count."""
     site, before = one.message.site, before_of(answer, one)
     if answer.base is None:
         return Why.NO_OPENING
+    if site in answer.base_sites and before is not Why.PLACE:
+        return Why.BASE
     if isinstance(before, Why):
         return before
-    if site in answer.base_sites:
-        return Why.BASE
     if (site, one.author) not in answer.claims:
         return Why.UNCLAIMED
     if answer.holders[site] != one.author:

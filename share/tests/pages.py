@@ -22,6 +22,40 @@ if TYPE_CHECKING:
     from share.tests.browser import Window
 
 Line = dict[str, Any]
+# What is too small for a finger, wider than the page, or hard to read.
+FAULTS_OF_LOOKS = """((isPhone) => {
+  const faults = [];
+  const isSeen = (one) => one.checkVisibility() && one.getBoundingClientRect().width > 1;
+  const shown = [...document.querySelectorAll('body *')].filter(isSeen);
+  if (document.documentElement.scrollWidth > innerWidth) faults.push('wide');
+  const touched = 'button, select, input:not([type=checkbox]), #finding label, #follow';
+  for (const one of isPhone ? shown.filter((it) => it.matches(touched)) : []) {
+    const { width, height } = one.getBoundingClientRect();
+    if (width < 43.9 || height < 43.9) faults.push(`${one.id} ${width}x${height}`);
+  }
+  const canvas = document.createElement('canvas').getContext('2d', { willReadFrequently: true });
+  const over = (below, colour) => {
+    canvas.fillStyle = `rgb(${below.join(',')})`;
+    canvas.fillRect(0, 0, 1, 1);
+    canvas.fillStyle = colour;
+    canvas.fillRect(0, 0, 1, 1);
+    return [...canvas.getImageData(0, 0, 1, 1).data.slice(0, 3)];
+  };
+  const below = (one) => over(one.parentElement ? below(one.parentElement) : [255, 255, 255], getComputedStyle(one).backgroundColor);
+  const light = (rgb) => rgb.map((one) => one / 255).map((one) => (one <= 0.03928 ? one / 12.92 : ((one + 0.055) / 1.055) ** 2.4))
+    .reduce((sum, one, at) => sum + one * [0.2126, 0.7152, 0.0722][at], 0);
+  for (const one of shown.filter((it) => [...it.childNodes].some((node) => node.nodeType === 3 && node.data.trim()))) {
+    if (one.closest('.caret, .unseen, select') || one.disabled) continue;
+    const paper = below(one);
+    const [dark, pale] = [light(paper), light(over(paper, getComputedStyle(one).color))].sort();
+    const contrast = (Math.max(dark, pale) + 0.05) / (Math.min(dark, pale) + 0.05);
+    if (contrast < 4.5) faults.push(`${one.id || one.className || one.tagName} ${contrast}`);
+  }
+  const em = parseFloat(getComputedStyle(document.querySelector('main .CodeMirror')).fontSize);
+  const measure = document.querySelector('main .CodeMirror-lines').getBoundingClientRect().width / em;
+  if (measure > 46.01) faults.push(`${measure} em`);
+  return faults;
+})(arguments[0])"""
 FOUND = re.compile(r'url=(http://127\.0\.0\.1:(\d+)/#([0-9a-f]+))"')
 
 

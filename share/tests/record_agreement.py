@@ -13,7 +13,7 @@ from share.format.second.form import PlainRecords
 from share.format.second.record import Record
 from share.sync.backlog import Backlog
 from share.tests import naive_told
-from share.tests.naive_second import Answer, Saying, Why, before_of
+from share.tests.naive_second import Answer, Saying, is_loose
 from share.tests import second_sets
 from share.tests.second_sets import ZERO_BITS
 
@@ -79,7 +79,7 @@ def kept_differences(answer: Answer, judge: RecordJudge) -> list[str]:
     found, through = list[str](), {one.hash for some in answer.through.values() for one in some}
     for who in {(one.message.site, one.author) for one in answer.said.values()}:
         own = {one.hash for one in answer.said.values() if (one.message.site, one.author) == who} - through
-        loose = {of for of in own if answer.left_out[of][1] is Why.LOOSE or before_of(answer, answer.said[of]) is Why.LOOSE}
+        loose = {of for of in own if is_loose(answer, answer.said[of])}
         if not have(judge.not_counting(*who), own - loose) or not have((row.entry for row in judge.not_through(*who)), own):
             found.append("which records don't count")
     for site, text in answer.through:

@@ -177,6 +177,15 @@ class Set:
             else:
                 self._write(one, skipped=self._chance.choice([1, 2]))
 
+    def poach(self) -> None:
+        """Somebody goes on under a number of the base: after what was copied, or after what isn't there."""
+        if self.made.base:
+            last, author = self._chance.choice(self.made.base), self._chance.choice(self.authors)
+            before = self._chance.choice([last.hash, bytes(31) + self._chance.randbytes(1)])
+            site, text = last.place
+            some = [inserting(text, site, last.message.seq + 1 + number, 9 + number, None, 4 + number, b"p") for number in range(2)]
+            self.raws.append(written(self.note, author, before, some[:self._chance.randint(1, 2)]))
+
     def say_anew(self) -> None:
         """Somebody says that messages were made anew."""
         if one := self._leaf():
@@ -281,4 +290,4 @@ def cut(note: Note, branch: Branch, chance: random.Random, begin: int = 0) -> li
 
 RIGHT = ["rest", "claim", "begin", "write", "write", "write", "write", "fork", "cut_otherwise"]
 WORDS = ["say_anew", "say_copied", "be_newer"]
-STEPS = RIGHT * 2 + WORDS + ["leap", "put_wrong", "stamp_wrong", "mention_nobody", "build_wrong", "forge"]
+STEPS = RIGHT * 2 + WORDS + ["leap", "put_wrong", "stamp_wrong", "mention_nobody", "build_wrong", "forge", "poach"]

@@ -69,6 +69,14 @@ class Person:
         with self.here():
             return Note(Session(notes.open_note(name, url, link_of(link) if link else None)))
 
+    def reads(self, link: str | None = None) -> None:
+        """Opens a note, and closes it once all is taken in that its log has, and that one has what is here. On a busy machine opening alone
+        doesn't wait for that."""
+        note = self.open(link=link)
+        session = note.session
+        wait_for(lambda: session._replicator.is_up_to_date() and (note.take_in(), not session.has_more())[1], "the log to be read")
+        session.close()
+
     def link(self, name: str = "note") -> str:
         """A note's link."""
         with self.here():

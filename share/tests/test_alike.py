@@ -26,7 +26,7 @@ class Typed(Three):
         take(self.anna, self.begun())
         before = self.anna
         for person in self.carol, self.person("dora"), self.person("emma"):
-            person.open(link=self.bob.link()).session.close()
+            person.reads(self.bob.link())
             shutil.rmtree(before.data)
             self.run_as(person, "recover", "--lost", "note")
             self.assertEqual(shown(person), ("Dear all of you, we meet at ten. Bob. ", []))
@@ -40,7 +40,7 @@ class Typed(Three):
             entries = Twice(disk.form).entries
         with contextlib.closing(self.carol.log()) as log:
             log.append([one.raw for one in entries])
-        self.carol.open().session.close()
+        self.carol.reads()
         text, missing = shown(self.carol)
         self.assertEqual((text.count("word "), len(missing)), (1, 1))
         self.assertIn("Typed again: 5 characters", self.run_as(self.carol, "recover", "--lost", "note"))
@@ -64,15 +64,16 @@ class Typed(Three):
             form = disk.form
         author = form.new_author()
         claim = claim_of(form, 65_001, author)
-        forks = [entry_of(form, claim, [inserting(65_001, 1, stamp, None, 0, b"Q")], author) for stamp in (1, 2, 3)]
+        # They stand in front of all that Anna typed, also where her number is greater.
+        forks = [entry_of(form, claim, [inserting(65_001, 1, stamp, None, 0, b"Q")], author) for stamp in (1_001, 1_002, 1_003)]
         with contextlib.closing(self.carol.log()) as log:
             log.append([one.raw for one in [claim, *forks[:2]]])
-        self.carol.open().session.close()
+        self.carol.reads()
         self.run_as(self.carol, "recover", "--lost", "note")
         self.assertEqual(shown(self.carol), ("QQDear all of you, we meet at ten. Bob. ", []))
         with contextlib.closing(self.carol.log()) as log:
             log.append([forks[2].raw])
-        self.carol.open().session.close()
+        self.carol.reads()
         self.run_as(self.carol, "recover", "--lost", "note")
         self.assertEqual(shown(self.carol), ("QQQDear all of you, we meet at ten. Bob. ", []))
 

@@ -5,7 +5,8 @@ from collections.abc import Iterable
 from unittest import mock
 
 from share.admission.ledger import Branch, Ledger, Row
-from share.format.chunk import MOST_CHUNK, NoChunk, Writer, chunk_begin, packed_in_parts, text_of_chunk, unpacked_one_by_one, unpacked
+from share.format.chunk import (MOST_CHUNK, NoChunk, Writer, chunk_begin, of_names_at_most, packed_in_parts, text_of_chunk, unpacked,
+                                unpacked_one_by_one)
 from share.format.entry import Author, Plain
 from share.format.history import Messages, Part
 from share.format.operation import CHANGE_LOOKS, DELETE, INSERT, RESTORE, Operation
@@ -285,6 +286,23 @@ class InARow(unittest.TestCase):
         plain = typed(7, 1, 0, b"a\x0eb" * 3_000)
         row = Messages(parts=[Part(line_of([message] for message in plain), 0, len(plain))])
         self.assertEqual([*row.chunks()], [(chunk_of(plain), len(plain))])
+
+    def test_a_chunk_that_may_change_much_comes_in_parts(self) -> None:
+        plain = typed(7, 1, 0, b"ab" * 50)
+        every = (Names(7, 0, 100),)
+        plain += [Operation(kind, 7, 101 + number, 101 + number, 1, every) for number, kind in enumerate([DELETE, RESTORE] * 20)]
+        row = Messages(parts=[Part(line_of([plain]), 0, len(plain))])
+        chunk = chunk_of(plain)
+        assert chunk
+        whole, sets = [(chunk, len(plain))], of_names_at_most(chunk)
+        self.assertEqual([*row.chunks()], whole)
+        self.assertGreaterEqual(sets, 40)
+        with mock.patch.multiple("share.format.history", MOST_UNSEEN=sets * len(plain), MOST_NOTED=300):
+            self.assertEqual([*row.chunks()], whole)
+            # That many more stretches may be there before it.
+            parts = [[*unpacked_one_by_one(chunk)] for chunk, _ in row.chunks(begun=1)]
+        self.assertEqual([one for part in parts for one in part], plain)
+        self.assertEqual([sum(one.kind != INSERT for one in part) for part in parts], [3] * 13 + [1])
 
 
 if __name__ == "__main__":

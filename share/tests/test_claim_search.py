@@ -8,10 +8,12 @@ from contextlib import suppress
 from unittest import mock
 
 from share.format.second.claim import Found, number_of_rank, rank_of
+from share.format.second.form import PlainRecords
 from share.log.polling import can_read
 from share.program.claim_search import ClaimSearch, Taken, searched
 from share.program.patience import seen
 from share.program.process import TOP
+from share.sync.number_search import NumberSearch
 from share.tests.waiting import PATIENCE, wait_for
 from share.text.errors import Trouble
 
@@ -81,6 +83,17 @@ class Searches(unittest.TestCase):
         self.assertRaisesRegex(Trouble, "found none", one.found)
         with mock.patch.object(sys, "executable", "/nowhere"), self.assertRaisesRegex(Trouble, "No number can be searched"):
             ClaimSearch(NOTE, AUTHOR)
+
+    def test_another_thread_may_ask_as_it_is_closed(self) -> None:
+        numbers = NumberSearch(PlainRecords(bytes(32), MANY_BITS))
+        numbers.begin(())
+        one = numbers._search
+        assert one
+        # Between two looks at it it is closed.
+        with mock.patch.object(NumberSearch, "_search", mock.PropertyMock(side_effect=[one, None]), create=True):
+            self.assertFalse(numbers.has_ended())
+        one.close()
+        self.assertFalse(numbers.has_ended())
 
     def test_what_is_searched_by_a_parent_that_is_gone(self) -> None:
         self.assertEqual([*searched(NOTE, AUTHOR, set(), 0, os.getppid() + 1)], [])

@@ -67,18 +67,22 @@ class Completed(Case):
             self.assertEqual(set(self.offered(verb, "--")), self.helped(verb), verb)
         for verb in NOTE_VERBS:
             self.assertLessEqual(set(self.offered(verb, "--")), self.helped(), verb)
-        self.assertEqual(self.offered("export", "picnic", "--format", ""), ["html", "text"])
+        self.assertEqual(self.offered("export", "picnic", "--format", ""), ["critic", "html", "text"])
+        self.assertEqual(self.offered("import", "picnic", "--format", ""), ["critic", "text"])
         self.assertEqual(self.offered("sync", "--every", ""), [])
+        self.note("append", "diary", "x", "--new")
+        for words in ("sync", "--every"), ("renew", "diary", "--form"), ("cat", "diary", "--text"):
+            self.assertEqual(self.offered(*words, ""), [])
 
     def test_notes_and_files(self) -> None:
         notes = self.folder / "data" / "notes"
         notes.mkdir(parents=True)
         for name in "picnic", "plan", "diary":
             (notes / f"{name}.note").touch()
-        for verb in "cat", "rename", "delete", "sync":
+        for verb in "cat", "rename", "delete", "sync", "remarks", "remark", "accept":
             self.assertEqual(self.offered(verb, "p"), ["picnic", "plan"])
         self.assertEqual(self.offered("di"), ["diary"])
-        for words in ("list", ""), ("search", ""), ("rename", "diary", ""):
+        for words in ("list", ""), ("search", ""), ("rename", "diary", ""), ("remark", "diary", "--on", ""), ("reply", "diary", "7:1", ""):
             self.assertEqual(self.offered(*words), [])
         (self.folder / "text.txt").touch()
         for words in ("import", "diary", "te"), ("import", "diary", "x", "plan", "te"), ("cat", "diary", "--link-file", "te"):

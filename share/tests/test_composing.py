@@ -31,6 +31,9 @@ WITH_END = "removeEventListener('compositionend', noEnd, true)"
 # The clock that the page sees goes on by a minute.
 LATER = "(window.clock ??= performance.now.bind(performance), performance.now = () => clock() + 60000)"
 NOW = "(performance.now = () => clock())"
+# The page looks at the clock, as it does while others' text waits for what is composed.
+LOOKS = "(window.looked = false, window.clock ??= performance.now.bind(performance), performance.now = () => (looked = true, clock()))"
+LOOKED = "window.looked"
 # A browser that tells a composition from its midst on, and ends it by the words that it had.
 FROM_ITS_MIDST = """((field, words) => {
   const tell = (kind) => field.dispatchEvent(new CompositionEvent(kind, { data: words, bubbles: true }));
@@ -190,10 +193,30 @@ class Composed(Pages):
         self.first.shows("before akab\ncd")
         # CodeMirror ends what is composed 20 ms after the focus came.
         self.first.driver.execute_async_script("setTimeout(arguments[0], 50)")
-        # The input method goes on behind it.
+        self.go_on_behind_it()
+
+    def go_on_behind_it(self) -> None:
+        """The input method goes on behind what was ended."""
         compose(self.first, "n")
         self.first.command("Input.insertText", text="\u6f22")
         self.show("before aka\u6f22b\ncd")
+
+    def test_the_cursor_is_behind_what_is_ended_whenever_the_engine_answers(self) -> None:
+        self.compose_beside_others("k", "ka")
+        self.first.run(LOOKS)
+        self.addCleanup(self.first.run, NOW)
+        self.first.wait_for(LOOKED)
+        # What comes from the engine has the page draw the cursor, and CodeMirror looks where the browser has it 20 ms after the focus came.
+        engine = engine_of(self.data)
+        os.kill(engine, signal.SIGSTOP)
+        try:
+            self.first.run(LATER)
+            self.first.shows("akab\ncd")
+            self.first.driver.execute_async_script("setTimeout(arguments[0], 50)")
+        finally:
+            os.kill(engine, signal.SIGCONT)
+        self.first.shows("before akab\ncd")
+        self.go_on_behind_it()
 
     def test_it_goes_on_while_there_are_signs_of_it(self) -> None:
         self.first.run(LATER)

@@ -19,6 +19,9 @@ from typing import Any, cast
 from share.editors.terminal import app
 from share.editors.terminal.keys import (ESCAPE_SECONDS, LONGEST_PASTE, PASTE_LOST_SECONDS, PASTE_QUIET_SECONDS,
                                          SEQUENCE_SECONDS, Event, Key, Keyboard, Pasted, safe_for_terminal)
+from share.editors.since import NoteChanges
+from share.editors.suggesting import Gathering
+from share.editors.threads import NoteThreads
 from share.store import atomic
 from share.sync.session import Bar, Status
 from share.tests.counting import looked_at
@@ -36,6 +39,7 @@ SEQUENCES = {
     Key.END: [b"\x05", b"\x1b[F", b"\x1bOF", b"\x1b[4~", b"\x1b[8~", b"\x1b[8^"],
     Key.PAGE_UP: [b"\x1b[5~", b"\x1b[5;5~"],
     Key.PAGE_DOWN: [b"\x1b[6~", b"\x1b[6$"],
+    Key.NEXT_CHANGE: [b"\x1b[19~"], Key.PREVIOUS_CHANGE: [b"\x1b[19;2~", b"\x1b[32~"], Key.SUGGESTING: [b"\x1bu"],
     Key.DELETE: [b"\x1b[3~", b"\x1b[3;5~", b"\x1b[3^", b"\x1b[3@"],
     Key.WORD_LEFT: [b"\x1b[1;5D", b"\x1b[1;3D", b"\x1b[1;6D", b"\x1b[5D", b"\x1bO5D", b"\x1bOd", b"\x1bb",
                     b"\x1b\x1b[D", b"\x1b\x1bOD"],
@@ -377,16 +381,17 @@ class Saving(Case):
 class ScriptedNote:
     """A note of the editor's without a program: some words that are typed have it hang or fail."""
 
-    def __init__(self, text: bytes, can_type: bool):
+    def __init__(self, text: bytes, can_type: str):
         self.text, self.cursor, self.top, self.notice = bytearray(text), 0, 0, ""
         self.anchor: int | None = None
-        self.session = self
+        self.session, self.threads, self.changes, self.gathering = self, NoteThreads(), NoteChanges(), Gathering()
         self.can_type, self._undo = can_type, [(0, 0)]
 
     def status(self) -> Status:
         """How things stand."""
         trouble = "The disk is full." if b"full" in self.text else None
-        return Status(site=1, on=1, unsent=0, offline=None, waiting=0, trouble=trouble, can_type=self.can_type)
+        return Status(site=1, on=1, unsent=0, offline=None, waiting=0, trouble=trouble, can_type=self.can_type == "yes",
+                      searching=self.can_type == "searches")
 
     def close(self) -> None:
         """Closes, or doesn't."""
@@ -460,7 +465,7 @@ def scripted(text: str, opens: str, can_type: str, leaves: str) -> None:
     def open_note(progress: Bar, _: object) -> ScriptedNote:
         if opens != "at once":
             until_told(lambda: progress(1, 4))
-        return ScriptedNote(text.encode(errors="surrogateescape"), can_type == "yes")
+        return ScriptedNote(text.encode(errors="surrogateescape"), can_type)
 
     signal.signal(signal.SIGTERM, lambda *_: sys.exit(0))
     try:
@@ -772,6 +777,12 @@ class Hanging(Scripted):
         for key in "BSpace", "DC", "C-z", "Enter":
             one.press(key)
         self.assertEqual(self.saved(one), b"text")
+        self.assertEqual(self.quit(one), b"text")
+
+    def test_a_number_that_is_searched_for(self) -> None:
+        one = self.terminal("text", can_type="searches")
+        one.type("x")
+        one.sees("A number is being searched for")
         self.assertEqual(self.quit(one), b"text")
 
     def test_a_note_that_takes_long_to_open(self) -> None:

@@ -83,7 +83,7 @@ class Sessions(Engines):
 
     def test_the_page_has_a_session_that_goes_so(self) -> None:
         page = PAGE.read_text(encoding="utf-8")
-        self.assertLessEqual(len(page.split()), 1_200)
+        self.assertLessEqual(len(page.split()), 1_500)
         recorded = [line[4:] for line in page.split("## A session")[1].splitlines() if line.startswith("    ")]
         ada, another = self.others("ada", "another")
         another.edit((0, 0, "tea\n"))
@@ -315,8 +315,7 @@ class Company(Engines):
         ada, bo = ("ada.file", "bo.file") if url.startswith("/") else ("ada.redis", "bo.redis")
         first = self.editor(ada, log=url, opens=False)
         first.mirror = Mirror(first.ask("open", protocol=1, units=["utf-16"], name="Ada", colour="#123abc"), first.send)
-        wait_for(lambda: (first.read(0.02), first.notices("state")[-1:] and first.notices("state")[-1]["types"])[1],
-                 "a number")
+        first.gets_number()
         link = self.person(ada).link()
         second = self.editor(bo, link=link, opens=False, units="utf-32")
         second.mirror = Mirror(second.ask("open", protocol=1, units=["utf-32"], name="Bo"), second.send)

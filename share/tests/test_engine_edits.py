@@ -235,7 +235,7 @@ class Wrong(Engines):
 
     def test_before_it_is_opened(self) -> None:
         editor = self.editor(opens=False)
-        for what in ("edit", "undo", "redo", "cursor", "seen", "text", "on", "who", "history", "past", "save"):
+        for what in ("edit", "undo", "redo", "cursor", "seen", "text", "on", "who", "history", "past", "changed", "save"):
             self.assertEqual(editor.ask(what, version=0, edits=1, changes=[])["error"], "order")
         self.assertEqual(editor.ask("close"), {"answer": "close", "id": editor.lines[-1]["id"]})
         self.assertFalse(editor._receive())
@@ -350,7 +350,7 @@ class Wrong(Engines):
 
     def test_without_a_number_nothing_can_be_typed(self) -> None:
         first = self.editor("ada", log=self.file_log())
-        first.wait_for(lambda: first.notices("state") and first.notices("state")[-1]["types"], "a number")
+        first.gets_number()
         link = self.person("ada").link()
         os.rename(self.folder / "shared", self.folder / "away")
         (self.folder / "shared").write_bytes(b"")
@@ -362,7 +362,7 @@ class Wrong(Engines):
         self.assertEqual(second.text, "")
         os.remove(self.folder / "shared")
         os.rename(self.folder / "away", self.folder / "shared")
-        second.wait_for(lambda: second.notices("state")[-1]["types"], "a number")
+        second.gets_number()
         second.edit((0, 0, "now"))
         first.shows("now")
 

@@ -7,6 +7,9 @@ from collections.abc import Callable
 
 from share.editors.mirror import Mirror
 from share.editors.note import EngineNote
+from share.editors.since import NoteChanges
+from share.editors.suggesting import Gathered, Gathering, Meant
+from share.editors.threads import NoteThreads
 from share.format.entry import Plain
 from share.tests.crossing import Writer, settled
 from share.text.change import Change
@@ -23,6 +26,7 @@ class Placed(Mirror):
     def __init__(self, opened: Line, send: Callable[[Line], None], units: Units, clock: Callable[[], float]):
         super().__init__(opened, send, units, clock)
         self.note = EngineNote.__new__(EngineNote)
+        self.note.threads, self.note.changes, self.note.gathering = NoteThreads(), NoteChanges(), Gathering()
         self.note.text, self.note.cursor, self.note.top, self.note.anchor = bytearray(swapped(self.text.encode())), 0, 0, None
 
     def follow(self, begin: int, end: int, data: bytes) -> None:
@@ -79,6 +83,28 @@ class Vectors(unittest.TestCase):
                    "looks": mirror.looks, "place": mirror.place()}
             then = step.get("then", {})
             self.assertEqual({name: has[name] for name in then}, then, step)
+
+    def test_what_is_typed_is_gathered_as_the_vectors_say(self) -> None:
+        cases = json.loads((VECTORS / "suggesting.json").read_text(encoding="utf-8"))["cases"]
+        for case in cases:
+            with self.subTest(case["name"]):
+                gathering = Gathering()
+                gathering.now = Gathered(*case["gathered"]) if case["gathered"] else None
+                before = gathering.now
+                done, cursor = gathering.add(Meant(case["from"], case["to"], case["put"], case.get("back", 0)))
+                self.assertEqual(done, before if case.get("sends") else None)
+                self.assertEqual((gathering.now and [*gathering.now], cursor), (case["then"], case["cursor"]))
+        self.assertGreater(len(cases), 20)
+
+    def test_what_is_gathered_moves_with_the_text(self) -> None:
+        for gathered, change, wanted in (((5, 8, "x"), Change(5, 5, b"ab"), (7, 10, "x")), ((5, 8, "x"), Change(8, 8, b"ab"), (5, 8, "x")),
+                                         ((5, 5, "x"), Change(5, 5, b"ab"), (5, 5, "x")), ((5, 8, "x"), Change(0, 9, b""), (0, 0, "x")),
+                                         ((5, 8, ""), Change(0, 9, b""), None)):
+            with self.subTest(change):
+                gathering = Gathering()
+                gathering.now = Gathered(*gathered)
+                gathering.follow(change)
+                self.assertEqual(gathering.now, wanted)
 
     def test_an_engine_does_with_edits_that_cross_what_the_vectors_say(self) -> None:
         writer = Writer(Plain(bytes(16)), 1, random.Random(1))

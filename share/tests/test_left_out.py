@@ -55,11 +55,14 @@ class Three(Case):
         written(anna, SENTENCE)
         link = self.anna.link()
         bob = self.bob.open(link=link)
+        self.assert_comes_to(bob, SENTENCE.encode())
+        type_at_the_end(bob, "")
         bob.moved_to(len("Dear all"))
         bob.type(" of you")
         written(bob, "Bob. ")
-        for note in anna, bob, self.carol.open(link=link):
+        for note in anna, bob:
             note.session.close()
+        self.carol.reads(link)
         self.assertEqual(shown(self.carol), ("Dear all of you, we meet at ten. Bob. ", []))
         return anna.session.number
 
@@ -73,7 +76,7 @@ class Taken(Three):
         wait_for(lambda: (anna.take_in(), bytes(anna.text) == SENTENCE.encode())[1], "it to be made anew")
         written(anna, "")
         anna.session.close()
-        self.carol.open().session.close()
+        self.carol.reads()
         take(self.anna, anna.session.number)
         shutil.rmtree(self.anna.data)
         self.run_as(self.carol, "recover", "--lost", "note")
@@ -92,7 +95,7 @@ class Taken(Three):
         # Others see that it is there again.
         link = self.anna.link()
         for person in self.carol, self.person("dora"):
-            person.open(link=link).session.close()
+            person.reads(link)
             self.assertEqual(shown(person), (before, []))
             self.assertEqual(self.run_as(person, "recover", "--lost", "note"), "Nothing was left out.\n")
             self.assertEqual(shown(person), (before, []))
@@ -158,7 +161,7 @@ class Taken(Three):
         other = claim_of(form, site, author)
         with contextlib.closing(self.anna.log()) as log:
             log.append([other.raw, entry_of(form, other, typed_at(site, b"Another's. "), author).raw])
-        self.carol.open().session.close()
+        self.carol.reads()
         while len({one["own"] for one in left_out(self.carol) if one["site"] == site}) < 1 or len(
                 [one for one in left_out(self.carol) if one["site"] == site]) < 2:
             take(self.anna, site)
@@ -184,7 +187,7 @@ class Taken(Three):
 
     def test_two_who_type_it_again_at_once(self) -> None:
         site = self.begun()
-        self.person("dora").open(link=self.anna.link()).session.close()
+        self.person("dora").reads(self.anna.link())
         take(self.anna, site)
         notes = [self.opened(person) for person in (self.carol, self.person("dora"))]
         for note in notes:

@@ -11,6 +11,7 @@ from functools import partial
 from typing import Any
 from unittest import mock
 
+from share.admission.judges import judge_of
 from share.admission.ledger import Row
 from share.admission.letters import Letters
 from share.format.chunk import packed
@@ -138,7 +139,9 @@ class Alike(Case):
         author = next(one for one in authors if one.name == of.author)
         if chance.random() < 0.5:
             return form.anew_up_to(of.name, author, of.site, of.text)
-        said = Copied(of.author, of.site, by.author, by.site, ((of.first, by.first, 1),), chance.choice([NO_HASH, by.name]))
+        # The last one of the copies may be said to come later than any of them.
+        lasts = [one.name for one in made if (one.author, one.site, one.text) == (by.author, by.site, by.text) and one.last >= by.first]
+        said = Copied(of.author, of.site, by.author, by.site, ((of.first, by.first, 1),), chance.choice([NO_HASH, by.name, lasts[-1]]))
         return form.copies(said, author, of.site, chance.choice([NO_HASH, of.name]), of.text)
 
     def assert_alike(self, path: pathlib.Path, chance: random.Random) -> int:
@@ -204,6 +207,52 @@ class Cost(unittest.TestCase):
         self.assertEqual([[*map(len, [one])] for one in letters.put_letters_together(form, kept)], [[200], [198]])
         again = [*kept[:100], *self.rows(jumps=False)[1][100:]]
         self.assertEqual([*letters.put_letters_together(form, again)], [again])
+
+
+class Told(unittest.TestCase):
+    """What was told of messages that were left out, as more come."""
+
+    def setUp(self) -> None:
+        about, rows, (client,) = begun(None, form_number=SECOND)
+        with mock.patch.dict(os.environ, VIALSHOAL_ZERO_BITS="0"):
+            form = about.form()
+        assert isinstance(form, RecordForm)
+        self.form, opening = form, rows[0].entry
+        # Of two messages of hers one is left out, and she says that the first letter of another author stands for it, up to his last one.
+        first, second = (self.letter(opening, client.author, client.site, 1, data) for data in (b"x", b"y"))
+        lost = max(first, second, key=lambda one: one.name)
+        author = form.new_author()
+        claim = claim_of(form, 65_000, author)
+        self.letters = [self.letter(claim, author, claim.site, 1, lost.messages[0].data)]
+        while len(self.letters) < 20:
+            self.letters.append(self.letter(self.letters[-1], author, claim.site, len(self.letters) + 1, b"z"))
+        said = Copied(lost.author, lost.site, author.name, claim.site, ((1, 1, 1),), self.letters[-1].name)
+        word = form.copies(said, client.author, client.site, lost.name)
+        self.judge = judge_of(form, [opening, claim, first, second, word, self.letters[0]])
+        self.judge.count()
+        self.assertEqual([(one.site, one.author) for one in self.judge.left_out()], [(lost.site, lost.author)])
+
+    def letter(self, before: Entry, author: Author, site: int, seq: int, data: bytes) -> Entry:
+        """A letter that is typed on."""
+        part = packed([Operation(INSERT, site, seq, seq, 1, (Names(site, seq - 2, 1),) if seq > 1 else (), seq - 1, data, PLAIN_LOOKS)])
+        assert part
+        return self.form.entry(before, part, author)
+
+    def test_it_hangs_on_the_last_one_of_the_copies_read_together(self) -> None:
+        rows = [(place, one.hash, one.raw, None, 0, 1) for place, one in enumerate(self.letters[1:], 1)]
+        (together,) = letters.put_letters_together(self.form, rows)
+        assert isinstance(together, Letters)
+        self.assertTrue(self.judge.extend(together))
+        self.assertEqual(self.judge.left_out(), [])
+
+    def test_it_hangs_on_the_last_one_of_the_copies_in_a_run(self) -> None:
+        self.assertTrue(self.judge.extend([Row(0, one, False) for one in self.letters[1:]]))
+        self.assertEqual(self.judge.left_out(), [])
+
+    def test_it_hangs_on_the_last_one_of_the_copies_by_itself(self) -> None:
+        for one in self.letters[1:]:
+            self.judge.add(one)
+        self.assertEqual(self.judge.left_out(), [])
 
 
 if __name__ == "__main__":

@@ -142,8 +142,9 @@ class Shown(Engines):
 
     def test_other_peoples_looks(self) -> None:
         first = self.editor("ada", log=self.file_log(), looks=True)
-        wait_for(lambda: (first.read(0.02), first.notices("state")[-1:] and first.notices("state")[-1]["types"])[1], "a number")
+        first.gets_number()
         second = self.editor("bo", link=self.person("ada").link(), looks=True)
+        second.gets_number()
         first.edit((0, 0, "one\n"))
         second.shows("one\n")
         self.set(second, [0, 3], **BOLD_RED)

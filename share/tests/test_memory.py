@@ -12,7 +12,7 @@ from unittest import mock
 from share.admission.chains import rank
 from share.admission.judge import Judge
 from share.admission.ledger import Row
-from share.format.entry import Author, Entry, Plain
+from share.format.entry import Author, Copied, Entry, Plain
 from share.format.sealed import Sealed
 from share.store.note_file import About, make_note
 from share.store.own import Client
@@ -167,6 +167,34 @@ class Room(unittest.TestCase):
         judge.add(other)
         self.assertEqual(len(judge.count().messages), 0)
         self.assertEqual((all(entry.hash in judge for entry in one.made), judge.dropped()), (True, []))
+
+    def said(self, one: Claimed, many: int) -> Sequence[Entry]:
+        """What somebody says, each of many messages that were copied."""
+        site, stretches = one.claim.site, tuple((3 * seq, 2 * seq, 1) for seq in range(1, 50))
+        said = Copied(one.author.name, site, one.author.name, site, stretches)
+        return [FORM.copies(said, one.author, site, bytes([1, at // 256, at % 256, 9]) * 8) for at in range(many)]
+
+    def test_what_is_said_of_copies_has_a_part_too(self) -> None:
+        ada, bob, eve, stranger = (Claimed(site, 3) for site in range(1, 5))
+        strangers, eves, bobs, adas = self.said(stranger, 300), self.said(eve, 300), self.said(bob, 1), self.said(ada, 100)
+        judge = Judge([one.claim for one in (ada, bob, eve)], room=2**20)
+        for entry in [*strangers, *eves, *bobs]:
+            judge.add(entry)
+        # Whoever says more than there is room for takes nothing from who holds another number.
+        self.assertTrue(bobs[0].hash in judge)
+        for some in strangers, eves:
+            self.assertTrue(0 < sum(entry.hash in judge for entry in some) < 20, "what is said is bounded")
+        left_out = {entry.hash for entry in [*strangers, *eves] if entry.hash not in judge}
+        self.assertEqual({row.entry.hash for row in judge.dropped()}, left_out)
+        # It has no other turn: nothing makes room for it.
+        for entry in eve.made:
+            judge.add(entry)
+        judge.count()
+        self.assertEqual((judge.turns(), judge.front(eve.claim.site)), (set(), len(eve.made)))
+        # What is said here is always kept.
+        for entry in adas:
+            judge.add(entry, made=True)
+        self.assertTrue(all(entry.hash in judge for entry in adas))
 
     def test_nobody_keeps_what_only_a_newer_version_knows(self) -> None:
         one = Claimed(1, 0)

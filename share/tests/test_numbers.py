@@ -256,7 +256,9 @@ class Numbers(Case):
         self.assertEqual(self.anna.text(), b"one two three four five ")
 
     def test_a_number_that_another_editor_has_seen_in_the_log(self) -> None:
-        self.begun()
+        # There is none that was claimed in advance.
+        with mock.patch.object(OwnNumbers, "claim_in_advance"), mock.patch.object(OwnNumbers, "keep_found"):
+            self.begun()
         first, stands = self.opened(self.anna), Replicator.stands
 
         def stands_there(replicator: Replicator, entry: Entry) -> bool:
@@ -308,7 +310,9 @@ class Numbers(Case):
     def test_entries_under_my_number_while_i_am_off(self) -> None:
         self.begun()
         with contextlib.closing(self.anna.disk()) as disk:
-            (client,) = [one for one in disk.own.clients() if not one.retired]
+            # Another one may have been found ahead.
+            typed = {row.entry.site for row in disk.entries.rows() if row.made and row.entry.size}
+            (client,) = [one for one in disk.own.clients() if not one.retired and one.site in typed]
             form, log = disk.form, self.log()
         claim = form.claim(client.site, client.author)
         forged = Program(client.site)

@@ -12,7 +12,7 @@ import threading
 import unittest
 from collections.abc import Callable
 
-from share.store import naming, nicknames, notes
+from share.store import naming, nicknames, notes, seen
 from share.store.locks import Locks
 from share.tests.editors import Editor
 from share.tests.support import NOTE, Case, Person, engine_of, type_at_the_end, wait_for, written
@@ -21,6 +21,7 @@ from share.text.errors import Trouble
 
 # More than renaming or deleting makes that change the disk.
 MOST_CALLS = 40
+LOOKS = [seen.Look(5, {7: seen.Front(1, bytes(32))})]
 
 
 def killed_at(number: int, does: Callable[[], None]) -> bool:
@@ -57,12 +58,13 @@ class OfFiles(Case):
         return run
 
     def made(self, person: Person, name: str = "note", words: str = "one two\n", url: str | None = None) -> None:
-        """Makes a note with words, with a packed file, a copy that was set aside, and people."""
+        """Makes a note with words, with a packed file, a copy that was set aside, people, and a look."""
         note = person.open(name, url)
         written(note, words)
         note.session.close()
         with person.here():
             nicknames.remember(name, {7: "Ada"})
+            seen.keep_looks(name, b"", LOOKS)
         packed = person.path(name).with_suffix(".packed") / "7"
         packed.mkdir(parents=True)
         (packed / "texts").write_text(words)
@@ -190,9 +192,9 @@ class Named(OfFiles):
         self.assertIn("note.note.damaged-1 keeps its name", self.run_as(ann, "rename", "note", "plan.b").stderr)
         self.assertEqual(ann.link("plan.b"), link)
         with ann.here():
-            self.assertEqual(nicknames.known("plan.b"), {7: "Ada"})
+            self.assertEqual((nicknames.known("plan.b"), seen.looks_at("plan.b", b"")), ({7: "Ada"}, LOOKS))
         self.assertEqual({path.name for path in ann.path().parent.iterdir()},
-                         {"note.note.damaged-1", "plan.b.lock", "plan.b.note", "plan.b.packed", "plan.b.people"})
+                         {"note.note.damaged-1", "plan.b.lock", "plan.b.note", "plan.b.packed", "plan.b.people", "plan.b.seen"})
         self.assert_is(ann, "plan.b")
         # Nobody else takes part in it, and what is typed goes on under the same number.
         with contextlib.closing(ann.disk("plan.b")) as disk:

@@ -155,8 +155,8 @@ class Writing(Pages):
 
     def setUp(self) -> None:
         super().setUp()
-        self.first.run(f"{MIRROR}.setValue('')")
-        self.second.shows("")
+        # Keys that waited for an answer may come after it.
+        wait_for(lambda: (self.first.run(f"{MIRROR}.setValue('')"), self.second.text() == self.first.text() == "")[1], "an empty text")
 
     def tearDown(self) -> None:
         self.assert_kept(self.data, self.first, self.second)

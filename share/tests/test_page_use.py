@@ -11,7 +11,7 @@ import tempfile
 import threading
 import unittest
 
-from share.tests.pages import Pages, Server
+from share.tests.pages import FAULTS_OF_LOOKS, Pages, Server
 from share.tests.support import NOTE, wait_for
 
 try:
@@ -46,40 +46,6 @@ NAME_PLACE = """((flag) => {
   const bottom = box.bottom - ink.fontBoundingBoxDescent + ink.actualBoundingBoxDescent;
   return flag.getBoundingClientRect().top - bottom;
 })(document.querySelector('.caret b'))"""
-# What is too small for a finger, wider than the page, or hard to read.
-FAULTS_OF_LOOKS = """((isPhone) => {
-  const faults = [];
-  const isSeen = (one) => one.checkVisibility() && one.getBoundingClientRect().width > 1;
-  const shown = [...document.querySelectorAll('body *')].filter(isSeen);
-  if (document.documentElement.scrollWidth > innerWidth) faults.push('wide');
-  const touched = 'button, select, input:not([type=checkbox]), #finding label, #follow';
-  for (const one of isPhone ? shown.filter((it) => it.matches(touched)) : []) {
-    const { width, height } = one.getBoundingClientRect();
-    if (width < 43.9 || height < 43.9) faults.push(`${one.id} ${width}x${height}`);
-  }
-  const canvas = document.createElement('canvas').getContext('2d', { willReadFrequently: true });
-  const over = (below, colour) => {
-    canvas.fillStyle = `rgb(${below.join(',')})`;
-    canvas.fillRect(0, 0, 1, 1);
-    canvas.fillStyle = colour;
-    canvas.fillRect(0, 0, 1, 1);
-    return [...canvas.getImageData(0, 0, 1, 1).data.slice(0, 3)];
-  };
-  const below = (one) => over(one.parentElement ? below(one.parentElement) : [255, 255, 255], getComputedStyle(one).backgroundColor);
-  const light = (rgb) => rgb.map((one) => one / 255).map((one) => (one <= 0.03928 ? one / 12.92 : ((one + 0.055) / 1.055) ** 2.4))
-    .reduce((sum, one, at) => sum + one * [0.2126, 0.7152, 0.0722][at], 0);
-  for (const one of shown.filter((it) => [...it.childNodes].some((node) => node.nodeType === 3 && node.data.trim()))) {
-    if (one.closest('.caret, .unseen, select') || one.disabled) continue;
-    const paper = below(one);
-    const [dark, pale] = [light(paper), light(over(paper, getComputedStyle(one).color))].sort();
-    const contrast = (Math.max(dark, pale) + 0.05) / (Math.min(dark, pale) + 0.05);
-    if (contrast < 4.5) faults.push(`${one.id || one.className || one.tagName} ${contrast}`);
-  }
-  const em = parseFloat(getComputedStyle(document.querySelector('main .CodeMirror')).fontSize);
-  const measure = document.querySelector('main .CodeMirror-lines').getBoundingClientRect().width / em;
-  if (measure > 46.01) faults.push(`${measure} em`);
-  return faults;
-})(arguments[0])"""
 # Markdown that would load or run something, where HTML were taken over, or an address of it; HOST counts who asks it.
 HOSTILE = """# hostile
 <script>document.title = 'bad'</script><script src="http://HOST/script.js"></script>
@@ -257,8 +223,9 @@ class Using(Pages):
         self.put("jumping quickly\nbelow\n")
         second.to(9)
         second.to(20)
-        first.wait_for("document.querySelector('.caret.moved') && getComputedStyle(document.querySelector('.caret b')).opacity === '1'")
-        self.assertGreaterEqual(first.run(NAME_PLACE), 0)
+        # It may be seen first where the cursor was before.
+        first.wait_for("document.querySelector('.caret.moved') && getComputedStyle(document.querySelector('.caret b')).opacity === '1' "
+                       f"&& {NAME_PLACE} >= 0")
         first.wait_for("document.querySelector('.caret:not(.moved)') && "
                        "getComputedStyle(document.querySelector('.caret b')).opacity === '0'")
         second.type("x")
@@ -352,12 +319,13 @@ class Using(Pages):
             reached.append(first.run("document.activeElement.id"))
             if reached[-1] == "notes":
                 break
-        self.assertEqual(reached, ["history", "format", "writers", "replace", "find", "colour", "bold", "redo", "undo", "notes"])
+        self.assertEqual(reached, ["changed", "remarks", "suggesting", "suggest", "remark", "history", "format", "writers", "replace",
+                                   "find", "colour", "bold", "redo", "undo", "notes"])
         first.type(Keys.ENTER)
         first.wait_for("document.getElementById('listed').open && document.activeElement.id === 'wanted'")
         first.type(Keys.ESCAPE)
         first.wait_for("!document.getElementById('listed').open")
-        for _ in range(11):
+        for _ in range(16):
             first.type(Keys.TAB)
         first.type("y", Keys.TAB, "z")
         self.second.shows("x\ty\tz\n")

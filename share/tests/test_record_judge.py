@@ -18,8 +18,9 @@ from share.format.second.form import PlainRecords, RecordForm, SealedRecords
 from share.format.second.keys import Founding
 from share.format.second.record import Record, RecordKind
 from share.format.second.signature import public_of
+from share.program import retyping
 from share.tests.counting import instructions
-from share.tests.naive_second import Answer, Saying, Why, before_of, searched
+from share.tests.naive_second import Answer, Saying, is_loose, searched
 from share.tests.record_agreement import Judged, agrees_on_records, in_parts, record_differences, with_little_room
 from share.tests.second_agreement import Reader, Typed, operation, parts
 from share.tests.test_message_judge import MOST_BYTES_OF_A_LETTER, MOST_TIMES, SEEDS, sets, tries
@@ -134,7 +135,7 @@ class Agreement(unittest.TestCase):
             through = answer.through.get(last.place, [])
             self.assertEqual(judge.front_up_to(last.author, last.message.site, last.hash, last.message.text),
                              len([said for said in through if said in path and said.author == last.author]))
-            self.assertEqual(judge.is_loose(last.hash), before_of(answer, last) is Why.LOOSE)
+            self.assertEqual(judge.is_loose(last.hash), is_loose(answer, last))
 
     def path(self, answer: Answer, last: Saying) -> list[Saying]:
         """A message and those before it, as far as they are here."""
@@ -294,14 +295,28 @@ class Lacking(unittest.TestCase):
         everything = RecordJudge([opening, *records, *letters, *others], form=form)
         judge = RecordJudge([letters[6], letters[3], others[4]], form=form)
         for _ in range(30):
-            self.assertEqual(judge.is_lacking(), bool(judge.missing(9)))
-            for name in judge.missing(2):
+            self.assertEqual(judge.is_lacking(), bool([*judge.missing()]))
+            for name in [*judge.missing()][:2]:
                 row = everything.row(name)
                 assert row
                 judge.add_new(row)
-        self.assertEqual((judge.missing(9), judge.is_lacking(), judge.loose(), judge.begun()), ([], False, [], True))
+        self.assertEqual(([*judge.missing()], judge.is_lacking(), judge.loose(), judge.begun()), ([], False, [], True))
         self.assertEqual((judge.front(1), judge.front(2), judge.front(7)), (7, 4, 4))
         self.assertEqual(judge.claimed(), {1, 2, 7})
+
+    def test_what_goes_on_from_the_base_is_left_out(self) -> None:
+        ada, eve = Author(bytes([1]) * 32, b""), Author(bytes([2]) * 32, b"")
+        base = Writer(PlainRecords(bytes(32), 0), ada, 7)
+        form, opening, founding, records = based(ada, [run for record in base.type(b"base") for run in record.operations])
+        more = Operation(INSERT, 7, 5, 9, 1, (), 4, b"!", PLAIN_LOOKS)
+        for before in founding.root, bytes(31) + b"?":
+            # Nothing that comes could make it count: the numbers of the base are nobody's.
+            judge = RecordJudge([opening, *records[1:], form.messages(whole(more, 4), before, eve, {})], form=form)
+            self.assertEqual((judge.incomplete(), judge.left_out()), (1, []))
+            judge.add(records[0])
+            self.assertEqual(judge.incomplete(), 0)
+            self.assertEqual([(one.site, one.author, one.first, one.last) for one in judge.left_out()], [(7, eve.name, 5, 5)])
+            self.assertEqual([one.text for one in retyping.lost(judge)], [b"!"])
 
     def test_what_nobody_claims_waits_where_the_number_is_free_alone(self) -> None:
         ada, bob, eve = (Author(bytes([number]) * 32, b"") for number in (1, 2, 3))
@@ -314,7 +329,7 @@ class Lacking(unittest.TestCase):
         self.assertEqual((judge.front(2), judge.incomplete()), (3, 0))
         self.assertEqual([(one.site, one.author, one.messages) for one in judge.left_out()], [(1, eve.name, 8), (2, eve.name, 8)])
         # A claim may have been lost, so it is asked for all the same.
-        self.assertEqual(judge.missing(9), [form.keys.claim_name(eve.name, site) for site in (1, 2)])
+        self.assertEqual([*judge.missing()], [form.keys.claim_name(eve.name, site) for site in (1, 2)])
 
 
 def based(author: Author, messages: Sequence[Operation]) -> tuple[PlainRecords, Record, Founding, list[Record]]:

@@ -7,9 +7,11 @@ from collections import defaultdict
 from collections.abc import Iterable, Iterator
 from typing import NamedTuple
 
+from share.cli import installing
+
 TOP = pathlib.Path(__file__).resolve().parents[1]
 # From the lowest one up, as share/__init__.py has them.
-ROOMS = ("text", "format", "admission", "log", "program", "store", "sync", "engine", "editors", "cli")
+ROOMS = ("text", "format", "admission", "review", "log", "program", "store", "sync", "engine", "editors", "cli")
 FUNCTIONS = ast.FunctionDef, ast.AsyncFunctionDef
 DEFINITIONS = *FUNCTIONS, ast.ClassDef
 MOST_LINES_OF_A_CLASS, MOST_LINES_OF_A_FUNCTION, MOST_LINES_OF_A_MODULE = 250, 40, 800
@@ -105,6 +107,9 @@ class Rooms(unittest.TestCase):
         for one in modules():
             if len(one.path.parts) > 1:
                 self.assertEqual(upward(one), [], one.path)
+
+    def test_all_folders_are_installed(self) -> None:
+        self.assertEqual(installing.ROOMS, ROOMS)
 
     def test_share_itself_has_nothing_but_its_folders(self) -> None:
         self.assertEqual({path.name for path in TOP.glob("*.py")}, {"__init__.py", "__main__.py"})

@@ -288,7 +288,7 @@ class WhatCounts(unittest.TestCase):
 
     def test_the_sets_have_all_that_can_be(self) -> None:
         found, through, folded, copied = Counter[Why](), Counter[Place](), 0, 0
-        for seed in range(150):
+        for seed in range(200):
             chance = random.Random(seed)
             steps = ["claim"] * 6 + ["begin"] * 3 + chance.choices(STEPS, k=30)
             one = Set([(step, chance.randrange(2**16)) for step in steps], chance.random() < 0.5)

@@ -33,6 +33,8 @@ OTHER = "other-"
 NUMBER_BITS, ALL = 16, frozenset(range(1 << 16))
 # A note and an author of a search that comes to the same each time, and how many counters are tried.
 SOME_NOTE, SOME_AUTHOR, TRIES = b"some other note.", b"somebody who searches for numbers", 1 << 18
+# How many claims of a number somebody finds, of which the best is made.
+CLAIMS = 4
 
 
 class OfSecondForm(Case):
@@ -104,8 +106,8 @@ class AfterRenewing(OfSecondForm):
         """What is right by itself, and takes a copied number: the best of some claims, messages in the place of those that were copied and
         behind them, and others of the base, which whoever has the link can write."""
         author, last = form.new_author(), [one for one in base if one.site == site][-1]
-        tried = (one.counter for one in found_among(range(TRIES), form.note, author.name, ALL - {site}, 0))
-        yield form.claim(site, author, min(tried, key=lambda counter: rank_of(form.note, author.name, counter)))
+        some = itertools.islice(found_among(itertools.count(), form.note, author.name, ALL - {site}, 0), CLAIMS)
+        yield form.claim(site, author, min((one.counter for one in some), key=lambda counter: rank_of(form.note, author.name, counter)))
         (message, *_), spam = last.messages, Operation(INSERT, site, 1, 1, 4, (), 0, b"SPAM", PLAIN_LOOKS)
         yield form.messages(one_part(spam), NO_HASH, author)
         yield form.messages(one_part(after(last, b"SPAM")), last.links[-1], author)
@@ -136,8 +138,9 @@ class AfterRenewing(OfSecondForm):
             note.session.close()
         for person in self.ann, self.carol:
             self.assertEqual(self.run_as(person, "cat", "note", status=MISSING), "one two three four five six ")
-            self.assertEqual(self.said.count("Left out"), 1, self.said)
-            self.assertEqual(self.said.count("4 characters"), 2, self.said)
+            # All of it is: nothing that comes could make what was written behind the base count.
+            self.assertEqual((self.said.count("Left out"), self.said.count("\n")), (1, 1), self.said)
+            self.assertEqual(self.said.count("8 characters"), 2, self.said)
 
     def test_no_claim_takes_away_what_was_copied(self) -> None:
         self.claimed("2")

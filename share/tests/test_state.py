@@ -1,5 +1,6 @@
 """What is read of a note's file: in parts, with what was withdrawn left out, and with what has no room read again in its turn."""
 import contextlib
+import itertools
 import math
 import random
 import sqlite3
@@ -13,10 +14,12 @@ from share.log.bell import Bell
 from share.store.entries import Entries
 from share.store.guarded import Damaged, Unkept
 from share.store.note_file import About, Disk, make_note
-from share.store.own import Client
+from share.store.own import Client, OwnTables
 from share.sync.handover import Handover
 from share.sync.known import Known
+from share.sync.open_file import OpenFile
 from share.sync.state import Holdings
+from share.sync.status import Notices
 from share.tests.naive import entry_of, inserting
 from share.tests.support import Case
 
@@ -90,6 +93,55 @@ class Read(Case):
             for found in self.read(holdings), self.read(Holdings(self.disk.form, Handover())):
                 self.assertEqual((found.judge.front(1), found.judge.front(2)), (1, 100))
                 self.assertEqual(found.waiting_for_room(), 0)
+
+    def test_what_has_no_room_is_read_again_a_part_at_a_time(self) -> None:
+        self.disk.keep([self.others_claim, *self.others[1:]], False)
+        parts, row_at = list[int](), Entries.row_at
+
+        def counting(entries: Entries, place: int) -> Row | None:
+            parts[-1] += 1
+            return row_at(entries, place)
+
+        with mock.patch("share.sync.state.MOST_UNCOUNTED_BYTES", 60_000), mock.patch.object(Entries, "row_at", counting):
+            holdings = self.read(Holdings(self.disk.form, Handover()))
+            waited = holdings.waiting_for_room()
+            self.disk.keep([self.others[0]], False)
+            while not parts or holdings.has_more:
+                parts.append(0)
+                holdings.read(self.disk, 5_000)
+                holdings.count()
+        self.assertEqual((holdings.judge.front(2), sum(parts)), (100, waited))
+        # Each has a thousand letters and some bytes.
+        self.assertEqual(max(parts), 5)
+
+    def test_what_has_no_room_comes_where_it_could_not_be_read_at_first(self) -> None:
+        self.disk.keep([self.others_claim, *self.others[1:]], False)
+        row_at, many = Entries.row_at, itertools.count(1)
+
+        def busy(entries: Entries, place: int) -> Row | None:
+            if next(many) == 20:
+                raise Unkept("it takes too long")
+            return row_at(entries, place)
+
+        with mock.patch("share.sync.state.MOST_UNCOUNTED_BYTES", 60_000), mock.patch.object(Entries, "row_at", busy):
+            holdings = self.read(Holdings(self.disk.form, Handover()))
+            self.disk.keep([self.others[0]], False)
+            with self.assertRaises(Unkept):
+                self.read(holdings)
+            self.assertTrue(holdings.has_more)
+            self.assertEqual(self.read(holdings).judge.front(2), 100)
+
+    def test_what_came_is_told_also_where_the_file_can_not_be_looked_at_then(self) -> None:
+        file = OpenFile(self.disk, Holdings(self.disk.form, Handover()), Notices())
+        file.read_all()
+        file.moved = lambda _: None
+        with contextlib.closing(self.disk.again()) as other:
+            other.keep([self.others_claim], False)
+        busy = mock.patch.object(Entries, "size", side_effect=Unkept("it takes too long"))
+        with mock.patch("share.sync.open_file.TAKEN_OUT_SECONDS", 0), busy:
+            found = file.read()
+        self.assertTrue(file.unread)
+        self.assertEqual([row.entry for run in (*found, *file.read()) for row in run], [self.others_claim])
 
     def test_what_takes_part_in_memory_is_written_as_it_was(self) -> None:
         self.disk.keep([self.others_claim, *self.others[::-1]], False)
@@ -214,6 +266,21 @@ class Handed(Case):
         self.assertEqual((len(self.holdings.rows), self.carried.looked), (0, 0))
         self.comes(entries)
         self.read_all()
+        self.assert_as_in_the_file()
+
+    def test_what_was_taken_before_the_file_could_not_be_read_is_read_there(self) -> None:
+        mine, others = self.author(1, 3), self.author(2, 3)
+        self.disk.keep(mine[:1], True, client=Client(1, Author(mine[0].author, b""), stood=True))
+        self.read_all()
+        faults = (Entries, "read"), (Entries, "withdrawn"), (OwnTables, "clients")
+        for (where, what), own, other in zip(faults, mine[1:], others):
+            self.comes([other])
+            self.disk.keep([own], True)
+            with self.subTest(what):
+                with mock.patch.object(where, what, side_effect=Unkept("it takes too long")), self.assertRaises(Unkept):
+                    self.holdings.read(self.disk)
+                self.read_all()
+                self.assertEqual(len(self.holdings.rows), self.disk.entries.size())
         self.assert_as_in_the_file()
 
     def test_rows_of_a_file_that_another_took_the_place_of_are_not_taken(self) -> None:

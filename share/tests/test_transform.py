@@ -12,7 +12,7 @@ from share.engine.protocol import Wrong
 from share.engine.transform import Transformer
 from share.text import rope
 from share.text.change import Change, boundary
-from share.text.delta import Op, Replacement, composed, growth, in_text, in_turn, moved, of_changes, transformed
+from share.text.delta import Op, Replacement, composed, growth, in_text, in_turn, kept_between, moved, of_changes, transformed
 from share.text.line import Line
 from share.text.names import Names, united, without
 from share.text.rope import Measured, OutsideText, Split, readable, swapped
@@ -227,6 +227,32 @@ class Parts(unittest.TestCase):
             for position in -1, ends[-1] + 1:
                 with self.assertRaises(OutsideText):
                     text.place(position, units)
+
+    def test_what_is_kept_of_a_stretch(self) -> None:
+        chance = random.Random(7)
+        for _ in range(2_000):
+            size = chance.randrange(9)
+            text = "".join(chance.choice("ab") for _ in range(size))
+            changes, length = [], size
+            for _ in range(chance.randrange(4)):
+                begin, end = sorted(chance.randint(0, length) for _ in range(2))
+                new = chance.choice(["", "x", "xy"])
+                changes.append((begin, end, UNITS["utf-32"].encode(new)))
+                length += len(new) - (end - begin)
+            op = of_changes(changes, UNITS["utf-32"])
+            # Each unit by itself, and where it went.
+            now, at = list[int](), 0
+            for part in (*op, size):
+                if isinstance(part, bytes):
+                    now += [-1] * UNITS["utf-32"].count(part)
+                else:
+                    now += [*range(at, min(at + part, size))] if part > 0 else []
+                    at += abs(part)
+            begin, end = sorted(chance.randint(0, size) for _ in range(2))
+            found = kept_between(begin, end, op, UNITS["utf-32"])
+            self.assertEqual([place for first, last in found for place in range(first, last)],
+                             [place for place, unit in enumerate(now) if begin <= unit < end], (text, op, begin, end))
+            self.assertTrue(all(one[1] < other[0] for one, other in zip(found, found[1:])))
 
     @staticmethod
     def one_by_one(names: Iterable[Names]) -> list[tuple[int, int]]:

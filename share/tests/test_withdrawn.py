@@ -14,7 +14,7 @@ from share.format.entry import digest
 from share.log.sqlite import SqliteLog
 from share.log.sqlite_file import SqliteFile
 from share.sync.known import Known
-from share.sync.numbers import Numbers
+from share.sync.rebasing import Rebaser
 from share.tests.naive import entry_of
 from share.tests.note import Note
 from share.tests.support import Case, ons_of, type_at_the_end, wait_for, written
@@ -122,7 +122,7 @@ class CopiedUnsent(Case):
             numbers, replicator = note.session._numbers, note.session._replicator
             read, times = mock.Mock(), 5
             with (mock.patch.object(Known, "read_from_front", read),
-                  mock.patch.object(Numbers, "withdraw", autospec=True, side_effect=Numbers.withdraw) as withdraw):
+                  mock.patch.object(Rebaser, "withdraw", autospec=True, side_effect=Rebaser.withdraw) as withdraw):
                 for _ in range(times):
                     wait_for(lambda: not any(map(replicator.has, self.waited)), "it to be seen that the log lacks it")
                     numbers.is_settled = False

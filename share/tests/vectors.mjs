@@ -120,10 +120,27 @@ function replaceAll() {
   assert.deepEqual(sent.flatMap((line) => line.changes), changes);
 }
 
+/** That whoever asks hears whether places in an answer are still those of the text, and alone of a fault where he says so. */
+async function asks() {
+  const [sent, shown] = [[], new Shown("tea")];
+  const client = new Client({ version: 0, edits: 0 }, (line) => sent.push(line), viewOf(shown));
+  const asked = [client.askOf({ do: "who", begin: 0, end: 3 }), client.ask({ do: "reply" }, true), client.ask({ do: "on" })];
+  assert.deepEqual(sent.map((line) => line.version), [0, undefined, undefined]);
+  client.take({ answer: "who", id: sent[0].id, edits: 0 });
+  const who = await asked[0];
+  assert.equal(who.isOld(), false);
+  client.take({ notice: "changes", version: 1, edits: 0, changes: [[0, 0, "a"]] });
+  assert.equal(who.isOld(), true);
+  client.take({ answer: "reply", id: sent[1].id, error: "thread", words: "quiet" });
+  assert.deepEqual([(await asked[1]).error, shown.words], ["thread", ""]);
+  client.take({ answer: "on", id: sent[2].id, error: "failed", words: "loud" });
+  assert.deepEqual([(await asked[2]).error, shown.words], ["failed", "loud"]);
+}
+
 let failed = 0;
-function run(name, test) {
+async function run(name, test) {
   try {
-    test();
+    await test();
   } catch (why) {
     failed += 1;
     console.log(`${name}: ${why.message}`);
@@ -131,9 +148,10 @@ function run(name, test) {
 }
 
 const cases = JSON.parse(readFileSync(VECTORS, "utf8")).cases.filter((one) => ["any", "utf-16"].includes(one.units));
-for (const one of cases) run(one.name, () => play(one));
-run("lines in pieces", cut);
-run("a reader", read);
-run("very many changes", replaceAll);
+for (const one of cases) await run(one.name, () => play(one));
+await run("lines in pieces", cut);
+await run("a reader", read);
+await run("very many changes", replaceAll);
+await run("answers", asks);
 console.log(`${cases.length} cases, ${failed} failed`);
 process.exit(failed ? 1 : 0);

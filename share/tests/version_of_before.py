@@ -77,7 +77,7 @@ def links_of_second_form(person: Person) -> list[str]:
 def opened(note: str, data: pathlib.Path, **more: Any) -> Editor:
     """An editor by a version's command, which has a number."""
     editor = Editor(data, command=[note], **more)
-    editor.wait_for(lambda: editor.notices("state") and editor.notices("state")[-1]["types"], "a number")
+    editor.gets_number()
     return editor
 
 

@@ -1,0 +1,633 @@
+"""Remarks, suggestions and what has changed, as two people see them in Chromium."""
+from __future__ import annotations
+
+import pathlib
+import shutil
+import tempfile
+import unittest
+
+from share.tests.editors import Editor
+from share.tests.pages import FAULTS_OF_LOOKS, Pages, Server
+from share.tests.support import Person, wait_for
+
+try:
+    from selenium.common.exceptions import StaleElementReferenceException
+    from selenium.webdriver.common.keys import Keys
+
+    from share.tests.browser import CHROMIUM, DRIVER, MIRROR, Browser, Window
+    IS_HERE = bool(CHROMIUM and DRIVER)
+except ModuleNotFoundError:
+    IS_HERE = False
+
+BROWSER: Browser
+SECOND = {"VIALSHOAL_FORM": "2", "VIALSHOAL_ZERO_BITS": "0"}
+TEXT = "# Picnic\n\nWe meet by the mill at ten.\n\n" + "".join(f"Line {number} of what is to be brought.\n" for number in range(80))
+# What the cards say, one after the other.
+CARDS = "[...document.querySelectorAll('.card')].map((one) => one.textContent)"
+BUTTONS = "[...document.querySelectorAll('.card.active button')].filter((one) => one.checkVisibility())"
+BODIES = "JSON.stringify([...document.querySelectorAll('.card .body')].map((one) => one.textContent)) === JSON.stringify(words[0])"
+MARKED = """JSON.stringify([...document.querySelectorAll('main .remarked')].map((one) => one.textContent)) === JSON.stringify(words[0])"""
+IS_IN_TEXT = "document.activeElement.getAttribute('role') === 'textbox'"
+FOCUSED_CARD = "document.activeElement.classList.contains('card') && document.activeElement.textContent.includes(words[0])"
+STATE = "document.querySelector('.card.active .state')?.textContent === words[0]"
+SAYS = "document.getElementById('words').textContent.includes(words[0])"
+# How far the cards are from their lines, and whether they overlap.
+PLACES = """((lines) => {
+  const cards = [...document.querySelectorAll('.card')].map((one) => one.getBoundingClientRect());
+  const tops = lines.map((line) => MIRROR.charCoords({ line, ch: 0 }, "window").top);
+  return [cards.map(({ top }, at) => Math.round(top - tops[at])), cards.every((one, at) => !at || one.top >= cards[at - 1].bottom)];
+})(arguments[0])"""
+# Counts cards that are taken away from now on.
+REMOVED = """((place) => {
+  window.removed = 0;
+  new MutationObserver((all) => all.forEach((one) => { window.removed += one.removedNodes.length; })).observe(place, { childList: true });
+})(document.getElementById('cards'))"""
+# Closes what a test may have left open.
+TIDY = """(() => {
+  for (const one of document.querySelectorAll('.card form')) one.querySelector('button[type=button]').click();
+  for (const one of ['suggesting', 'changed', 'as-list'].map((id) => document.getElementById(id))) {
+    if (one.ariaPressed === 'true') one.click();
+  }
+  for (const id of ['which', 'whose']) {
+    document.getElementById(id).selectedIndex = 0;
+    document.getElementById(id).dispatchEvent(new Event('change'));
+  }
+  document.getElementById('words').replaceChildren();
+})()"""
+HOSTILE = "<img src=x onerror=\"document.title='bad'\"><script>document.title='bad'</script> \x1b[31m\u202eevil\u2066 \x07\nnext &lt; line"
+
+
+def setUpModule() -> None:
+    """Starts one Chromium for all."""
+    global BROWSER
+    BROWSER = Browser(1100, 700)
+    unittest.addModuleCleanup(BROWSER.close)
+
+
+def click(window: Window, script: str, words: str) -> None:
+    """Clicks on an element that a script finds, which may be drawn anew meanwhile."""
+    def is_clicked() -> bool:
+        found = window.run(script, words)
+        try:
+            if found:
+                found.click()
+        except StaleElementReferenceException:
+            return False
+        return bool(found)
+    wait_for(is_clicked, f"a click on {words}")
+
+
+class Reviewing(Pages):
+    """Ada and Bob, with a note that each test writes anew."""
+
+    data: pathlib.Path
+    ada: Window
+    bob: Window
+    # One more editor of Ada's, which tidies up.
+    editor: Editor
+
+    @classmethod
+    def setUpClass(cls) -> None:
+        super().setUpClass()
+        cls.data = pathlib.Path(tempfile.mkdtemp(prefix="share-"))
+        cls.addClassCleanup(shutil.rmtree, cls.data, ignore_errors=True)
+        cls.ada = cls.window("Ada", "--log", str(cls.data / "shared" / "note.log"))
+        cls.bob = cls.window("Bob", VIALSHOAL_LINK=Person(cls.data / "Ada").link())
+        cls.editor = Editor(cls.data / "Ada")
+        cls.addClassCleanup(cls.editor.close)
+
+    @classmethod
+    def window(cls, name: str, *words: str, **environment: str) -> Window:
+        """A window of somebody with a data folder of his own."""
+        server = Server(cls.data / name, "--no-browser", *words, VIALSHOAL_NAME=name, **SECOND, **environment)
+        cls.addClassCleanup(server.close)
+        window = BROWSER.open(server.path)
+        cls.addClassCleanup(window.close)
+        return window
+
+    def setUp(self) -> None:
+        super().setUp()
+        for one in self.ada, self.bob:
+            one.run(TIDY)
+            one.run(f"{MIRROR}.focus()")
+        self.ada.run(f"{MIRROR}.setValue(arguments[0])", TEXT)
+        self.bob.shows(TEXT)
+        for thread in self.editor.ask("remarks", version=self.editor.mirror.version, open=True)["threads"]:
+            self.assertNotIn("error", self.editor.ask("resolve", to=thread["id"]))
+        for one in self.ada, self.bob:
+            one.wait_for("!document.querySelector('main .remarked, .card')")
+            one.to(0)
+
+    def tearDown(self) -> None:
+        self.assert_no_faults(self.ada, self.bob)
+        wait_for(lambda: self.ada.text() == self.bob.text(), "both to have the same text")
+
+    def remark(self, window: Window, words: str, body: str) -> None:
+        """Remarks on the first of these words."""
+        at = window.text().index(words)
+        window.run(f"{MIRROR}.focus()")
+        window.select(at, at + len(words))
+        window.chord(Keys.CONTROL, Keys.ALT, "m")
+        window.wait_for("document.activeElement.tagName === 'TEXTAREA'")
+        window.type(body, Keys.CONTROL, Keys.ENTER)
+        window.wait_for(f"{IS_IN_TEXT} && !document.querySelector('.draft')")
+
+    def suggest(self, window: Window, words: str, put: str, body: str = "") -> None:
+        """Suggests something in the place of the first of these words."""
+        at = window.text().index(words)
+        window.run(f"{MIRROR}.focus()")
+        window.select(at, at + len(words))
+        window.chord(Keys.CONTROL, Keys.ALT, "s")
+        window.wait_for("document.activeElement.tagName === 'TEXTAREA' && document.activeElement.value === words[0]", words)
+        window.type(Keys.CONTROL, "a", Keys.NULL, put or Keys.DELETE)
+        window.type(Keys.TAB)
+        window.type(body, Keys.CONTROL, Keys.ENTER)
+        window.wait_for(f"{IS_IN_TEXT} && !document.querySelector('.draft')")
+
+    def card(self, window: Window, words: str) -> None:
+        """Has a window's card be looked at that has these words, once it is there."""
+        window.wait_for(f"{CARDS}.some((one) => one.includes(words[0]))", words)
+        card = "[...document.querySelectorAll('.card')].find((one) => one.textContent.includes(arguments[0]))"
+        click(window, f"{card}?.firstChild.firstChild", words)
+        window.wait_for("document.querySelector('.card.active')?.textContent.includes(words[0])", words)
+
+    @staticmethod
+    def press(window: Window, what: str) -> None:
+        """Presses a button of the card that is looked at."""
+        window.wait_for(f"{BUTTONS}.some((one) => one.textContent === words[0])", what)
+        click(window, f"{BUTTONS}.find((one) => one.textContent === arguments[0])", what)
+
+    @staticmethod
+    def buttons(window: Window) -> list[str]:
+        """What the buttons of the card that is looked at say."""
+        found: list[str] = window.run(f"{BUTTONS}.map((one) => one.textContent)")
+        return found
+
+    def test_a_remark_is_answered_resolved_and_opened_again(self) -> None:
+        ada, bob = self.ada, self.bob
+        self.remark(ada, "the mill", "Is it open then?")
+        for one in ada, bob:
+            one.wait_for(MARKED, ["the mill"])
+        self.card(bob, "Is it open then?")
+        bob.wait_for("document.querySelector('main .looked-at')?.textContent === 'the mill'")
+        self.assertEqual(bob.run("document.querySelector('.card.active .name').textContent"), "Ada")
+        # What is another's isn't edited.
+        self.assertEqual(self.buttons(bob), ["Reply", "Resolve"])
+        self.press(bob, "Reply")
+        bob.type("It is, I asked.")
+        self.press(bob, "Reply")
+        bob.wait_for("document.activeElement.classList.contains('card')")
+        ada.wait_for(f"{CARDS}.some((one) => one.includes('1 reply'))")
+        self.card(ada, "Is it open then?")
+        self.assertEqual(self.buttons(ada), ["Reply", "Resolve", "Edit", "Take back"])
+        self.assertEqual(ada.run("document.querySelector('.card.active li .body').textContent"), "It is, I asked.")
+        self.press(ada, "Resolve")
+        ada.wait_for(STATE, "resolved")
+        bob.run(f"{MIRROR}.focus()")
+        bob.wait_for("!document.querySelector('.card')")
+        bob.run("document.getElementById('which').value = 'all'")
+        bob.run("document.getElementById('which').dispatchEvent(new Event('change'))")
+        self.card(bob, "Is it open then?")
+        self.press(bob, "Reopen")
+        bob.wait_for("document.querySelector('.card.active') && !document.querySelector('.card.active .state')")
+        ada.wait_for("!document.querySelector('.card.active .state')")
+
+    def test_what_is_ones_own_is_edited_and_taken_back(self) -> None:
+        ada, bob = self.ada, self.bob
+        self.remark(ada, "at ten", "Too earl")
+        self.card(ada, "Too earl")
+        self.press(ada, "Edit")
+        ada.type("y!", Keys.CONTROL, Keys.ENTER)
+        for one in ada, bob:
+            one.wait_for(BODIES, ["Too early!"])
+        self.card(bob, "Too early!")
+        self.press(bob, "Reply")
+        bob.type("No", Keys.CONTROL, Keys.ENTER)
+        bob.wait_for("document.querySelector('.card.active li')")
+        self.press(bob, "Take back")
+        for one in ada, bob:
+            one.wait_for("document.querySelector('.card.active li .body')?.textContent === 'taken back'")
+        self.press(ada, "Take back")
+        ada.wait_for("document.querySelector('.card.active > div > .body').textContent === 'taken back'")
+        ada.run(f"{MIRROR}.focus()")
+        ada.wait_for("!document.querySelector('.card')")
+
+    def test_a_suggestion_is_shown_accepted_taken_back_by_undo_and_rejected(self) -> None:
+        ada, bob = self.ada, self.bob
+        self.suggest(bob, "ten", "eleven", "The bus comes then.")
+        self.assertEqual(bob.text(), TEXT)
+        for one in ada, bob:
+            one.wait_for("document.querySelector('main .remarked.suggestion.put')?.dataset.put === 'eleven'")
+        self.assertEqual(ada.run("getComputedStyle(document.querySelector('main .put'), '::after').content"), '"eleven"')
+        self.assertIn("line-through", ada.run("getComputedStyle(document.querySelector('main .put')).textDecorationLine"))
+        self.card(ada, "The bus comes then.")
+        texts = "[...document.querySelectorAll('.card.active :is(del, ins)')].map((one) => one.textContent)"
+        self.assertEqual(ada.run(texts), ["ten", "eleven"])
+        self.press(ada, "Accept")
+        for one in ada, bob:
+            one.shows(TEXT.replace("ten", "eleven"))
+        ada.wait_for(STATE, "accepted")
+        ada.type(Keys.ESCAPE)
+        ada.press("undo")
+        for one in ada, bob:
+            one.shows(TEXT)
+        self.card(ada, "The bus comes then.")
+        ada.wait_for("!document.querySelector('.card.active .state')")
+        self.press(ada, "Reject")
+        ada.wait_for(STATE, "rejected")
+        bob.wait_for("!document.querySelector('main .put')")
+        self.assertEqual(ada.text(), TEXT)
+
+    def test_a_suggestion_whose_text_has_changed_is_accepted_after_both_texts_were_shown(self) -> None:
+        ada, bob = self.ada, self.bob
+        self.suggest(bob, "by the mill", "at the lake")
+        ada.wait_for("document.querySelector('main .put')")
+        at = TEXT.index("the mill")
+        ada.to(at)
+        ada.type("side of ")
+        bob.shows(TEXT.replace("by the mill", "by side of the mill"))
+        self.card(ada, "at the lake")
+        self.press(ada, "Accept")
+        ada.wait_for("document.querySelectorAll('.card.active dd').length === 3")
+        self.assertEqual(ada.run("[...document.querySelectorAll('.card.active dd')].map((one) => one.textContent)"),
+                         ["by the mill", "by side of the mill", "at the lake"])
+        self.assertEqual(ada.run("document.activeElement.textContent"), "Cancel")
+        ada.type(Keys.ENTER)
+        ada.wait_for("!document.querySelector('.card dd')")
+        self.assertEqual(ada.text(), TEXT.replace("by the mill", "by side of the mill"))
+        self.press(ada, "Accept")
+        self.press(ada, "Accept anyway")
+        ada.wait_for(f"{MIRROR}.getValue().includes('at the lake')")
+        ada.wait_for(STATE, "accepted")
+
+    def test_an_insertion_and_a_deletion_are_suggested(self) -> None:
+        ada, bob = self.ada, self.bob
+        ada.to(TEXT.index(" at ten"))
+        ada.press("suggest")
+        ada.type(" and the lake", Keys.CONTROL, Keys.ENTER)
+        bob.wait_for("document.querySelector('main .spot.put')?.dataset.put === ' and the lake'")
+        self.suggest(ada, "# ", "")
+        bob.wait_for("document.querySelector('main .remarked.suggestion:not(.put)')?.textContent === '# '")
+        # Nothing of them is in the text yet, also not where one types beside them.
+        bob.to(TEXT.index(" at ten"))
+        bob.run(f"{MIRROR}.focus()")
+        bob.type("s")
+        text = TEXT.replace("mill at", "mills at")
+        for one in ada, bob:
+            one.shows(text)
+        # One typed where the first is to be put, so that is asked.
+        for words, presses in (" and the lake", ("Accept", "Accept anyway")), ("# ", ("Accept",)):
+            self.card(bob, words)
+            for each in presses:
+                self.press(bob, each)
+            bob.wait_for(STATE, "accepted")
+        for one in ada, bob:
+            one.wait_for(f"{MIRROR}.getValue().startsWith('Picnic') && {MIRROR}.getValue().includes(' and the lake')")
+
+    def test_keys_alone_do_all(self) -> None:
+        ada, bob = self.ada, self.bob
+        self.remark(bob, "Line 70", "far below")
+        self.remark(bob, "Picnic", "first")
+        self.remark(bob, "mill", "second")
+        ada.wait_for("document.querySelectorAll('.card').length === 2")
+        ada.run(f"{MIRROR}.focus()")
+        ada.to(0)
+        for body in "first", "second", "far below", "first":
+            ada.chord(Keys.ALT, Keys.SHIFT, Keys.DOWN)
+            ada.wait_for(FOCUSED_CARD, body)
+        ada.chord(Keys.ALT, Keys.SHIFT, Keys.UP)
+        ada.wait_for(FOCUSED_CARD, "far below")
+        ada.chord(Keys.ALT, Keys.SHIFT, Keys.UP)
+        ada.wait_for(FOCUSED_CARD, "second")
+        ada.type(Keys.TAB, Keys.ENTER)
+        ada.wait_for("document.activeElement.tagName === 'TEXTAREA'")
+        ada.type("by keys", Keys.TAB, Keys.ENTER)
+        bob.wait_for(f"{CARDS}.some((one) => one.includes('1 reply'))")
+        ada.wait_for(FOCUSED_CARD, "by keys")
+        reached = list[str]()
+        while "Resolve" not in reached and len(reached) < 9:
+            ada.type(Keys.TAB)
+            reached.append(ada.run("document.activeElement.textContent"))
+        self.assertEqual(reached, ["Edit", "Take back", "Reply", "Resolve"])
+        ada.type(Keys.ENTER)
+        ada.wait_for(STATE, "resolved")
+        # Back to the text, to where the remark is.
+        ada.type(Keys.ESCAPE)
+        ada.wait_for(IS_IN_TEXT)
+        self.assertEqual(ada.run(f"{MIRROR}.indexFromPos({MIRROR}.getCursor())"), TEXT.index("mill"))
+        ada.wait_for("document.querySelectorAll('.card').length === 1")
+        # What has words isn't lost by Esc.
+        ada.chord(Keys.CONTROL, Keys.ALT, "m")
+        ada.type("kept", Keys.ESCAPE)
+        ada.wait_for(f"{IS_IN_TEXT} && document.querySelector('.draft textarea').value === 'kept'")
+
+    def test_a_screen_reader_is_told_what_cards_are(self) -> None:
+        ada = self.ada
+        self.remark(self.bob, "Picnic", "a first word")
+        self.card(ada, "a first word")
+        nodes = [(node["role"]["value"], node.get("name", {}).get("value", ""))
+                 for node in ada.command("Accessibility.getFullAXTree")["nodes"] if "role" in node]
+        self.assertIn(("article", "Remark by Bob, a first word"), nodes)
+        self.assertIn(("complementary", "Remarks"), nodes)
+        for button in "Reply", "Resolve", "Remark", "Suggest", "The next change":
+            self.assertIn(("button", button), [*nodes, ("button", "The next change")])
+        for role in "button", "textbox", "combobox", "article":
+            self.assertEqual([name for of, name in nodes if of == role and not name], [])
+
+    def test_anothers_edit_while_a_card_is_open_changes_nothing_of_what_is_typed(self) -> None:
+        ada, bob = self.ada, self.bob
+        self.remark(ada, "the mill", "one")
+        self.card(ada, "one")
+        self.press(ada, "Reply")
+        ada.type("half a re")
+        at = TEXT.index("We meet")
+        ada.run("document.activeElement.id = 'typed'")
+        bob.run(f"{MIRROR}.replaceRange('Come! ', {MIRROR}.posFromIndex(arguments[0]))", at)
+        ada.shows(TEXT.replace("We meet", "Come! We meet"))
+        self.remark(bob, "at ten", "two")
+        ada.wait_for("document.querySelectorAll('.card').length === 2")
+        self.card(bob, "one")
+        self.press(bob, "Resolve")
+        ada.wait_for(STATE, "resolved")
+        self.assertEqual(ada.run("[document.activeElement.id, document.activeElement.value]"), ["typed", "half a re"])
+        ada.wait_for(MARKED, ["the mill", "at ten"])
+        ada.type("ply", Keys.CONTROL, Keys.ENTER)
+        ada.wait_for("document.querySelector('.card.active li .body')?.textContent === 'half a reply'")
+        # A remark that is being written stays with its words.
+        ada.run(f"{MIRROR}.focus()")
+        ada.select(TEXT.index("Picnic"), TEXT.index("Picnic") + 6)
+        ada.chord(Keys.CONTROL, Keys.ALT, "m")
+        ada.type("three")
+        bob.run(f"{MIRROR}.replaceRange('The ', {MIRROR}.posFromIndex(2))")
+        ada.wait_for(f"{MIRROR}.getValue().startsWith('# The Picnic')")
+        ada.type(Keys.CONTROL, Keys.ENTER)
+        bob.wait_for("[...document.querySelectorAll('main .remarked')].some((one) => one.textContent === 'Picnic')")
+
+    def test_what_is_composed_beside_remarks_is_kept(self) -> None:
+        ada, bob = self.ada, self.bob
+        self.remark(bob, "the mill", "one")
+        bob.to(TEXT.index(" at ten"))
+        bob.press("remark")
+        bob.type("at a place", Keys.CONTROL, Keys.ENTER)
+        self.suggest(bob, "ten", "eleven")
+        ada.wait_for("document.querySelectorAll('main .remarked').length === 3")
+        for number, place in enumerate(("the mill", "ill", " at ten", "ten", "en.", ".\n\nLine 0")):
+            text = ada.text()
+            at = text.index(place)
+            ada.run(f"{MIRROR}.focus()")
+            ada.to(at)
+            for part in "k", "ka", "kan":
+                ada.command("Input.imeSetComposition", text=part, selectionStart=len(part), selectionEnd=len(part))
+            self.remark(bob, f"Line {number}", f"meanwhile {number}")
+            ada.command("Input.insertText", text="\u6f22")
+            for one in ada, bob:
+                one.shows(text[:at] + "\u6f22" + text[at:])
+            ada.type("x", Keys.BACKSPACE, Keys.BACKSPACE)
+            for one in ada, bob:
+                one.shows(text)
+        ada.wait_for("document.querySelectorAll('main .remarked').length === 9")
+
+    def test_cards_stand_beside_their_lines_and_never_overlap(self) -> None:
+        ada = self.ada
+        for words in "Picnic", "We meet", "by the", "Line 9":
+            self.remark(ada, words, f"about {words}, in some more words than go into one line")
+        ada.to(0)
+        ada.wait_for("document.querySelectorAll('.card').length === 4")
+        ada.wait_for("!document.querySelector('.card.active') || document.querySelector('.card.active').textContent.includes('Picnic')")
+        wait_for(lambda: ada.run(PLACES.replace("MIRROR", MIRROR), [0])[1], "the cards to be laid out")
+        distances, _ = ada.run(PLACES.replace("MIRROR", MIRROR), [0, 2, 2, 13])
+        # The first one is at the margin's top, and the last one has room.
+        self.assertLessEqual(abs(distances[0]), 60)
+        self.assertLessEqual(abs(distances[3]), 3)
+        self.card(ada, "about by the")
+        wait_for(lambda: abs(ada.run(PLACES.replace("MIRROR", MIRROR), [0, 2, 2, 13])[0][2]) <= 150, "the card to be near its line")
+        self.assertTrue(ada.run(PLACES.replace("MIRROR", MIRROR), [0])[1])
+        # What isn't in sight isn't there.
+        ada.run(f"{MIRROR}.scrollTo(null, 1500)")
+        ada.wait_for("!document.querySelector('.card:not(.active)')")
+
+    def test_what_is_gone_is_said(self) -> None:
+        ada, bob = self.ada, self.bob
+        self.remark(ada, "by the mill", "where is that?")
+        at = TEXT.index("by the mill")
+        ada.wait_for("document.querySelectorAll('.card').length === 1")
+        ada.run(REMOVED)
+        bob.run(f"{MIRROR}.replaceRange('', {MIRROR}.posFromIndex(arguments[0]), {MIRROR}.posFromIndex(arguments[1]))", at, at + 11)
+        for one in ada, bob:
+            self.card(one, "where is that?")
+            one.wait_for("document.querySelector('.card.active .place')?.textContent === 'Its text is deleted: by the mill'")
+        # It was there all the time.
+        self.assertEqual(ada.run("window.removed"), 0)
+
+    def test_a_list_has_all_and_authors_are_chosen(self) -> None:
+        ada, bob = self.ada, self.bob
+        self.remark(bob, "Line 75", "far below")
+        self.remark(ada, "Picnic", "of mine")
+        ada.press("as-list")
+        ada.wait_for(f"{CARDS}.some((one) => one.includes('far below')) && {CARDS}.some((one) => one.includes('of mine'))")
+        ada.run("document.getElementById('whose').value = 'Bob'")
+        ada.run("document.getElementById('whose').dispatchEvent(new Event('change'))")
+        ada.wait_for(f"{CARDS}.every((one) => one.startsWith('Bob')) && {CARDS}.some((one) => one.includes('far below'))")
+        self.card(ada, "far below")
+        ada.wait_for(f"{MIRROR}.getScrollInfo().top > 500 && document.querySelector('main .looked-at')?.textContent === 'Line 75'")
+
+    def test_what_others_write_is_text(self) -> None:
+        ada, bob = self.ada, self.bob
+        bob.rename("<b>Bob</b>")
+        self.addCleanup(bob.rename, "Bob")
+        bob.run(f"{MIRROR}.focus()")
+        bob.select(0, 8)
+        bob.chord(Keys.CONTROL, Keys.ALT, "s")
+        bob.wait_for("document.activeElement.tagName === 'TEXTAREA'")
+        for field in "put", "why":
+            bob.run("document.activeElement.value = arguments[0]", f"{HOSTILE} {field}")
+            bob.type(Keys.TAB)
+        bob.run("document.querySelector('.draft form').requestSubmit()")
+        self.card(ada, "onerror")
+        self.assertEqual(ada.run("document.querySelectorAll('#margin img, #margin script, main img, main script').length"), 0)
+        self.assertEqual(ada.run("document.title"), "note")
+        shown = HOSTILE.replace("\x1b", "\ufffd").replace("\x07", "\ufffd")
+        self.assertEqual(ada.run("document.querySelector('.card.active .body bdi').textContent"), f"{shown} why")
+        self.assertEqual(ada.run("document.querySelector('.card.active ins').textContent"), f"{shown} put")
+        self.assertEqual(ada.run("document.querySelector('.card.active bdi.name').textContent"), "<b>Bob</b>")
+        self.assertEqual(ada.run("document.querySelector('main .put').dataset.put"), f"{shown} put")
+        for selector in ".card.active ins", ".card.active .name", ".card.active .body bdi":
+            self.assertRegex(ada.run(f"getComputedStyle(document.querySelector('{selector}')).unicodeBidi"), "isolate")
+        self.assertEqual(ada.run("getComputedStyle(document.querySelector('main .put'), '::after').unicodeBidi"), "isolate")
+
+    def test_on_a_phone_they_are_a_sheet(self) -> None:
+        ada = self.ada
+        self.remark(ada, "the mill", "Is it open then?")
+        self.suggest(self.bob, "ten", "eleven", "The bus comes then.")
+        self.addCleanup(ada.command, "Emulation.clearDeviceMetricsOverride")
+        self.addCleanup(ada.command, "Emulation.setEmulatedMedia", features=[])
+        for width, height in (1280, 800), (390, 844):
+            ada.command("Emulation.setDeviceMetricsOverride", width=width, height=height, deviceScaleFactor=1, mobile=width < 500)
+            for scheme in "light", "dark":
+                ada.command("Emulation.setEmulatedMedia", features=[{"name": "prefers-color-scheme", "value": scheme}])
+                self.card(ada, "The bus comes then.")
+                self.press(ada, "Reply")
+                ada.wait_for("document.querySelector('.card.active textarea')")
+                self.assertEqual(ada.run(FAULTS_OF_LOOKS, width < 500), [], (width, scheme))
+                self.press(ada, "Cancel")
+        text, sheet = (ada.run(f"document.querySelector('{one}').getBoundingClientRect().toJSON()") for one in ("main", "#margin"))
+        self.assertEqual((text["width"], sheet["width"]), (390, 390))
+        self.assertLessEqual(text["bottom"], sheet["top"] + 1)
+        self.assertGreater(text["height"], 200)
+        ada.press("unmargin")
+        ada.wait_for("document.getElementById('margin').hidden")
+        ada.run("document.getElementById('remarks').click()")
+        self.card(ada, "The bus comes then.")
+        self.press(ada, "Accept")
+        ada.shows(TEXT.replace("ten", "eleven"))
+
+    def test_no_key_asks_for_remarks(self) -> None:
+        ada = self.ada
+        for number in range(10, 20):
+            self.remark(ada, f"Line {number}", f"about {number}")
+        ada.wait_for("document.querySelectorAll('.card').length >= 3")
+        ada.run("""(() => {
+          const { send } = WebSocket.prototype;
+          window.asked = [];
+          WebSocket.prototype.send = function (data) {
+            window.asked.push(...new TextDecoder().decode(data).split('\\n').filter(Boolean).map((line) => JSON.parse(line).do));
+            send.call(this, data);
+          };
+        })()""")
+        ada.to(0)
+        ada.type("x" * 60)
+        ada.shows("x" * 60 + TEXT)
+        asked = ada.run("window.asked")
+        self.assertGreaterEqual(asked.count("edit"), 6)
+        self.assertLessEqual(asked.count("remarks"), asked.count("edit") // 2)
+
+    def test_what_is_typed_becomes_a_suggestion_where_one_chose_that(self) -> None:
+        ada, bob = self.ada, self.bob
+        ada.press("suggesting")
+        ada.to(TEXT.index("ten"))
+        ada.type(Keys.DELETE * 3, "noonx", Keys.BACKSPACE)
+        ada.wait_for("document.querySelector('main .own')?.dataset.put === 'noon'")
+        self.assertEqual([ada.run("document.querySelector('main .own').textContent"), ada.text()], ["ten", TEXT])
+        # It is sent as one goes on elsewhere.
+        ada.to(0)
+        bob.wait_for("document.querySelector('main .put')?.dataset.put === 'noon'")
+        for part in "k", "ka", "kan":
+            ada.command("Input.imeSetComposition", text=part, selectionStart=len(part), selectionEnd=len(part))
+        ada.command("Input.insertText", text="\u6f22")
+        ada.wait_for("document.querySelector('main .own')?.dataset.put === words[0]", "\u6f22")
+        ada.type("!", Keys.ENTER)
+        self.assertEqual([ada.run("document.querySelector('main .CodeMirror-line').textContent"), ada.text()], ["# Picnic", TEXT])
+        ada.press("suggesting")
+        bob.wait_for("document.querySelector('main .spot.put')?.dataset.put === words[0]", "\u6f22!\n")
+        # What isn't sent yet an undo takes back.
+        ada.press("suggesting")
+        ada.type("no")
+        ada.wait_for("document.querySelector('main .own')?.dataset.put === 'no'")
+        ada.type(Keys.CONTROL, "z")
+        ada.wait_for("!document.querySelector('main .own')")
+        ada.press("suggesting")
+        self.assertEqual(bob.text(), TEXT)
+        self.card(bob, "noon")
+        self.press(bob, "Accept")
+        for one in ada, bob:
+            one.shows(TEXT.replace("ten", "noon"))
+        ada.run(f"{MIRROR}.focus()")
+        ada.to(0)
+        ada.type("done ")
+        bob.shows("done " + TEXT.replace("ten", "noon"))
+
+    def test_what_changed_since_one_looked_is_gone_through(self) -> None:
+        ada, bob = self.ada, self.bob
+        # Another editor of Ada's is closed: she has looked.
+        Editor(self.data / "Ada").close()
+        at = TEXT.index("ten")
+        bob.run(f"{MIRROR}.replaceRange('noon', {MIRROR}.posFromIndex(arguments[0]), {MIRROR}.posFromIndex(arguments[1]))", at, at + 3)
+        bob.run(f"{MIRROR}.replaceRange('<b>More.</b>\\n', {MIRROR}.posFromIndex({MIRROR}.getValue().length))")
+        text = TEXT.replace("ten", "noon") + "<b>More.</b>\n"
+        ada.shows(text)
+        ada.press("changed")
+        ada.wait_for("document.getElementById('since-words').textContent.startsWith('3 changes since you looked')")
+        # Of what went it is said who wrote it.
+        self.assertEqual(ada.run("[...document.querySelectorAll('#changers li')].map((one) => one.textContent)"), ["Ada", "Bob"])
+        # What is far below isn't marked yet.
+        ada.wait_for("[...document.querySelectorAll('main .came')].map((one) => one.textContent).join() === 'noon'")
+        self.assertEqual(ada.run("[...document.querySelectorAll('main .went')].map((one) => one.dataset.went)"), ["ten"])
+        # What is typed meanwhile moves them.
+        ada.to(0)
+        ada.type("Our ")
+        bob.shows("Our " + text)
+        ada.type(Keys.F8)
+        ada.wait_for("document.getElementById('since-words').textContent.startsWith('1 of 3')")
+        ada.wait_for("document.getElementById('told').textContent === 'deleted, of Ada: ten'")
+        ada.type(Keys.F8)
+        self.assertEqual(ada.run(f"{MIRROR}.indexFromPos({MIRROR}.getCursor())"), text.index("noon") + len("Our "))
+        ada.type(Keys.F8)
+        ada.wait_for("document.getElementById('since-words').textContent.startsWith('3 of 3')")
+        ada.wait_for("document.querySelector('main .now')?.textContent === '<b>More.</b>'")
+        ada.chord(Keys.SHIFT, Keys.F8)
+        ada.wait_for("document.getElementById('since-words').textContent.startsWith('2 of 3')")
+        ada.type(Keys.ESCAPE)
+        ada.wait_for("document.getElementById('since').hidden && !document.querySelector('main .came, main .went')")
+        self.assertEqual(ada.text(), "Our " + text)
+
+    def test_what_changed_since_a_place_of_the_history_is_shown(self) -> None:
+        ada, bob = self.ada, self.bob
+        bob.to(0)
+        bob.type("Our ")
+        ada.shows("Our " + TEXT)
+        ada.press("history")
+        ada.wait_for("!document.getElementById('past').hidden && document.getElementById('since-here').disabled")
+        ada.press("earlier")
+        ada.wait_for("document.querySelector('#past-text .CodeMirror').CodeMirror.getValue() === words[0]", TEXT)
+        ada.press("since-here")
+        ada.wait_for("document.getElementById('since-words').textContent === '1 change since that place of the history'")
+        ada.wait_for("document.querySelector('main .came')?.textContent === 'Our '")
+        ada.type(Keys.ESCAPE)
+        ada.wait_for("document.getElementById('since').hidden")
+
+
+class Alone(Pages):
+    """A part of the page by itself."""
+
+    def test_what_would_overlap_is_stacked(self) -> None:
+        server = Server(self.folder / "data", "--no-browser")
+        self.addCleanup(server.close)
+        window = BROWSER.open(server.path)
+        self.addCleanup(window.close)
+        for wanted, heights, fixed, tops in (([], [], 0, []), ([5], [40], 0, [5]), ([-9], [40], 0, [0]), ([0, 100], [40, 40], 0, [0, 100]),
+                                             ([0, 10, 20], [40, 40, 40], 0, [0, 48, 96]), ([0, 10, 20], [40, 40, 40], 2, [0, 48, 96]),
+                                             ([100, 110, 120], [40, 40, 40], 2, [24, 72, 120]),
+                                             ([100, 110, 120], [40, 40, 40], 1, [62, 110, 158])):
+            window.run("import('/margin.js').then(({ stacked }) => { window.stacked = stacked(...arguments); })", wanted, heights, fixed)
+            window.wait_for("JSON.stringify(window.stacked) === JSON.stringify(words[0])", tops)
+        self.assert_no_faults(window)
+
+
+class FirstForm(Pages):
+    """A note of the first form, which has no margin."""
+
+    def test_the_buttons_say_what_makes_one_that_has(self) -> None:
+        server = Server(self.folder / "data", "--no-browser", VIALSHOAL_FORM="1")
+        self.addCleanup(server.close)
+        window = BROWSER.open(server.path)
+        self.addCleanup(window.close)
+        window.type("tea")
+        window.shows("tea")
+        for button in "remark", "suggest", "remarks":
+            window.run("document.getElementById('words').replaceChildren()")
+            window.press(button)
+            window.wait_for(SAYS, "bin/note renew NAME --form 2")
+            self.assertTrue(window.run("document.getElementById('margin').hidden"))
+        self.assert_no_faults(window)
+
+
+def load_tests(loader: unittest.TestLoader, tests: unittest.TestSuite, _: object) -> unittest.TestSuite:
+    """The tests, where there is a browser."""
+    if IS_HERE:
+        return tests
+    print("Chromium, its driver or python3-selenium isn't installed: the page's tests in a browser are skipped.", flush=True)
+    return loader.suiteClass([])
+
+
+if __name__ == "__main__":
+    unittest.main()
