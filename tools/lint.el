@@ -11,6 +11,9 @@
 
 (defvar lint-found nil "What is wrong, in lines.")
 
+;; The first file is the package's, and the others belong to it.
+(setq package-lint-main-file (expand-file-name (car command-line-args-left)))
+
 ;; The package has no page of its own, and Debian's package-lint is older than the Emacs that is needed.
 (defvar lint-passed-over '("should have a Homepage or URL header" "uninstallable in all released Emacs versions")
   "What isn't mended: parts of the words.")

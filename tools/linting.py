@@ -12,7 +12,8 @@ from pathlib import Path
 from typing import NamedTuple
 
 TOP = Path(__file__).resolve().parent.parent
-EMACS_PACKAGE = "editors/emacs/vialshoal.el"
+# The package's own file, and those that belong to it.
+EMACS_PACKAGE, EMACS_FILES = "editors/emacs/vialshoal.el", "editors/emacs/vialshoal-*.el"
 PACKAGE_LINT = Path("/usr/share/emacs/site-lisp/elpa-src")
 # The commands, the Python modules whose types are looked at, and the files; each with the package of Debian's that has it.
 COMMANDS = {"mypy": "mypy", "flake8": "flake8", "tsc": "node-typescript", "luacheck": "lua-check", "emacs": "emacs-nox"}
@@ -86,7 +87,8 @@ def steps() -> Iterator[Step]:
     for name in "page", "node":
         yield Step(f"the types of the {name}'s JavaScript", ["tsc", "--project", f"tools/types/{name}.json"])
     yield Step("Lua", ["luacheck", "--quiet", "--no-cache", "editors/neovim"])
-    yield Step("Emacs Lisp", ["emacs", "-Q", "--batch", "-L", str(package_lint()), "-l", "tools/lint.el", EMACS_PACKAGE])
+    yield Step("Emacs Lisp", ["emacs", "-Q", "--batch", "-L", str(package_lint()), "-l", "tools/lint.el", EMACS_PACKAGE,
+                              *(str(path.relative_to(TOP)) for path in sorted(TOP.glob(EMACS_FILES)))])
 
 
 def passes(step: Step, run: Callable[..., subprocess.CompletedProcess[str]] = subprocess.run) -> bool:

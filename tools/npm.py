@@ -4,6 +4,7 @@ name another folder than rust/target for what cargo compiles."""
 from __future__ import annotations
 
 import argparse
+import json
 import os
 import re
 import shutil
@@ -18,46 +19,12 @@ NODE = TOP / "library" / "node"
 RUST = TOP / "rust"
 TARGET = "wasm32-unknown-unknown"
 LACKING = 3
-FILES = ("index.js", "index.mjs", "index.d.ts", "positions.js", "calls.js", "wasm.js", "package.json")
-# What a page has of these, by the names under which they ask for one another.
-IN_PAGES = {"buffer": "bytes.js", "./positions.js": "positions.js", "./wasm.js": "wasm.js", "./index.js": "index.js"}
-PAGE = """// Written by bin/library: the package for pages and workers, in one module. Its parts are as they are in Node.
-const response = await fetch(new URL('vialshoal.wasm', import.meta.url));
-if (!response.ok) throw new Error(`vialshoal.wasm: ${{response.status}}`);
-const compiled = await WebAssembly.compile(await response.arrayBuffer());
-
-const parts = {{
-    './calls.js'(module) {{
-        module.exports = require('./wasm.js').callsOf(compiled);
-    }},
-{parts}}};
-const loaded = {{}};
-
-function require(name) {{
-    if (loaded[name] === undefined) {{
-        loaded[name] = {{}};
-        parts[name](loaded[name], name === 'buffer' ? undefined : require('buffer').Buffer);
-    }}
-    return loaded[name].exports;
-}}
-
-const vialshoal = require('./index.js');
-
-export default vialshoal;
-export const {{ Past, Refused, Shown, Text }} = vialshoal;
-"""
+# What a package has of the sources.
+FILES = ("*.js", "*.mjs", "*.d.ts", "package.json")
 
 
 class Lacking(Exception):
     """What is needed isn't installed."""
-
-
-def page() -> str:
-    """The module for pages."""
-    parts = (
-        f"    {name!r}(module, Buffer) {{\n{(NODE / file).read_text()}    }},\n" for name, file in IN_PAGES.items()
-    )
-    return PAGE.format(parts="".join(parts))
 
 
 def sysroot() -> Path:
@@ -120,6 +87,15 @@ def compiled() -> Path:
     return to / TARGET / "wasm" / "vialshoal_wasm.wasm"
 
 
+def limit(folder: Path, cpu: str) -> None:
+    """Has npm install a package without WebAssembly on such systems alone as its addon is for."""
+    path = folder / "package.json"
+    package = json.loads(path.read_text())
+    if not (folder / "vialshoal.wasm").exists():
+        package |= {"os": ["linux"], "cpu": [cpu], "libc": ["glibc"]}
+    path.write_text(json.dumps(package, indent=2) + "\n")
+
+
 def main(words: Sequence[str]) -> int:
     parser = argparse.ArgumentParser(prog="tools.npm", description=__doc__)
     parser.add_argument("folder", type=Path)
@@ -132,11 +108,10 @@ def main(words: Sequence[str]) -> int:
         return LACKING
     shutil.rmtree(given.folder, ignore_errors=True)
     given.folder.mkdir(parents=True)
-    for file in FILES:
-        shutil.copyfile(NODE / file, given.folder / file)
+    for file in (file for pattern in FILES for file in sorted(NODE.glob(pattern))):
+        shutil.copyfile(file, given.folder / file.name)
     if made is not None:
         shutil.copyfile(made, given.folder / "vialshoal.wasm")
-        (given.folder / "browser.mjs").write_text(page())
     return 0
 
 

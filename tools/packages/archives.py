@@ -8,7 +8,7 @@ import sys
 from collections.abc import Mapping
 from pathlib import Path
 
-from tools.npm import LACKING
+from tools.npm import LACKING, limit
 from tools.packages.binaries import Binaries
 from tools.packages.calling import Failed, Words, call
 from tools.packages.release import Release
@@ -21,9 +21,8 @@ def wheel(release: Release, sources: Path, binaries: Binaries, room: Path, to: P
     folder, made = room / "python", room / "wheels"
     shutil.copytree(sources / "library" / "python", folder)
     shutil.move(binaries.shared(room), folder / "vialshoal")
-    project = folder / "pyproject.toml"
-    lines = {"name": release.name, "version": release.python_version}
-    project.write_text("".join(_line(line, lines) for line in project.read_text().splitlines(keepends=True)))
+    _rewrite(folder / "pyproject.toml", {"name": release.name, "version": release.python_version})
+    _rewrite(folder / "vialshoal" / "__init__.py", {"__version__": release.python_version})
     one = built_wheel(folder, made, release.environment())
     return Path(shutil.move(one, to / one.name))
 
@@ -36,8 +35,13 @@ def built_wheel(folder: Path, to: Path, environment: Mapping[str, str] | None = 
     return one
 
 
+def _rewrite(path: Path, values: dict[str, str]) -> None:
+    """Gives names that a file of TOML, or of Python, sets other values."""
+    path.write_text("".join(_line(line, values) for line in path.read_text().splitlines(keepends=True)))
+
+
 def _line(line: str, values: dict[str, str]) -> str:
-    """A line of a TOML file, with its value where it has another one."""
+    """A line of such a file, with its value where it has another one."""
     name = line.partition(" = ")[0]
     return f'{name} = "{values[name]}"\n' if name in values else line
 
@@ -46,24 +50,22 @@ def npm(release: Release, sources: Path, binaries: Binaries, room: Path, to: Pat
     """Makes npm's archive: with WebAssembly where Rust can compile it here; else npm installs it on such systems alone as the
     addon is for."""
     folder = room / "npm"
-    has_wasm = _filled(folder, release, sources)
+    _fill(folder, release, sources)
     shutil.move(binaries.addon(sources / "library", room), folder)
+    limit(folder, binaries.processor.node)
     path = folder / "package.json"
     package = json.loads(path.read_text()) | {"name": release.name, "version": release.node_version}
-    if not has_wasm:
-        package |= {"os": ["linux"], "cpu": [binaries.processor.node], "libc": ["glibc"]}
     path.write_text(json.dumps(package, indent=2) + "\n")
     words: Words = ["npm", "pack", "--silent", "--offline", "--ignore-scripts", "--pack-destination", room]
     made = room / call(words, folder, release.environment()).strip()
     return Path(shutil.move(made, to / f"{made.stem}-linux-{binaries.processor.node}.tgz"))
 
 
-def _filled(folder: Path, release: Release, sources: Path) -> bool:
-    """Fills a folder with the package for Node, and tells whether WebAssembly is in it."""
+def _fill(folder: Path, release: Release, sources: Path) -> None:
+    """Fills a folder with the package for Node, and WebAssembly where Rust can compile it."""
     words = [sys.executable, "-B", "-m", "tools.npm", str(folder)]
     status = subprocess.run([*words, "--wasm"], cwd=sources, env=release.environment(), stdout=2).returncode
     if status not in (0, LACKING):
         raise Failed(f"tools.npm ended with {status}")
     if status:
         call(words, sources, release.environment())
-    return status == 0

@@ -29,7 +29,7 @@ def in_node(trial: Trial) -> None:
     """Installs npm's archive and runs the page's lines."""
     folder = trial.folder("node")
     installed(trial, folder)
-    file = example("LIBRARY.md", "In Node", folder, "meet.cjs")
+    file = example("LIBRARY.md", "In Node", folder, "meet.mjs")
     file.write_text(file.read_text().replace(f"'{NAME}'", f"'{trial.release.name}'"))
     said = call(["node", file], folder)
     assert said == f"{MEETS}\n", said

@@ -73,9 +73,10 @@ def _room() -> Iterator[Path]:
 
 
 def builds(wish: Wish, processor: Processor, room: Path) -> Binaries:
+    tools = binaries.tools_for(processor)
     if wish.unproved is None:
-        return binaries.proved(processor, room)
-    return binaries.unproved(wish.unproved, processor)
+        return binaries.proved(processor, room, tools)
+    return binaries.unproved(wish.unproved, processor, room, tools)
 
 
 def _tools() -> str:
