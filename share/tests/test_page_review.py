@@ -556,9 +556,12 @@ class Reviewing(Pages):
         ada.to(0)
         ada.type("Our ")
         bob.shows("Our " + text)
+        # That others changed lines is told after a while, in place of what is told now.
+        ada.run("""new MutationObserver(() => window.heard.push(document.getElementById('told').textContent))
+          .observe(document.getElementById('told'), { childList: true }, window.heard = [])""")
         ada.type(Keys.F8)
         ada.wait_for("document.getElementById('since-words').textContent.startsWith('1 of 3')")
-        ada.wait_for("document.getElementById('told').textContent === 'deleted, of Ada: ten'")
+        ada.wait_for("window.heard.includes('deleted, of Ada: ten')")
         ada.type(Keys.F8)
         self.assertEqual(ada.run(f"{MIRROR}.indexFromPos({MIRROR}.getCursor())"), text.index("noon") + len("Our "))
         ada.type(Keys.F8)
