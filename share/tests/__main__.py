@@ -38,7 +38,8 @@ MODULES = ["test_storm", "test_all_editors", "test_page", "test_of_files", "test
            "test_difference", "test_state", "test_chained", "test_links", "test_copied_numbers", "test_memory",
            "test_withdrawn", "test_held_up", "test_records", "test_claim_search", "test_message_judge", "test_composing",
            "test_rebasing", "test_record_judge", "test_second_notes", "test_not_begun", "test_turns", "test_margin",
-           "test_review", "test_spots", "test_reviews", "test_critic", "test_review_scripts", "test_review_terminal"]
+           "test_review", "test_spots", "test_reviews", "test_critic", "test_review_scripts", "test_review_terminal",
+           "test_review_engines"]
 # These run over notes of the second form, too, which has rules of its own for what they are about: numbers, copies, losses, what is
 # sent, who is on, and attacks. Any module does as "test_one:2".
 OVER_BOTH = frozenset(("test_carried", "test_changed", "test_copied_numbers", "test_copies", "test_left_out", "test_losses",

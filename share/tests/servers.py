@@ -1,5 +1,6 @@
-"""Redis servers for tests, each in a folder of its own: by a port, with TLS, or by a Unix socket."""
+"""Redis servers for tests, each in a folder of its own: by a port, with TLS, or by a Unix socket; and a log in a file that goes away."""
 import contextlib
+import os
 import pathlib
 import shutil
 import socket
@@ -25,6 +26,24 @@ def port_of(held: socket.socket) -> int:
     """The number of a port."""
     port: int = held.getsockname()[1]
     return port
+
+
+class FileLog:
+    """A log in a file, whose folder goes away and comes back."""
+
+    def __init__(self, folder: pathlib.Path):
+        self._shared, self._away = folder / "shared", folder / "away"
+        self.url = str(self._shared / "note.log")
+
+    def kill(self) -> None:
+        """Has nobody reach the log."""
+        os.rename(self._shared, self._away)
+        self._shared.write_text("no folder")
+
+    def start(self) -> None:
+        """Has all reach it again."""
+        self._shared.unlink()
+        os.rename(self._away, self._shared)
 
 
 class RedisServer:

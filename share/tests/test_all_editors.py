@@ -16,7 +16,7 @@ from concurrent.futures import ThreadPoolExecutor
 from dataclasses import dataclass
 from functools import partial
 
-from share.tests.servers import RedisServer
+from share.tests.servers import FileLog, RedisServer
 from share.tests.support import NOTE, Case, wait_for, written
 from share.tests.writers import PATIENCE, Cut, Emacs, Neovim, OwnEditor, PageInChromium, State, Writer, kill_editor, kill_engine
 
@@ -218,24 +218,6 @@ class Done:
         time.sleep(moment)
 
 
-class FileLog:
-    """A log in a file, whose folder goes away and comes back."""
-
-    def __init__(self, case: Case):
-        self.url = case.file_log()
-        self._shared, self._away = case.folder / "shared", case.folder / "away"
-
-    def kill(self) -> None:
-        """Has nobody reach the log."""
-        os.rename(self._shared, self._away)
-        self._shared.write_text("no folder")
-
-    def start(self) -> None:
-        """Has all reach it again."""
-        self._shared.unlink()
-        os.rename(self._away, self._shared)
-
-
 def begun(case: Case, url: str, text: str) -> str:
     """Begins a note of ada's with a text; its link."""
     first = case.person("ada").open(url=url)
@@ -263,7 +245,7 @@ class AllEditors(Case):
     def setUp(self) -> None:
         super().setUp()
         self.chance = random.Random(SEED)
-        self.log: RedisServer | FileLog = self.redis() if SEED % 3 else FileLog(self)
+        self.log: RedisServer | FileLog = self.redis() if SEED % 3 else FileLog(self.folder)
         link = begun(self, self.log.url, "begin.\n")
         self.words: list[Word] = []
         # The words that were being typed as something was killed: parts of them may be there.
