@@ -1,9 +1,13 @@
-"""An editor in Python does with lines what the vectors say, in each of the units; and so does the engine with edits that cross."""
+"""An editor in Python does with lines what the vectors say, in each of the units; and so does the engine with edits that cross, and with
+what it is asked about a review."""
 import json
+import os
 import pathlib
 import random
 import unittest
 from collections.abc import Callable
+from typing import Any
+from unittest import mock
 
 from share.editors.mirror import Mirror
 from share.editors.note import EngineNote
@@ -12,6 +16,8 @@ from share.editors.suggesting import Gathered, Gathering, Meant
 from share.editors.threads import NoteThreads
 from share.format.entry import Plain
 from share.tests.crossing import Writer, settled
+from share.tests.editors import EngineHere
+from share.tests.waiting import wait_for
 from share.text.change import Change
 from share.text.line import Line
 from share.text.rope import swapped
@@ -126,6 +132,92 @@ class Vectors(unittest.TestCase):
                 self.assertEqual(settled([writer]), case["gives"])
                 if "cursor" in case:
                     self.assertEqual((second.peer.cursor, second.peer.anchor), (*case["at"], None)[:2])
+
+
+def has(found: Any, wanted: Any) -> bool:
+    """Whether something has all that is wanted, and nothing of what is to be missing."""
+    if isinstance(wanted, dict):
+        return isinstance(found, dict) and all(has(found.get(name), one) for name, one in wanted.items())
+    if isinstance(wanted, list):
+        return isinstance(found, list) and len(found) == len(wanted) and all(map(has, found, wanted))
+    return bool(found == wanted)
+
+
+def named(value: Any, names: dict[str, str]) -> Any:
+    """A value of a vector, with ids in the place of their names."""
+    if isinstance(value, dict):
+        return {name: named(one, names) for name, one in value.items()}
+    if isinstance(value, list):
+        return [named(one, names) for one in value]
+    return names[value[1:]] if isinstance(value, str) and value.startswith("$") else value
+
+
+class OfReviews(EngineHere):
+    """An engine that is asked what one case of the vectors says."""
+
+    case: Line = {}
+
+    def setUp(self) -> None:
+        form = mock.patch.dict(os.environ, VIALSHOAL_FORM=str(self.case.get("form", 2)), VIALSHOAL_ZERO_BITS="0")
+        form.start()
+        self.addCleanup(form.stop)
+        super().setUp()
+
+    def play(self) -> None:
+        """Plays the case."""
+        first, second = (one[1] for one in self.editors)
+        first.edit([(0, 0, self.case["text"])])
+        self.meet()
+        names, is_unread = dict[str, str](), False
+        for step in self.case["steps"]:
+            if "ask" in step:
+                answer = self.asked(named(step["ask"], names), is_unread)
+                names |= {step["as"]: answer.get("thread", answer.get("record"))} if "as" in step else {}
+                self.assertTrue(has(answer, named(step["answer"], names)), (step, answer))
+            is_unread = "unread" in step
+            if "edit" in step:
+                first.edit(step["edit"])
+            elif is_unread:
+                second.edit([second_units(change, first.text) for change in step["unread"]])
+                peer, _, _, asked = self.editors[1]
+                self.engine.take(peer, asked)
+            if not is_unread:
+                self.meet()
+            if "then" in step:
+                self.assertEqual((first.text, second.text), (step["then"],) * 2, step)
+
+    def asked(self, request: Line, is_unread: bool) -> Line:
+        """What the first editor's request is answered."""
+        _, mirror, _, asked = self.editors[0]
+        if not is_unread:
+            self.meet()
+        asked.append(json.dumps({"version": mirror.version, **request, "id": 1}).encode())
+
+        def answered() -> Line | None:
+            return next((line for line in self.meet()[0] if line.get("answer") == request["do"]), None)
+        found: Line = wait_for(answered, f"an answer to {request}")
+        return found
+
+
+def second_units(change: Any, text: str) -> tuple[int, int, str]:
+    """A change of the second editor's, which counts bytes."""
+    begin, end = (len(text[:place].encode()) for place in change[:2])
+    return begin, end, change[2]
+
+
+class Reviews(unittest.TestCase):
+    """Each case of what is asked about a review."""
+
+    def test_an_engine_answers_what_the_vectors_say(self) -> None:
+        cases = json.loads((VECTORS / "review.json").read_text(encoding="utf-8"))["cases"]
+        for case in cases:
+            with self.subTest(case["name"]):
+                played = OfReviews("play")
+                played.case = case
+                result = played.run()
+                self.assertEqual([words for _, words in [*result.errors, *result.failures]] if result else ["not run"], [])
+        asked = {step["ask"]["do"] for case in cases for step in case["steps"] if "ask" in step}
+        self.assertLessEqual({"remark", "reply", "resolve", "suggest", "accept", "reject", "remarks", "changed"}, asked)
 
 
 if __name__ == "__main__":
