@@ -1,9 +1,12 @@
 """A terminal, Emacs, Neovim and a page of Chromium are at one note. In each somebody types, deletes, rewrites and takes back at
 random, by commands that ask, too, and in Neovim in blocks, while the log is stopped and started, and editors and engines are killed:
-each word that nobody deleted or rewrote stands in one text, which all have, as often as it was typed and where it was.
+each word that nobody deleted or rewrote stands in one text, which all have, as often as it was typed and where it was. Where the seed is
+odd the note is of the second form, and words are remarked on, others suggested for them, and these answered, accepted and rejected, by the
+same editors and by scripts: then all have the same threads at the same places, those that the plain program finds.
 
     SHARE_SECONDS=300 SHARE_SEED=7 share/tests/run test_all_editors
 """
+import contextlib
 import os
 import random
 import re
@@ -16,15 +19,20 @@ from concurrent.futures import ThreadPoolExecutor
 from dataclasses import dataclass
 from functools import partial
 
+from share.tests.said import STATES, Said, Sayings, Told, alike, as_plain, plainly
 from share.tests.servers import FileLog, RedisServer
 from share.tests.support import NOTE, Case, wait_for, written
+from share.tests.test_review import second_form
 from share.tests.writers import PATIENCE, Cut, Emacs, Neovim, OwnEditor, PageInChromium, State, Writer, kill_editor, kill_engine
+from share.text.line import Line
 
 SECONDS = float(os.environ.get("SHARE_SECONDS", "0"))
 SEED = int(os.environ.get("SHARE_SEED", "1"))
 # The fewest and the most things that each does before all meet.
 ROUND = (5, 25) if SECONDS else (3, 4)
 EDITORS: list[type[Writer]] = [OwnEditor, Emacs, Neovim, PageInChromium]
+# How much of what is done is said of the text.
+MUCH_SAID = 0.3 if SECONDS else 0.18
 WORD = re.compile(r"[tenp]\d{4}[abc]*\.|begin\.")
 
 
@@ -60,12 +68,15 @@ class Author:
     """Who writes in an editor. What an author does with a word is known before it is done, so that what is to come of
     all is known, too."""
 
-    def __init__(self, writer: Writer, words: list[Word], deciding: threading.Lock, chance: random.Random):
+    def __init__(self, writer: Writer, words: list[Word], deciding: threading.Lock, chance: random.Random,
+                 sayings: Sayings | None = None, told: Told | None = None):
         self.writer, self.words, self._deciding, self._chance = writer, words, deciding, chance
+        # What is said of words, where the note has a margin.
+        self._sayings, self._told = sayings, told
         # What can be taken back, the last edit last.
         self.steps: list[Step] = []
         self._typed = 0
-        self.did = {"typed": 0, "deleted": 0, "rewritten": 0, "in blocks": 0, "taken back": 0, "killed": 0}
+        self.did = {"typed": 0, "deleted": 0, "rewritten": 0, "in blocks": 0, "taken back": 0, "killed": 0, "said": 0, "accepted": 0}
 
     def write(self, many: int, done: "Done") -> None:
         """Does some things, one after the other."""
@@ -84,6 +95,9 @@ class Author:
         self.writer.recover()
 
     def _act(self) -> None:
+        if self._sayings and self._told and self._chance.random() < MUCH_SAID:
+            self.say(self._sayings, self._told)
+            return
         what = self._chance.random()
         if what < 0.15 and self.steps:
             self.undo()
@@ -130,12 +144,84 @@ class Author:
         word.times = neovim.write_in_block(self._some_line(), self._chance.randint(1, 3), word.text, self._pause)
         self._did("in blocks", Step(word))
 
-    def _chosen(self) -> Word | None:
+    def say(self, sayings: Sayings, told: Told) -> None:
+        """Says something of a word, by the editor or by a script."""
+        with self._deciding:
+            free = {word for word, said in sayings.all.items() if said.is_free and said.states == {"open"}}
+        is_answer = free and self._chance.random() < 0.7
+        word = self._chosen(lambda one: one in free if is_answer else one not in sayings.all and one not in sayings.new)
+        if not word:
+            return
+        is_scripts = self._chance.random() < 0.3
+        if not is_answer:
+            self._begin(sayings, told, word, is_scripts)
+        elif (said := sayings.all[word.text]).new and self._chance.random() < 0.5:
+            self._accept(said, told, word, is_scripts)
+        else:
+            self._answer(said, told, word, is_scripts)
+
+    def _begin(self, sayings: Sayings, told: Told, word: Word, is_scripts: bool) -> None:
+        """Remarks on a word, or suggests another one for it."""
+        what = self._chance.choice(["remark", "suggest"])
+        new = self._new_word() if what == "suggest" else None
+        if new:
+            new.is_there, new.ends_line = False, word.ends_line
+        said = sayings.begins(Said(word.text, new.text if new else "", "" if new else f"on {word.text}"))
+        self._says(told, what, word, said.new or said.body, is_scripts)
+        self._is_told(told, word, lambda one: True)
+        said.is_sure = True
+
+    def _answer(self, said: Said, told: Told, word: Word, is_scripts: bool) -> None:
+        """Replies, or says what is to become of it."""
+        said.is_free = False
+        what = self._chance.choice(["reply", "reply", "reject" if said.new else "resolve"])
+        if what == "reply":
+            reply = f"re {word.text} {len(said.replies)}"
+            said.replies[reply] = False
+            self._says(told, what, word, reply, is_scripts)
+            self._is_told(told, word, lambda one: any(it["body"] == reply for it in one["replies"]))
+            said.replies[reply] = True
+        else:
+            said.states.add(STATES[what])
+            self._says(told, what, word, "", is_scripts)
+            self._is_told(told, word, lambda one: one["state"] == STATES[what])
+            said.states = {STATES[what]}
+
+    def _accept(self, said: Said, told: Told, word: Word, is_scripts: bool) -> None:
+        """Accepts what is suggested for a word."""
+        said.is_free = False
+        new = next(one for one in self.words if one.text == said.new)
+        self._changes(word, new)
+        self._says(told, "accept", word, "", is_scripts)
+        step = Step(new, word)
+        self._waits_for("accepted", step.words())
+        if not is_scripts:
+            self.steps.append(step)
+
+    def _says(self, told: Told, what: str, word: Word, words: str, is_scripts: bool) -> None:
+        """Has the editor or a script say something."""
+        if not is_scripts:
+            (self.writer.begin if what in ("remark", "suggest") else self.writer.answer)(what, word.text, words)
+        elif not told.does(what, word.text, words):
+            # Its engine may have been killed; nothing else stops it.
+            self.writer.wait_for(lambda state: False, f"{what} {word.text} {words} by a script")
+
+    def _is_told(self, told: Told, word: Word, is_so: Callable[[Line], bool]) -> None:
+        """Waits until this person's engine says something of the thread about a word."""
+        def is_told() -> bool:
+            if self.writer.is_cut:
+                raise Cut
+            return any(is_so(one) for one in told.threads() if one["text"] == word.text)
+
+        wait_for(is_told, f"what is said of {word}", PATIENCE)
+        self.did["said"] += 1
+
+    def _chosen(self, is_such: Callable[[str], bool] = lambda word: True) -> Word | None:
         """An own word, or one of somebody else's, that this one alone may change from now on."""
         shown = self.writer.seen().text
         with self._deciding:
             may = [word for word in self.words if word.is_there and word.times == 1 and word.text in shown
-                   and (word.holder is self or word.is_fresh)]
+                   and (word.holder is self or word.is_fresh) and is_such(word.text)]
             own = [word for word in may if word.holder is self]
             found = self._chance.choice(own if own and self._chance.random() < 0.6 else may) if may else None
             if found:
@@ -244,6 +330,8 @@ class AllEditors(Case):
 
     def setUp(self) -> None:
         super().setUp()
+        if SEED % 2:
+            second_form(self)
         self.chance = random.Random(SEED)
         self.log: RedisServer | FileLog = self.redis() if SEED % 3 else FileLog(self.folder)
         link = begun(self, self.log.url, "begin.\n")
@@ -259,7 +347,12 @@ class AllEditors(Case):
 
         with ThreadPoolExecutor() as threads:
             writers = [*threads.map(opened, EDITORS, people)]
-        self.authors = [Author(writer, self.words, deciding, random.Random(self.chance.random())) for writer in writers]
+        self.told = {person: Told(self.folder / person) for person in ("ada", "bo")}
+        for told in self.told.values():
+            self.addCleanup(told.close)
+        self.sayings = Sayings() if SEED % 2 else None
+        self.authors = [Author(writer, self.words, deciding, random.Random(self.chance.random()), self.sayings, self.told[writer.person])
+                        for writer in writers]
 
     def test_what_nobody_deleted_stands_once(self) -> None:
         began, rounds = time.monotonic(), 0
@@ -276,10 +369,16 @@ class AllEditors(Case):
         for author in self.authors:
             print(author.writer.tag, author.writer.person, author.did)
         print(f"{rounds} rounds in {time.monotonic() - began:.0f} s, {len(self.words)} words, {len(text)} bytes")
+        threads = self.told["ada"].threads() if self.sayings else []
+        for told in self.told.values():
+            told.close()
         for author in self.authors:
             author.writer.close()
         for person in "ada", "bo":
             self.assertEqual(self.cat(person), text)
+            if self.sayings:
+                plain = plainly(self.opened(self.person(person)).session)
+                self.assertEqual(as_plain(threads, plain), plain)
 
     def round(self, killed: object) -> None:
         """Has all write, while an author's editor is killed, or somebody's engine; and the log is away, perhaps."""
@@ -341,7 +440,20 @@ class AllEditors(Case):
         text = self.authors[0].writer.seen().text
         self.check(text)
         self.assertEqual(self.cat(self.chance.choice(["ada", "bo"])), text)
+        if self.sayings:
+            self.check_sayings(self.sayings, text)
         return text
+
+    def check_sayings(self, sayings: Sayings, text: str) -> None:
+        """Waits until all have the same threads, which are those that were said."""
+        def found() -> tuple[bool, list[str], list[Line]]:
+            every = [told.threads() for told in self.told.values()]
+            return alike(every), sayings.faults(every[0], text), every[0]
+        with contextlib.suppress(AssertionError):
+            wait_for(lambda: found()[:2] == (True, []), "all to say the same", PATIENCE)
+        is_alike, faults, threads = found()
+        self.assertEqual((is_alike, faults), (True, []))
+        sayings.settled(threads)
 
     def check(self, text: str) -> None:
         """That a text has each word that nobody deleted, as often as it was typed and at its line's end, and what was broken off; and

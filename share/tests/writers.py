@@ -69,6 +69,14 @@ SELECTING = """((word) => {
 })(arguments[0])""".replace("MIRROR", MIRROR)
 DELETING = SELECTING.replace("DOES", f'{MIRROR}.execCommand("delCharAfter");')
 
+# The keys of a thread that is looked at, in the terminal.
+THREAD_KEYS = {"reply": "r", "resolve": "d", "accept": "a", "reject": "x"}
+# Goes to a card, once it is there, and clicks on a button of it.
+GOES_TO_CARD = """((card) => (card?.focus(), document.querySelector('.card.active')?.textContent.includes(words[0])))(
+  [...document.querySelectorAll('.card')].find((one) => one.textContent.includes(words[0])))"""
+CLICKS_BUTTON = """((button) => (button?.click(), button))([...document.querySelectorAll('.card.active button')]
+  .find((one) => one.checkVisibility() && one.textContent === words[0]))"""
+
 
 class Cut(Exception):
     """The editor, or its engine, was killed."""
@@ -131,6 +139,14 @@ class Writer(ABC):
     @abstractmethod
     def undo(self) -> None:
         """Takes back the last edit that was made here."""
+
+    @abstractmethod
+    def begin(self, what: str, word: str, words: str) -> None:
+        """Remarks on a word, or suggests another one for it."""
+
+    @abstractmethod
+    def answer(self, what: str, word: str, words: str) -> None:
+        """Replies to what was said of a word, or does something else about that."""
 
     @abstractmethod
     def processes(self) -> list[int]:
@@ -327,6 +343,26 @@ class OwnEditor(InTerminal):
         waits()
         self.type(f"{new}\n")
 
+    def begin(self, what: str, word: str, words: str) -> None:
+        self._find(word)
+        self.press("C-Space", *["Right"] * len(word), {"remark": "C-t", "suggest": "C-u"}[what])
+        # What is suggested is made of what is there.
+        self.press(*["BSpace"] * len(word) * (what == "suggest"))
+        self.type(f"{words}\n")
+        self.press("Escape")
+
+    def answer(self, what: str, word: str, words: str) -> None:
+        self._find(word)
+        self.press("Right", "C-n")
+        self.type(f"{THREAD_KEYS[what]}{words}")
+        if words:
+            self.press("Enter")
+        self.press("Escape")
+
+    def _find(self, word: str) -> None:
+        self.press("C-f")
+        self.type(f"{word}\n")
+
     def undo(self) -> None:
         self.press("C-z")
 
@@ -370,6 +406,17 @@ class Emacs(InTerminal):
         self.type(f"{old}\n{new}\n")
         waits()
         self.type("y")
+
+    def begin(self, what: str, word: str, words: str) -> None:
+        self._evaluates(word, f'(vialshoal-{what} (match-beginning 0) (match-end 0) "{words}")')
+
+    def answer(self, what: str, word: str, words: str) -> None:
+        does = f'(vialshoal-reply (vialshoal-review--thread "none") "{words}")' if words else f"(call-interactively 'vialshoal-{what})"
+        self._evaluates(word, f"(backward-char 3) {does}")
+
+    def _evaluates(self, word: str, does: str) -> None:
+        self.press("M-:")
+        self.type(f'(progn (goto-char 1) (search-forward "{word}") {does})\n')
 
     def undo(self) -> None:
         self.press("C-_")
@@ -426,6 +473,16 @@ class Neovim(InTerminal):
         self.press("Escape")
         return lines
 
+    def begin(self, what: str, word: str, words: str) -> None:
+        self.press(*NORMAL)
+        self.type(f"/\\V{word}\n")
+        self.type(f"gn:Vialshoal{what.capitalize()} {words}\n")
+
+    def answer(self, what: str, word: str, words: str) -> None:
+        self.press(*NORMAL)
+        self.type(f"/\\V{word}\n")
+        self.type(f"l:Vialshoal{what.capitalize()} {words}".rstrip() + "\n")
+
     def _says(self, expression: str) -> str:
         return self.called("nvim", "--server", str(self._socket), "--remote-expr", expression).strip()
 
@@ -453,7 +510,7 @@ class PageInChromium(Writer):
             self.case.addCleanup(self._server.close)
         if self._browser is None:
             self._profiles += 1
-            self._browser = Browser(profile=self.case.folder / f"profile-{self._profiles}")
+            self._browser = Browser(1100, 700, self.case.folder / f"profile-{self._profiles}")
             self.case.addCleanup(self.close)
         self._window = self._browser.open(self._server.path)
 
@@ -482,6 +539,30 @@ class PageInChromium(Writer):
             with self.pressing(), self._driven():
                 self._window.type_over(words)
             waits()
+
+    def begin(self, what: str, word: str, words: str) -> None:
+        with self.pressing(), self._driven():
+            self._window.run(f"{MIRROR}.focus()")
+            self._window.run(SELECTING.replace("DOES", ""), word)
+            self._window.chord(Keys.CONTROL, Keys.ALT, {"remark": "m", "suggest": "s"}[what])
+            self._window.wait_for("document.activeElement.tagName === 'TEXTAREA' && document.activeElement.closest('form')")
+            self._window.type(Keys.CONTROL, "a")
+            self._window.type(words)
+            self._window.type(Keys.CONTROL, Keys.ENTER)
+            self._window.wait_for("!document.querySelector('.draft')")
+            self._window.run(f"{MIRROR}.focus()")
+
+    def answer(self, what: str, word: str, words: str) -> None:
+        with self.pressing(), self._driven():
+            # Only cards of what is in sight are there.
+            self._window.run(SELECTING.replace("DOES", f"{MIRROR}.scrollIntoView(null, 50);"), word)
+            self._window.wait_for(GOES_TO_CARD, word)
+            self._window.wait_for(CLICKS_BUTTON, what.capitalize())
+            if words:
+                self._window.wait_for("document.activeElement.tagName === 'TEXTAREA'")
+                self._window.type(words, Keys.CONTROL, Keys.ENTER)
+                self._window.wait_for("!document.querySelector('.card form')")
+            self._window.run(f"{MIRROR}.focus()")
 
     def undo(self) -> None:
         with self.pressing(), self._driven():
