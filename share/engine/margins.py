@@ -1,24 +1,26 @@
 """A note's margin as its editors are shown it: its threads, where each is in the text, and how many are open. It follows what comes into
-the margin and into the text; what an anchor is about, and no more, is looked at again."""
-from collections.abc import Iterable
-from itertools import islice
+the margin and into the text; where a thread is, is looked for only where that is asked for."""
+from collections.abc import Iterable, Sequence
+from itertools import islice, starmap
 from typing import NamedTuple
 
-from share.engine.spots import Followed, Spot, spots_of
+from share.engine.any_shown import AnyShown
+from share.engine.nearby import Nearby, Settled
+from share.engine.spots import Followed, Placed, Spot, asked, head, placed
+from share.engine.whereabouts import Whereabouts
+from share.format.operation import Operation
 from share.program.order import FullOrder
 from share.program.site import Site
-from share.review.anchor import Knows
-from share.review.margin import Margin, Thread
-from share.review.places import NameIndex
-from share.review.record import MarginState
+from share.review.anchor import Knows, Sums, holds, lacking
+from share.review.margin import AboutText, Margin, RecordKey, Thread
+from share.review.places import NameIndex, NameSet
+from share.review.record import MarginKind, MarginState
 from share.sync.session import Session
 from share.text.change import Change
-from share.text.names import Name, Names
+from share.text.names import Name, Names, united
 
-# The most threads that are shown, and the most changes of the text that places are followed over.
-MOST_THREADS, MOST_FOLLOWED = 100_000, 2_000
-# In the index of places all are of one.
-_HERE = 0
+# The most threads that are shown; and how many messages are handed to the second run of the program at once.
+MOST_THREADS, MOST_ORDERED_AT_ONCE = 100_000, 20_000
 
 
 class Stood(NamedTuple):
@@ -33,6 +35,15 @@ class Stood(NamedTuple):
         return self.thread.state is MarginState.OPEN and not self.spot.is_accepted
 
 
+class FoundThread(NamedTuple):
+    """Which thread is where."""
+
+    name: Name
+    # By which those at one place are ordered.
+    key: RecordKey
+    spot: Spot
+
+
 class ShownMargin:
     """The threads that are shown. The engine's thread alone calls it."""
 
@@ -45,22 +56,22 @@ class ShownMargin:
 
     def forget(self) -> None:
         """Begins anew, with nothing."""
-        # Where threads were, before the changes since; what is to be looked at again; and those that are open.
-        self._spots, self._dirty, self._open = dict[Name, Spot](), set[Name](), set[Name]()
-        # Those at the places of hidden characters.
-        self._hidden = set[Name]()
-        # Threads by the characters that they are about, and by where they were.
-        self._of_names, self._places = NameIndex[Name](), NameIndex[Name]()
-        self._changes: list[Change] | None = []
-        # Those that were looked at since the changes began.
-        self._fresh = set[Name]()
+        # Where threads were as all were looked at, and which are near; what came and went of their characters since.
+        self._spots, self._nearby, self._touched = dict[Name, Spot](), Nearby(), list[Names]()
+        # What they are about; those that hold; what others lack for that.
+        self._about, self._held, self._lacking = dict[Name, AboutText](), set[Name](), NameIndex[Name]()
+        # All characters that they are about, and who is about some.
+        self._names, self._of_names = NameSet(), NameIndex[Name]()
+        # Of suggestions what is shown as one is accepted, or isn't where nothing is suggested instead.
+        self._replaced = AnyShown()
+        # Those that are open by what is said of them, and those that are.
+        self._said_open, self._open = set[Name](), set[Name]()
+        # Those that may hold now, and those that may be open now or not.
+        self._due, self._counted = set[Name](), set[Name]()
 
     def moved(self, change: Change, is_known: bool) -> None:
         """Follows a change of the text, of which it may be known that it is what came or went."""
-        if self._changes is not None and self._spots:
-            self._changes.append(change)
-            if not is_known or len(self._changes) > MOST_FOLLOWED:
-                self._changes = None
+        self._nearby.moved(change, is_known)
 
     def look(self) -> None:
         """Takes over what came into the margin and the text. Where that fails all is looked at anew the next time."""
@@ -75,16 +86,26 @@ class ShownMargin:
         changed, (messages, is_anew) = margin.read_on(), margin.of_text.more()
         if changed is None or is_anew:
             self.forget()
-            self._touch(margin.said.threads())
+            changed = {*margin.said.threads()}
             self.times += 1
         else:
-            self._touch(changed)
             self.times += bool(changed)
-            for run in messages.runs() if self._spots else ():
-                self._dirty |= self._of_names.meeting(run.names)
-        if self._dirty:
-            self.times += 1
-            self._look_again()
+            runs = [run for run in messages.runs() if self._names.meets(run.names)] if self._spots else []
+            self.times += bool(runs)
+            for run in runs:
+                self._follow(run)
+        self._touch(sorted(changed, key=margin.said.key))
+        self._hold()
+        self._count()
+        self._nearby.look(self._session.site)
+
+    def _follow(self, run: Operation) -> None:
+        """Notes what came or went of what threads are about."""
+        self._touched += run.names
+        self._nearby.follow(run)
+        self._replaced.follow(run)
+        if run.data:
+            self._due |= self._lacking.meeting(run.names)
 
     def _touch(self, names: Iterable[Name]) -> None:
         """Notes that threads may be otherwise, or are new."""
@@ -92,85 +113,120 @@ class ShownMargin:
         for name in names:
             if name not in self._spots and len(self._spots) >= MOST_THREADS:
                 continue
-            thread = said.thread(name)
             self._spots.setdefault(name, Spot())
-            behind = thread.anchor.behind
-            self._of_names.add((*thread.anchor.at, *thread.new, *([Names(*behind, 1)] if behind and behind[0] else [])), name)
-            self._dirty.add(name)
+            (self._said_open.add if said.thread(name).state is MarginState.OPEN else self._said_open.discard)(name)
+            self._counted.add(name)
+            about = said.about(name)
+            if about != self._about.get(name):
+                self._about[name] = about
+                self._names.add(asked(about))
+                self._of_names.add(asked(about), name)
+                self._due.add(name)
 
-    def _look_again(self) -> None:
-        """Looks where those are of which something may be otherwise."""
-        names, self._dirty = [*self._dirty], set()
-        for name, shown in zip(names, self._located(names)):
-            self._put(name, shown.spot)
-            (self._open.add if shown.is_open else self._open.discard)(name)
-        self._fresh.update(names)
+    def _hold(self) -> None:
+        """Looks whether those hold that may."""
+        knows = self._session.margin.knows()
+        sums = Sums(knows)
+        for name in self._due:
+            about = self._about[name]
+            if holds(about.anchor, about.new, name[0], knows, sums):
+                self._held.add(name)
+                if about.kind is MarginKind.SUGGESTION:
+                    self._replaced.add(name, about.new or about.anchor.at)
+            else:
+                self._held.discard(name)
+                self._replaced.remove(name)
+                lacks = lacking(about.anchor, about.new, knows)
+                self._lacking.add([Names(*lacks, 1)] if lacks else [], name)
+            self._nearby.add(name)
+        self._counted |= self._due
+        self._due = set()
 
-    def _put(self, name: Name, spot: Spot) -> None:
-        self._spots[name] = spot
-        (self._hidden.add if spot.hidden else self._hidden.discard)(name)
+    def _count(self) -> None:
+        """Looks whether those are open that may be so now or not."""
+        self._counted |= self._replaced.look(self._session.site)
+        for name in self._counted:
+            (self._open.add if name in self._said_open and not self._is_accepted(name) else self._open.discard)(name)
+        self._counted = set()
 
-    def _located(self, names: Iterable[Name]) -> list[Stood]:
-        """Threads, and where they are now, but for places of hidden characters."""
-        margin, site = self._session.margin, self._session.site
-        threads = [*map(margin.said.thread, names)]
-        return [*map(Stood, threads, spots_of(threads, site, margin.knows()))]
+    def _is_accepted(self, name: Name) -> bool:
+        about = self._about[name]
+        is_held = about.kind is MarginKind.SUGGESTION and name in self._held
+        return is_held and self._replaced.is_shown(name) is bool(about.new)
 
     def counts(self) -> tuple[int, int]:
         """How many threads there are, and how many of them are open."""
         return len(self._spots), len(self._open)
 
-    def lacks(self) -> int:
-        """How many messages the order of all characters lacks, where it is asked for places."""
+    def is_open(self, name: Name) -> bool:
+        """Whether somebody is still to do something about a thread."""
+        return name in self._open
+
+    def lacks(self, spots: Iterable[Spot]) -> int:
+        """How many messages the order of all characters lacks, where it is asked for places of these."""
         history = self._session.site.history
-        return self.order.lacks(history, len(history)) if self._hidden else 0
+        return self.order.lacks(history, len(history)) if any(spot.hidden and spot.begin is None for spot in spots) else 0
 
     def one(self, name: Name) -> Stood | None:
         """A thread, and where it is now."""
         if name not in self._spots:
             return None
-        (shown,) = self._placed(self._located([name]))
+        (shown,) = self.stood(self.in_places(self._located([name])))
         return shown
 
-    def within(self, begin: int, end: int) -> list[Stood]:
-        """The threads that are shown within a stretch, in their order there."""
-        if self._changes is None or len(self._fresh) > MOST_FOLLOWED:
-            self._settle()
-        low, high = Followed(self._changes or []).before(begin, end)
-        near = self._places.meeting([Names(_HERE, max(0, low), max(1, high - low + 1))]) | self._fresh
-        found = self._placed(self._located(sorted(near)))
-        return sorted((one for one in found if one.spot.meets(begin, end)), key=_place)
+    def stood(self, found: Iterable[FoundThread]) -> list[Stood]:
+        """These threads, and where they are."""
+        return [Stood(self._session.margin.said.thread(one.name), one.spot) for one in found]
 
-    def all(self) -> list[Stood]:
-        """All threads, in the order of their places; those that aren't here last."""
+    def within(self, begin: int, end: int) -> list[FoundThread]:
+        """The threads that are shown within a stretch, in their order there; places of hidden characters are left out, where these may be
+        within it."""
+        if self._nearby.has_to_settle():
+            self._settle()
+        return self._located(self._nearby.within(begin, end))
+
+    def all(self) -> list[FoundThread]:
+        """All threads."""
         self._settle()
-        said = self._session.margin.said
-        return sorted((Stood(said.thread(name), spot) for name, spot in self._spots.items()), key=_place)
+        key = self._session.margin.said.key
+        return [FoundThread(name, key(name), spot) for name, spot in self._spots.items()]
 
     def _settle(self) -> None:
         """Looks where all are now, those of which no character went or came by the changes of the text alone."""
-        changes, fresh = self._changes, self._fresh
-        kept = Followed(changes or [])
-
-        def is_lost(name: Name, spot: Spot) -> bool:
-            if changes is None or spot.hidden and spot.begin is None:
-                return True
-            return bool(changes) and (name in fresh or not kept.moved(spot))
-
-        lost = [name for name, spot in self._spots.items() if is_lost(name, spot)]
+        near = self._nearby
+        changes, touched = near.changes, near.anywhere | self._of_names.meeting(united(self._touched))
+        kept = None if near.needs_all() else Followed(changes or [])
         # Where that fails all are looked at the next time.
-        self._changes = None
-        for name, shown in zip(lost, self._placed(self._located(lost))):
-            self._put(name, shown.spot)
-        self._changes, self._fresh = [], set()
-        self._places = NameIndex()
-        for name, spot in self._spots.items():
-            if spot.begin is not None:
-                self._places.add([Names(_HERE, max(0, spot.begin - 1), spot.end - spot.begin + 2)], name)
+        near.changes = None
+        lost = [name for name, spot in self._spots.items() if kept is None or name in touched or changes and not kept.moved(spot)]
+        if lost or changes:
+            self._look_at(lost, kept)
+        near.changes, self._touched = [], []
 
-    def _placed(self, found: list[Stood]) -> list[Stood]:
-        """The same, with places where hidden characters would be."""
-        return _with_places(found, self._session.site, self.order)
+    def _look_at(self, lost: list[Name], kept: Followed | None) -> None:
+        """Looks where some are, where all others have moved along."""
+        site, abouts = self._session.site, {name: self._about[name] for name in lost if name in self._held}
+        whereabouts = Whereabouts((names for about in abouts.values() for names in asked(about)), site)
+        found = {name: placed(about, whereabouts) for name, about in abouts.items()}
+        spots = [one.spot for one in found.values()]
+        if self.lacks(spots) <= MOST_ORDERED_AT_ONCE:
+            _with_places(spots, site, self.order)
+        self._spots |= {name: found[name].spot if name in found else Spot() for name in lost}
+
+        def settled(name: Name, one: Placed) -> Settled:
+            by, names = head(abouts[name].anchor), tuple(asked(abouts[name]))
+            return Settled(name, names, one, one.spot.begin is not None and (not by[0] or one.spot.hidden == by)
+                           or whereabouts.of(Names(*by, 1)) is not None)
+        self._nearby.settle(kept, starmap(settled, found.items()), whereabouts.shown(), site)
+
+    def _located(self, names: Iterable[Name]) -> list[FoundThread]:
+        """Where some are now, but for places of hidden characters."""
+        about, key = self._about, self._session.margin.said.key
+        return located([(name, key(name), about[name] if name in self._held else None) for name in names], self._session.site)
+
+    def in_places(self, found: Iterable[FoundThread]) -> list[FoundThread]:
+        """The same in the order of their places, with those of hidden characters; those that aren't here last."""
+        return in_places(found, self._session.site, self.order)
 
     def close(self) -> None:
         """Ends the second run of the program, where there is one."""
@@ -179,24 +235,38 @@ class ShownMargin:
 
 def threads_of(said: Margin, site: Site, knows: Knows) -> list[Stood]:
     """The threads of a margin, and where they are in a text that stays as it is, in the order of their places."""
-    threads, order = [*islice(said.each(), MOST_THREADS)], FullOrder()
+    order, sums = FullOrder(), Sums(knows)
+
+    def held(name: Name) -> AboutText | None:
+        about = said.about(name)
+        return about if holds(about.anchor, about.new, name[0], knows, sums) else None
     try:
-        return sorted(_with_places([*map(Stood, threads, spots_of(threads, site, knows))], site, order), key=_place)
+        found = located([(name, said.key(name), held(name)) for name in islice(said.threads(), MOST_THREADS)], site)
+        return [Stood(said.thread(one.name), one.spot) for one in in_places(found, site, order)]
     finally:
         order.close()
 
 
-def _with_places(found: list[Stood], site: Site, order: FullOrder) -> list[Stood]:
-    """The same threads, with places where hidden characters would be."""
-    if any(one.spot.hidden for one in found):
+def located(threads: Sequence[tuple[Name, RecordKey, AboutText | None]], site: Site) -> list[FoundThread]:
+    """Where threads are now, but for places of hidden characters; nowhere those of which it isn't known what they are about."""
+    whereabouts = Whereabouts((names for _, _, about in threads if about for names in asked(about)), site)
+    return [FoundThread(name, key, placed(about, whereabouts).spot if about else Spot()) for name, key, about in threads]
+
+
+def in_places(found: Iterable[FoundThread], site: Site, order: FullOrder) -> list[FoundThread]:
+    """Threads in the order of their places, with those of hidden characters; those that aren't here last."""
+    found = [*found]
+    _with_places([one.spot for one in found], site, order)
+    return sorted(found, key=lambda one: (one.spot.begin is None, one.spot.begin or 0, one.key))
+
+
+def _with_places(spots: Sequence[Spot], site: Site, order: FullOrder) -> None:
+    """Has spots be where hidden characters would be."""
+    hidden = [spot for spot in spots if spot.hidden and spot.begin is None]
+    if hidden:
         order.take(site.history, site.history[:])
-    for _, spot in found:
-        if spot.hidden and spot.begin is None and (place := order.place(spot.hidden, site)) is not None:
+    places = {name: order.place(name, site) for name in {spot.hidden for spot in hidden} if name}
+    for spot in hidden:
+        place = places[spot.hidden] if spot.hidden else None
+        if place is not None:
             spot.begin = spot.end = place
-    return found
-
-
-def _place(one: Stood) -> tuple[bool, int, tuple[int, int]]:
-    """By which threads are ordered."""
-    begin = one.spot.begin
-    return begin is None, begin or 0, one.thread.first.key

@@ -10,7 +10,7 @@ from share.engine.by_name import ByName
 from share.engine.editor import Peer
 from share.engine.gaps import rewrite_of
 from share.engine.history import History
-from share.engine.margins import Stood, ShownMargin
+from share.engine.margins import MOST_ORDERED_AT_ONCE, FoundThread, ShownMargin, Stood
 from share.engine.protocol import Wrong
 from share.engine.shared_text import SharedText
 from share.engine.thread_lines import MOST_PAGE, ToldTo, thread_lines
@@ -29,8 +29,6 @@ from share.text.rope import readable, swapped
 
 # The most bytes of a replacement.
 MOST_REPLACED = 8_000
-# More messages than this aren't handed to the second run of the program in the engine's thread.
-MOST_ORDERED_AT_ONCE = 20_000
 DoneWork = TypeVar("DoneWork")
 STATES = {"resolve": MarginState.RESOLVED, "reopen": MarginState.OPEN, "reject": MarginState.REJECTED}
 
@@ -92,18 +90,21 @@ class Reviewing:
         within = Range(*self._places(peer, request)) if "begin" in request else None
         only_open = request.get("open") is True
 
-        def answer() -> Line:
+        def found() -> list[FoundThread]:
             self.shown.look()
-            found = self.shown.within(within.begin, within.end) if within else self.shown.all()
-            found = [one for one in found if one.is_open] if only_open else found
+            return self.shown.within(within.begin, within.end) if within else self.shown.all()
+
+        def answer(found: list[FoundThread]) -> Line:
+            found = [one for one in self.shown.in_places(found) if not within or one.spot.meets(within.begin, within.end)]
+            found = [one for one in found if self.shown.is_open(one.name)] if only_open else found
             told = ToldTo(self._text.measured, transformer.units, self._session.is_own, self._session.margin.knows().data)
-            lines = thread_lines(found[begin:begin + most], told)
+            lines = thread_lines(self.shown.stood(found[begin:begin + most]), told)
             return {"edits": transformer.edits, "threads": lines, "of": len(found)}
 
-        self.shown.look()
-        if self.shown.lacks() <= MOST_ORDERED_AT_ONCE:
-            return answer()
-        self._answer_later(peer, request, within, answer)
+        now = found()
+        if self.shown.lacks(one.spot for one in now) <= MOST_ORDERED_AT_ONCE:
+            return answer(now)
+        self._answer_later(peer, request, within, lambda: answer(found()))
         return None
 
     def _answer_later(self, peer: Peer, request: Line, within: Range | None, answer: Callable[[], Line]) -> None:

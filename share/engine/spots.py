@@ -2,12 +2,11 @@
 from bisect import bisect_right
 from collections.abc import Iterable, Sequence
 from dataclasses import dataclass
+from typing import NamedTuple
 
-from share.program.effects import Stretch
-from share.program.site import Site
-from share.review.anchor import Knows, holds
-from share.review.margin import Thread
-from share.review.record import MarginKind
+from share.engine.whereabouts import Extent, Whereabouts
+from share.review.margin import AboutText
+from share.review.record import Anchor, MarginKind
 from share.text.change import Change
 from share.text.delta import all_composed, of_change
 from share.text.names import Name, Names
@@ -42,50 +41,64 @@ class Spot:
         return self.begin < end and begin < self.end
 
 
-def spots_of(threads: Sequence[Thread], site: Site, knows: Knows) -> list[Spot]:
-    """Where threads stand, but for places of hidden characters."""
-    held = [holds(one.anchor, one.new, one.first.name[0], knows) for one in threads]
-    asked = [_asked(thread) for thread, is_held in zip(threads, held) if is_held]
-    answers = iter(site.where([names for some in asked for names in some]))
-    return [_spot(thread, [next(answers) for _ in _asked(thread)]) if is_held else Spot() for thread, is_held in zip(threads, held)]
+class Placed(NamedTuple):
+    """How a thread stands to the text, and all the characters that may be where it is, as far as they are shown."""
+
+    spot: Spot
+    all: tuple[int, int] | None
+    # Whether all of them are shown.
+    is_whole: bool
 
 
-def _asked(thread: Thread) -> list[Names]:
+def asked(about: AboutText) -> list[Names]:
     """The characters of a thread that may be shown: those that it is about, then the replacement."""
-    behind = thread.anchor.behind
-    return [*thread.anchor.at, *([Names(*behind, 1)] if behind and behind[0] else []), *thread.new]
+    behind = about.anchor.behind
+    return [*about.anchor.at, *([Names(*behind, 1)] if behind and behind[0] else []), *about.new]
 
 
-def _spot(thread: Thread, answers: list[list[Stretch]]) -> Spot:
-    """Where a thread stands whose characters are shown so."""
-    anchor, many = thread.anchor, len(answers) - len(thread.new)
-    of, shown, new = answers[:many], _joined(answers[:many]), _joined(answers[many:])
+def placed(about: AboutText, whereabouts: Whereabouts) -> Placed:
+    """How a thread stands to the text whose characters are here, but for places of hidden ones."""
+    anchor, names = about.anchor, asked(about)
+    found = [*map(whereabouts.of, names)]
+    many = len(found) - len(about.new)
+    shown, new = _joined(found[:many]), _joined(found[many:])
     spot = Spot(holds=True)
-    if thread.kind is MarginKind.SUGGESTION:
-        spot.is_accepted = bool(new) if thread.new else not shown
-        spot.is_changed = bool(anchor.at) and not _is_as_it_was(anchor.at, of)
+    if about.kind is MarginKind.SUGGESTION:
+        spot.is_accepted = bool(new) if about.new else not shown
+        spot.is_changed = bool(anchor.at) and not _is_as_it_was(anchor.at, found)
     # An accepted one is where its replacement is.
     places = new if anchor.behind else shown or new
     if places:
-        spot.begin, spot.end = min(one.position for one in places), max(one.position + len(one.data) for one in places)
+        spot.begin, spot.end = _from_to(places)
     elif anchor.behind and (shown or not anchor.behind[0]):
-        spot.begin = spot.end = shown[0].position + 1 if shown else 0
+        spot.begin = spot.end = shown[0].begin + 1 if shown else 0
     else:
-        spot.hidden, spot.is_gone = anchor.behind or (anchor.at[0].site, anchor.at[0].at), not anchor.behind
-    return spot
+        spot.hidden, spot.is_gone = head(anchor), not anchor.behind
+    both = shown + new
+    is_whole = sum(one.many for one in both) == sum(one.length for one in names)
+    return Placed(spot, _from_to(both) if both else None, is_whole)
 
 
-def _joined(answers: Iterable[list[Stretch]]) -> list[Stretch]:
-    return [one for some in answers for one in some]
+def head(anchor: Anchor) -> Name:
+    """The character at whose place a thread is where none of its characters is shown."""
+    return anchor.behind or (anchor.at[0].site, anchor.at[0].at)
 
 
-def _is_as_it_was(at: Sequence[Names], answers: Sequence[Sequence[Stretch]]) -> bool:
+def _joined(found: Iterable[Extent | None]) -> list[Extent]:
+    return [one for one in found if one]
+
+
+def _from_to(found: Sequence[Extent]) -> tuple[int, int]:
+    return min(one.begin for one in found), max(one.end for one in found)
+
+
+def _is_as_it_was(at: Sequence[Names], found: Sequence[Extent | None]) -> bool:
     """Whether all of some characters are shown, in their order, with nothing between them."""
     end: int | None = None
-    for names, found in zip(at, answers):
-        if len(found) != 1 or len(found[0].data) != names.length or end not in (None, found[0].position):
+    for names, one in zip(at, found):
+        if not one or not one.is_in_a_row or one.many != names.length or end not in (None, one.begin):
             return False
-        end = found[0].position + names.length
+        end = one.end
     return True
 
 
@@ -127,6 +140,16 @@ class Followed:
             # What is next now is what was kept after that.
             return low, self._old[last + 1]
         return low, self._old[last] + end - self._new[last]
+
+    def around(self, begin: int, end: int) -> tuple[int, int]:
+        """A stretch of the text now that has all which is or was within a stretch before the changes; it begins before 0 where nothing of
+        what was kept was before that."""
+        first, last = bisect_right(self._old, begin) - 1, bisect_right(self._old, end - 1) - 1
+        low = -1 if first < 0 else self._new[first] + min(begin - self._old[first], self._lengths[first] - 1)
+        if last < 0 or end > self._old[last] + self._lengths[last]:
+            # What was next and is still there.
+            return low, self._new[last + 1] + 1
+        return low, self._new[last] + end - self._old[last]
 
     def moved(self, spot: Spot) -> bool:
         """Moves a spot of which no character was hidden or shown since; whether all is known of it then."""

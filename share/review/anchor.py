@@ -19,7 +19,20 @@ class Knows(NamedTuple):
     is_of_base: Callable[[int], bool]
 
 
-def holds(anchor: Anchor, new: Sequence[Names], author: int, knows: Knows) -> bool:
+class Sums:
+    """The sums of the bytes of characters, of the same ones found once."""
+
+    def __init__(self, knows: Knows):
+        self._knows, self._found = knows, dict[tuple[Names, ...], str | None]()
+
+    def of(self, names: tuple[Names, ...]) -> str | None:
+        """The sum; None where one isn't there."""
+        if names not in self._found:
+            self._found[names] = _sum(names, self._knows)
+        return self._found[names]
+
+
+def holds(anchor: Anchor, new: Sequence[Names], author: int, knows: Knows, sums: Sums | None = None) -> bool:
     """Whether an anchor's characters, and a replacement's, which are its author's, are those that he saw."""
     if any(one.site != author for one in new) or not is_small([*anchor.at, *new]):
         return False
@@ -31,7 +44,13 @@ def holds(anchor: Anchor, new: Sequence[Names], author: int, knows: Knows) -> bo
             return False
     if anchor.behind and anchor.behind[0] and knows.inserter(anchor.behind) is None:
         return False
-    return _sum([*anchor.at, *new], knows) == anchor.sum
+    return (sums or Sums(knows)).of((*anchor.at, *new)) == anchor.sum
+
+
+def lacking(anchor: Anchor, new: Sequence[Names], knows: Knows) -> Name | None:
+    """A character without which an anchor can't hold, and which isn't there yet."""
+    lasts = _lasts(anchor, new) if is_small([*anchor.at, *new]) else []
+    return next((name for name in lasts if knows.data(Names(*name, 1)) is None), None)
 
 
 def is_small(names: Sequence[Names]) -> bool:

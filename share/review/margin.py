@@ -30,6 +30,14 @@ class Remark(NamedTuple):
     is_revised: bool
 
 
+class AboutText(NamedTuple):
+    """What a thread is about, and what it suggests instead."""
+
+    kind: MarginKind
+    anchor: Anchor
+    new: tuple[Names, ...]
+
+
 class Thread(NamedTuple):
     """A remark or a suggestion, with its replies. What is suggested may be accepted besides, which the text says."""
 
@@ -158,9 +166,14 @@ class Margin:
         replies = (self._remark(answer) for answer in answers if answer.record.kind is MarginKind.REPLY)
         return Thread(first, one.record.kind, None if first.body is None else states[-1], self._anchor(one), one.record.new, (*replies,))
 
-    def anchor(self, name: Name) -> Anchor:
-        """What a thread is said of."""
-        return self._anchor(self._by_name[name])
+    def about(self, name: Name) -> AboutText:
+        """What a thread is about."""
+        one = self._by_name[name]
+        return AboutText(one.record.kind, self._anchor(one), one.record.new)
+
+    def key(self, name: Name) -> RecordKey:
+        """By what a record that begins so is ordered."""
+        return self._by_name[name].key
 
     def _anchor(self, one: _Entered) -> Anchor:
         anchor, parts = one.record.anchor, [*self._parts(one)]

@@ -1,18 +1,22 @@
 """Where threads are in the text: as it is when all is looked up anew, whatever was typed, deleted and brought back meanwhile."""
+import itertools
 import random
 import unittest
 from collections.abc import Callable
 from contextlib import closing
 from functools import partial
+from typing import Any
 from unittest import mock
 
-from share.engine import margins
+from share.engine import margins, nearby
 from share.engine.spots import Followed
+from share.engine.whereabouts import Extent, Whereabouts
 from share.format.history import Messages
 from share.format.operation import length_after
 from share.program.order import FullOrder
 from share.program.site import Site
 from share.review.anchor import anchored
+from share.review.places import NameSet, Spans
 from share.review.record import MarginKind, MarginRecord
 from share.review.writing import lines_of
 from share.tests.counting import instructions
@@ -22,7 +26,7 @@ from share.tests.test_review import Reviewed
 from share.text.change import Change, make
 from share.text.errors import Trouble
 from share.text.line import Line
-from share.text.names import Names
+from share.text.names import Names, united
 
 
 class Anew(Reviewed):
@@ -30,7 +34,7 @@ class Anew(Reviewed):
 
     def test_at_random(self) -> None:
         for seed in range(6):
-            with mock.patch.object(margins, "MOST_FOLLOWED", (2_000, 3)[seed % 2]):
+            with mock.patch.object(nearby, "MOST_FOLLOWED", (2_000, 3)[seed % 2]):
                 self._goes_on_at_random(random.Random(seed))
 
     def _goes_on_at_random(self, chance: random.Random) -> None:
@@ -66,6 +70,60 @@ class Anew(Reviewed):
             to = chance.choice(threads)["id"]
             self.ask(chance.choice(["accept", "accept", "accept", "resolve", "reject", "reopen", "withdraw"]), number, to=to, anyway=True)
 
+    def test_within_what_many_are_about_at_random(self) -> None:
+        for seed in range(6):
+            with (mock.patch.object(nearby, "MOST_FOLLOWED", (2_000, 2_000, 5)[seed % 3]),
+                  mock.patch.object(nearby, "MOST_TOLD_APART", (8, 1)[seed % 2])):
+                self._within_at_random(random.Random(seed))
+
+    def _within_at_random(self, chance: random.Random) -> None:
+        self.type(0, 0, " ".join(str(number) for number in range(20)))
+        for step in range(60):
+            size = len(self.text)
+            begin = chance.randrange(size + 1)
+            end = min(size, begin + chance.choice([1, 1, 2, 9, size // 2]))
+            number = chance.randrange(2)
+            what = chance.choice(["type", "delete", "delete", "undo", "undo", "said", "answer"] + ["said"] * 9 * (step < 12))
+            if what in ("type", "delete"):
+                self.type(begin, begin if what == "type" else end, "x" * chance.randint(1, 3) if what == "type" else "", number)
+            elif what == "undo":
+                self.ask(chance.choice(["undo", "undo", "redo"]), number, begin=begin // 2, end=size)
+            elif what == "said":
+                self._says(chance)
+            elif what == "answer" and (names := self.session().margin.said.threads()):
+                to = "{}:{}".format(*chance.choice(names))
+                self.ask(chance.choice(["accept", "accept", "reopen", "reject"]), number, to=to, anyway=True)
+            note = self.engine._note
+            assert note
+            note.reviewing.look()
+            wanted = self._anew()
+            self.assertEqual(note.reviewing.shown.counts(), (len(wanted), sum(one["state"] == "open" for one in wanted)))
+            for size in 0, 1, 3:
+                begin = chance.randrange(len(self.text) + 1)
+                end = min(len(self.text), begin + size)
+                self.assertEqual(self.threads(begin=begin, end=end), [one for one in wanted if _meets(one, begin, end)])
+            if step % 7 == 5:
+                self.assertEqual(self.threads(), wanted)
+        self.assertEqual(self.threads(), self._anew())
+
+    def _says(self, chance: random.Random) -> None:
+        """Somebody says something of characters, whether they are shown or not, in whatever order."""
+        session = self.session()
+        lengths = {run.site: run.at + len(run.data) for run in session.site.history.runs() if run.data}
+
+        def names(site: int) -> Names:
+            at = chance.randrange(lengths[site])
+            return Names(site, at, chance.choice([1, 5, lengths[site]]))
+        found = [names(chance.choice([*lengths])) for _ in range(chance.choice([1, 1, 2, 4]))]
+        found = [one._replace(length=min(one.length, lengths[one.site] - one.at)) for one in found]
+        behind = chance.choice([(0, 0), (found[0].site, found[0].at), None, None])
+        own = session.number in lengths and chance.random() < 0.5
+        new = united([names(session.number) for _ in range(2)]) if own else []
+        new = [one._replace(length=min(one.length, lengths[one.site] - one.at)) for one in new]
+        kind = MarginKind.SUGGESTION if new or behind is None and chance.random() < 0.5 else MarginKind.REMARK
+        anchor = anchored([] if behind else found, behind, new, "", session.margin.knows())
+        session.margin.write(MarginRecord(kind, "Ann", 1, "", "?", anchor=anchor, new=tuple(new)))
+
     def _anew(self) -> list[Line]:
         """All threads, as one is told that asks for the first time."""
         note = self.engine._note
@@ -86,7 +144,7 @@ class Anew(Reviewed):
         for words in "one", "two", "three":
             self.remark(words)
         edits = {"something comes within the first one": (1, 1, "x"), "all of it goes": (0, 4, "")}
-        for (what, edit), fault in zip(edits.items(), ("share.engine.margins.spots_of", "share.program.order.Site.take")):
+        for (what, edit), fault in zip(edits.items(), ("share.engine.whereabouts.Site.where", "share.program.order.Site.take")):
             with self.subTest(what):
                 self.threads()
                 self.type(*edit)
@@ -122,6 +180,63 @@ class Anew(Reviewed):
         self.assertEqual(shown.counts(), (100_000, 100_000))
         for counted, (few, many) in worked.items():
             self.assertLess(many, 1.1 * few, counted)
+
+    def test_a_key_within_what_very_many_remarks_are_about_costs_the_same(self) -> None:
+        self._costs_the_same(lambda number: (number % 150, 500 - number % 149), MarginKind.REMARK)
+
+    def test_a_key_within_what_very_many_would_delete_costs_the_same(self) -> None:
+        self._costs_the_same(lambda _: (0, 500), MarginKind.SUGGESTION)
+
+    def test_a_key_within_what_many_would_delete_in_parts_costs_the_same(self) -> None:
+        self._costs_the_same(lambda number: (number % 150, 500 - number % 149), MarginKind.SUGGESTION)
+
+    def _costs_the_same(self, stretch: Callable[[int], tuple[int, int]], kind: MarginKind) -> None:
+        """A key costs the same however many are about what is around it."""
+        self.type(0, 0, "".join(f"{number:04}\n" for number in range(120)))
+        note = self.engine._note
+        assert note
+        self.editors[0][0].sees_remarks = True
+        shown, site = note.reviewing.shown, self.session().site
+        worked = dict[str, list[tuple[int, int]]]()
+        for most, before in (10, 0), (20_000, 10):
+            self._remarked([site.names(*stretch(number)) for number in range(before, most)], kind)
+            many = shown.counts()[1]
+            # Where each is has to be looked for once.
+            self.ask("remarks", most=1)
+            works: dict[str, Callable[[], object]] = {
+                "deleted": partial(self.type, 300, 301, ""), "deleted again": partial(self.type, 300, 301, ""),
+                "typed": partial(self.type, 300, 300, "x"), "undone": partial(self.ask, "undo"), "undone again": partial(self.ask, "undo"),
+                "shown elsewhere": partial(self.ask, "remarks", begin=len(self.text) - 1, end=len(self.text))}
+            for name, work in works.items():
+                worked.setdefault(name, []).append(self._work(work))
+            self.assertEqual(shown.counts()[1], many)
+        for name, (few, many_more) in worked.items():
+            # Of which of those that would be deleted one is shown may be asked again, at once.
+            self.assertLessEqual(many_more[1], few[1] + 1, f"what was asked: {name}")
+            self.assertLess(many_more[0], 2 * few[0], f"work: {name}")
+
+    def _remarked(self, many: list[list[Names]], kind: MarginKind) -> None:
+        """Somebody says something of each of these characters."""
+        note = self.engine._note
+        assert note
+        said, knows = self.session().margin.said, self.session().margin.knows()
+        made = len(said)
+        for number, names in enumerate(many, made):
+            one = MarginRecord(kind, "Ann", number, "", "why?", anchor=anchored(names, None, [], "", knows))
+            (data,) = lines_of(one, 9, 300 * number)
+            note.reviewing.shown._touch(said.add(operation(Inserted(9, 300 * number, number + 1, data))))
+        note.reviewing.look()
+
+    def _work(self, work: Callable[[], object]) -> tuple[int, int]:
+        """How many instructions some work takes, and how many events the program is asked for."""
+        asked, ask = list[int](), Site._ask
+
+        def asks(site: Site, events: list[bytes]) -> Any:
+            asked.append(len(events))
+            return ask(site, events)
+        with mock.patch.object(Site, "_ask", asks):
+            worked = instructions(work)
+        return worked, sum(asked)
 
 
 def _meets(one: Line, begin: int, end: int) -> bool:
@@ -176,6 +291,53 @@ class Hidden(unittest.TestCase):
             self.assertEqual([order.place((5, at), site) for at in range(5)], [0, 2, 3, 1, 1])
 
 
+class Sets(unittest.TestCase):
+    """Names and stretches, as they are found one by one."""
+
+    def test_names_at_random(self) -> None:
+        for seed in range(200):
+            chance, names, plain = random.Random(seed), NameSet(), set[tuple[int, int]]()
+            for _ in range(20):
+                one = Names(chance.randint(1, 2), chance.randrange(30), chance.randint(1, 6))
+                each = {(one.site, one.at + number) for number in range(one.length)}
+                self.assertEqual(names.meets([one]), bool(each & plain))
+                lacks = [(some.site, some.at + number) for some in names.lacks([one]) for number in range(some.length)]
+                self.assertEqual((len(lacks), {*lacks}), (len(each - plain), each - plain))
+                if chance.random() < 0.5:
+                    names.add([one])
+                    plain |= each
+
+    def test_stretches_at_random(self) -> None:
+        for seed in range(200):
+            chance = random.Random(seed)
+            begins = chance.choices(range(-2, 30), k=seed % 20)
+            spans = [(begin, begin + chance.randint(1, 9), number) for number, begin in enumerate(begins)]
+            found = Spans(spans)
+            for _ in range(20):
+                begin = chance.randrange(30)
+                end = begin + chance.randint(1, 9)
+                self.assertEqual(sorted(found.meeting(begin, end)), [of for first, last, of in spans if first < end and begin < last])
+
+    def test_where_characters_are_at_random(self) -> None:
+        with closing(Site(5)) as site, closing(Site(6)) as other:
+            chance = random.Random(1)
+            for _ in range(30):
+                for one, two in (site, other), (other, site):
+                    before, size = len(one.history), len(one.text())
+                    one.insert(chance.randint(0, size), b"x" * chance.randint(1, 5))
+                    one.cut(at := chance.randint(0, size), min(size, at + chance.randint(0, 2)))
+                    two.take(Messages(one.history[before:]))
+            some = [Names(chance.choice([5, 6]), chance.randrange(60), chance.choice([1, 3, 30])) for _ in range(100)]
+            found = Whereabouts(some, site)
+            for names, answer in zip(some, site.where(some)):
+                places = [at for one in answer for at in range(one.position, one.position + len(one.data))]
+                wanted = Extent(min(places), max(places) + 1, len(places), len(answer) == 1) if places else None
+                self.assertEqual(found.of(names), wanted)
+                shown = [(names.site, one.at + number) for one in answer for number in range(len(one.data))]
+                self.assertEqual([found.some([names], which) for which in range(len(shown))], shown)
+                self.assertEqual(found.some([names], 7) is None, not shown)
+
+
 class Following(unittest.TestCase):
     """Where characters are after changes."""
 
@@ -191,6 +353,15 @@ class Following(unittest.TestCase):
                 make(text, [changes[-1]])
             followed = Followed(changes)
             self.assertEqual([followed.now(at) for at in range(size)], [text.find(at) if at in text else None for at in range(size)])
+            for begin, end in itertools.product(range(-1, size), range(1, size + 2)):
+                if begin >= end:
+                    continue
+                low, high = followed.around(begin, end)
+                kept = [at for at in range(size) if at in text]
+                before = max((at for at in kept if at <= begin), default=None)
+                after = min((at for at in kept if at >= end - 1), default=None)
+                self.assertEqual(low, -1 if before is None else text.index(before), (seed, begin, end))
+                self.assertGreaterEqual(high, len(text) if after is None else text.index(after) + 1, (seed, begin, end))
             for begin in range(len(text) + 1):
                 for end in range(begin, len(text) + 1):
                     low, high = followed.before(begin, end)
