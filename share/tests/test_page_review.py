@@ -536,6 +536,22 @@ class Reviewing(Pages):
         ada.type("done ")
         bob.shows("done " + TEXT.replace("ten", "noon"))
 
+    def test_what_is_replaced_becomes_suggestions_where_one_chose_that(self) -> None:
+        ada, bob = self.ada, self.bob
+        ada.press("suggesting")
+        ada.run(f"{MIRROR}.execCommand('replace')")
+        for field, words in ("sought", "Line 1"), ("other", ""):
+            ada.run("document.getElementById(arguments[0]).value = arguments[1]", field, words)
+        ada.run("document.getElementById('sought').dispatchEvent(new Event('input'))")
+        ada.wait_for("document.getElementById('count').textContent.endsWith('of 11')")
+        ada.press("one")
+        bob.wait_for(MARKED, ["Line 1"])
+        ada.press("all")
+        ada.wait_for("document.getElementById('count').textContent === '11 suggested'")
+        ada.press("found")
+        bob.wait_for(MARKED, ["Line 1"] * 11)
+        self.assertEqual([ada.text(), bob.text()], [TEXT, TEXT])
+
     def test_what_changed_since_one_looked_is_gone_through(self) -> None:
         ada, bob = self.ada, self.bob
         # Another editor of Ada's is closed: she has looked.
@@ -593,17 +609,76 @@ class Alone(Pages):
     """A part of the page by itself."""
 
     def test_what_would_overlap_is_stacked(self) -> None:
-        server = Server(self.folder / "data", "--no-browser")
-        self.addCleanup(server.close)
-        window = BROWSER.open(server.path)
-        self.addCleanup(window.close)
+        window = self.window()
         for wanted, heights, fixed, tops in (([], [], 0, []), ([5], [40], 0, [5]), ([-9], [40], 0, [0]), ([0, 100], [40, 40], 0, [0, 100]),
                                              ([0, 10, 20], [40, 40, 40], 0, [0, 48, 96]), ([0, 10, 20], [40, 40, 40], 2, [0, 48, 96]),
                                              ([100, 110, 120], [40, 40, 40], 2, [24, 72, 120]),
                                              ([100, 110, 120], [40, 40, 40], 1, [62, 110, 158])):
             window.run("import('/margin.js').then(({ stacked }) => { window.stacked = stacked(...arguments); })", wanted, heights, fixed)
             window.wait_for("JSON.stringify(window.stacked) === JSON.stringify(words[0])", tops)
-        self.assert_no_faults(window)
+
+
+    def test_what_is_written_in_a_card_stays_as_an_answer_comes_late(self) -> None:
+        window = self.window()
+        window.run("""import('/card.js').then(({ Card }) => {
+          const record = { id: "1:2", kind: "suggestion", state: "open", text: "ten", new: "noon", name: "Ada", time: 1 };
+          window.said = [];
+          const told = { looked: () => {}, left: () => {}, says: (words) => window.said.push(words), does: () => true };
+          window.card = new Card(record, told);
+          window.card.draw(record, true);
+          document.body.append(window.card.element);
+          window.card.does("reply");
+        })""")
+        window.wait_for("document.activeElement.tagName === 'TEXTAREA'")
+        window.type("I asked")
+        window.run("window.card.ask({ was: 'ten', now: 'then', new: 'noon' })")
+        window.type(" them.")
+        window.wait_for("document.activeElement.value === 'I asked them.' && window.said.length === 1")
+
+    def test_what_is_being_sent_can_not_be_typed_on(self) -> None:
+        window = self.window()
+        window.run("""import('/forms.js').then(({ Form }) => {
+          window.form = new Form({ words: "Reply", text: "", done: () => new Promise((done) => { window.done = done; }),
+            left: () => { window.isLeft = true; } });
+          document.body.append(window.form.element);
+          window.form.focus();
+        })""")
+        window.wait_for("document.activeElement.tagName === 'TEXTAREA'")
+        window.type("one", Keys.CONTROL, Keys.ENTER)
+        window.wait_for("window.done")
+        window.type(" two")
+        window.run("window.done(false)")
+        window.wait_for("!document.activeElement.readOnly")
+        window.type(" three")
+        window.wait_for("document.activeElement.value === 'one three'")
+        self.assertIsNone(window.run("window.isLeft"))
+
+    def test_what_came_before_a_connection_ended_is_taken_in(self) -> None:
+        window = self.window()
+        window.run("""import('/connection.js').then(({ Connection }) => {
+          const [heard, sockets, Real] = [[], [], WebSocket];
+          window.WebSocket = class { static OPEN = 1; readyState = 1; constructor() { sockets.push(this); } send() {} close() {} };
+          let isBusy = false;
+          const one = new Connection({ came: (line) => heard.push(line.answer ?? line.notice), isBusy: () => isBusy, waits: () => {},
+            settles: () => { isBusy = false; }, ended: () => { heard.push("ended"); } });
+          one.open();
+          window.WebSocket = Real;
+          sockets[0].onmessage({ data: JSON.stringify({ notice: "opening" }) });
+          isBusy = true;
+          sockets[0].onmessage({ data: JSON.stringify({ answer: "remark" }) });
+          sockets[0].onclose({ code: 1006, reason: "" });
+          window.heard = heard;
+        })""")
+        window.wait_for("window.heard && JSON.stringify(window.heard) === JSON.stringify(words[0])", ["opening", "remark", "ended"])
+
+    def window(self) -> Window:
+        """A window with a note."""
+        server = Server(self.folder / "data", "--no-browser")
+        self.addCleanup(server.close)
+        window = BROWSER.open(server.path)
+        self.addCleanup(window.close)
+        self.addCleanup(self.assert_no_faults, window)
+        return window
 
 
 class FirstForm(Pages):

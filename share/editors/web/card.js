@@ -67,7 +67,7 @@ export class Card {
   // What is open below: a reply, another body, or a question.
   #form;
 
-  /** `told` is told of `looked(card)`, of `does(card, what, more)`, which gives whether that was done, and of `left()`. */
+  /** `told` is told of `looked(card)`, of `does(card, what, more)`, which gives whether that was done, of `left()`, and `says(words)`. */
   constructor(thread, told) {
     this.thread = thread;
     this.#told = told;
@@ -155,8 +155,8 @@ export class Card {
   /** Does something with a record; what has words is asked for them. */
   async does(what, record = this.thread) {
     if (what === "reply" || what === "revise") {
-      this.#opens(new Form({ words: what === "reply" ? "Reply" : "Edit", text: what === "reply" ? "" : record.body ?? "", isNeeded: true,
-        done: (body) => this.#told.does(this, what, { to: record.id, body }), left: () => this.#closes() }));
+      this.#opens({ words: what === "reply" ? "Reply" : "Edit", text: what === "reply" ? "" : record.body ?? "", isNeeded: true,
+        done: (body) => this.#told.does(this, what, { to: record.id, body }) });
     } else {
       await this.#told.does(this, what, { to: record.id });
     }
@@ -170,19 +170,27 @@ export class Card {
       words.append(text ? isolated(plainText(text)) : made("i", "nothing"));
       texts.append(term, words);
     }
-    this.#opens(new Form({ words: "Accept anyway", told: [made("p", "The text was changed since this was suggested."), texts],
-      done: () => this.#told.does(this, "accept", { to: this.thread.id, anyway: true }), left: () => this.#closes() }));
+    this.#opens({ words: "Accept anyway", told: [made("p", "The text was changed since this was suggested."), texts],
+      done: () => this.#told.does(this, "accept", { to: this.thread.id, anyway: true }) });
   }
 
-  #opens(form) {
+  /** Opens a form in the place of another one, unless words would be lost with that. */
+  #opens(how) {
+    if (this.#form?.hasWords) {
+      this.#form.focus();
+      this.#told.says("First send what is written here, or cancel it. ");
+      return;
+    }
     this.#form?.element.remove();
+    const form = new Form({ ...how, left: () => this.#closes(form) });
     this.#form = form;
     this.element.append(form.element);
     form.focus();
     this.#told.looked(this);
   }
 
-  #closes() {
+  #closes(form) {
+    if (form !== this.#form) return;
     const wasHere = this.#form.element.contains(document.activeElement);
     this.#form.element.remove();
     this.#form = undefined;
@@ -196,7 +204,7 @@ export class Card {
       /** @type {HTMLElement | null} */ (this.element.querySelector("button"))?.focus();
     } else if (event.key === "Escape" && !event.isComposing) {
       event.preventDefault();
-      if (this.#form && !this.#form.hasWords) this.#closes();
+      if (this.#form && !this.#form.hasWords) this.#closes(this.#form);
       else this.#told.left();
     }
   }

@@ -33,7 +33,7 @@ export class Connection {
   #timer;
 
   /** `told` is told of `came(line)`, of `ended(code, reason)`, which says whether to connect at once, and of `waits(many)` while
-   * lines wait; `isBusy()` says whether they are to. */
+   * lines wait; `isBusy()` says whether they are to, and `settles()` ends that. */
   constructor(told) {
     this.#told = told;
   }
@@ -110,6 +110,9 @@ export class Connection {
 
   #ended(code, reason) {
     clearTimeout(this.#timer);
+    this.#told.settles();
+    // What was answered was done.
+    while (this.#held.length) this.#came(this.#held.shift());
     const isWaitedFor = Boolean(this.#key) && code !== WRONG_SECRET;
     const isAtOnce = this.#told.ended(code, reason);
     if (isWaitedFor) setTimeout(() => this.open(), isAtOnce ? 0 : AGAIN_MS);

@@ -131,22 +131,25 @@ export class Finding {
     return Boolean(cursor?.findNext()) && ["from", "to"].every((end) => CodeMirror.cmpPos(cursor[end](), this.#cm.getCursor(end)) === 0);
   }
 
-  #replaceOne() {
+  async #replaceOne() {
     this.#release();
     if (this.#cm.isReadOnly()) return;
     if (this.#isOnMatch()) this.#cm.replaceSelection(element("other").value, "end");
+    // Where it is suggested instead, the cursor goes on only then.
+    await undefined;
     this.#go(true);
   }
 
-  /** Replaces all matches as one edit, which one undo takes back. */
+  /** Replaces all matches as one edit, which one undo takes back; or suggests that, which leaves all of them in the text. */
   #replaceAll() {
     this.#release();
     if (this.#cm.isReadOnly()) return;
-    let many = 0;
+    const found = [];
+    for (const cursor = this.#cursor({ line: 0, ch: 0 }); cursor?.findNext();) found.push([cursor.from(), cursor.to()]);
     this.#cm.operation(() => {
-      for (const cursor = this.#cursor({ line: 0, ch: 0 }); cursor?.findNext(); many += 1) cursor.replace(element("other").value);
+      for (const [from, to] of found.reverse()) this.#cm.replaceRange(element("other").value, from, to);
     });
-    this.#said = `${many} replaced`;
+    this.#said = `${found.length} ${element("suggesting").ariaPressed === "true" ? "suggested" : "replaced"}`;
     this.#count();
   }
 

@@ -70,14 +70,19 @@ export class Form {
     this.#fields[0]?.setSelectionRange(this.#fields[0].value.length, this.#fields[0].value.length);
   }
 
-  /** Sends it once; it stays, with its words, where that failed. */
+  /** Sends it once; it stays, with its words, where that failed. What would be typed meanwhile wouldn't be sent. */
   async #send(values, done, left) {
     if (this.#isSent) return;
-    this.#isSent = true;
+    this.#waits(true);
     try {
       if (await done(...values)) left();
     } finally {
-      this.#isSent = false;
+      this.#waits(false);
     }
+  }
+
+  #waits(isSent) {
+    this.#isSent = isSent;
+    for (const one of this.#fields) one.readOnly = isSent;
   }
 }

@@ -34,6 +34,7 @@ class Page {
     ended: (code, reason) => this.#ended(code, reason),
     isBusy: () => this.editor.composing.isOn,
     waits: (many) => this.#waits(many),
+    settles: () => this.#settle(),
   });
   // Who talks to the engine; none while there is no connection. And who did so last.
   #client;
@@ -203,7 +204,6 @@ class Page {
   }
 
   #ended(code, reason) {
-    this.#settle();
     this.#client?.end();
     this.#client = undefined;
     this.editor.types = false;

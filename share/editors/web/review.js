@@ -42,7 +42,7 @@ export class Review {
       came: () => this.#came(), isListed: () => this.isShown && this.#isList, kept: () => this.#cards.kept(),
     });
     this.#cards = new Cards(editor, this.#threads, this.#stretches, {
-      looked: (card) => this.#comes(card.thread.id), does: (...words) => this.#does(...words), left: () => this.#leaves(),
+      looked: (card) => this.#comes(card.thread.id), does: (...words) => this.#does(...words), left: () => this.#leaves(), says: say,
     });
     this.#margin = new Margin(editor.cm, element("cards"), () => this.#cards.items(this.#isList));
     this.suggesting = new Suggesting(editor, (request) => this.#sends(request, true), (from, to, put) => {
