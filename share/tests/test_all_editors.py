@@ -31,8 +31,8 @@ SEED = int(os.environ.get("SHARE_SEED", "1"))
 # The fewest and the most things that each does before all meet.
 ROUND = (5, 25) if SECONDS else (3, 4)
 EDITORS: list[type[Writer]] = [OwnEditor, Emacs, Neovim, PageInChromium]
-# How much of what is done is said of the text.
-MUCH_SAID = 0.3 if SECONDS else 0.18
+# Of so many things that each does one is said of the text.
+ONE_SAID_OF = 3 if SECONDS else 5
 WORD = re.compile(r"[tenp]\d{4}[abc]*\.|begin\.")
 
 
@@ -75,8 +75,9 @@ class Author:
         self._sayings, self._told = sayings, told
         # What can be taken back, the last edit last.
         self.steps: list[Step] = []
-        self._typed = 0
-        self.did = {"typed": 0, "deleted": 0, "rewritten": 0, "in blocks": 0, "taken back": 0, "killed": 0, "said": 0, "accepted": 0}
+        self._typed = self._acts = 0
+        self.did = dict.fromkeys(
+            ("typed", "deleted", "rewritten", "in blocks", "taken back", "killed", "said", "accepted", "by scripts"), 0)
 
     def write(self, many: int, done: "Done") -> None:
         """Does some things, one after the other."""
@@ -95,7 +96,8 @@ class Author:
         self.writer.recover()
 
     def _act(self) -> None:
-        if self._sayings and self._told and self._chance.random() < MUCH_SAID:
+        self._acts += 1
+        if self._sayings and self._told and self._acts % ONE_SAID_OF == 0:
             self.say(self._sayings, self._told)
             return
         what = self._chance.random()
@@ -205,6 +207,8 @@ class Author:
         elif not told.does(what, word.text, words):
             # Its engine may have been killed; nothing else stops it.
             self.writer.wait_for(lambda state: False, f"{what} {word.text} {words} by a script")
+        else:
+            self.did["by scripts"] += 1
 
     def _is_told(self, told: Told, word: Word, is_so: Callable[[Line], bool]) -> None:
         """Waits until this person's engine says something of the thread about a word."""
