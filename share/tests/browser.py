@@ -11,6 +11,7 @@ from selenium.webdriver.chrome.service import Service
 from selenium.webdriver.common.action_chains import ActionChains
 from selenium.webdriver.common.by import By
 from selenium.webdriver.common.keys import Keys
+from selenium.webdriver.remote.remote_connection import RemoteConnection
 from selenium.webdriver.remote.webelement import WebElement
 
 from share.tests.waiting import PATIENCE
@@ -43,6 +44,9 @@ class Browser:
         for word in [*WORDS, f"--window-size={width},{height}", *([f"--user-data-dir={profile}"] if profile else [])]:
             options.add_argument(word)
         options.set_capability("goog:loggingPrefs", {"browser": "ALL"})
+        # A driver that hangs would be waited for without end; a script may take twice the patience.
+        connection: Any = RemoteConnection
+        connection.set_timeout(3 * PATIENCE)
         self.driver: Any = _started(options)
         self.driver.set_script_timeout(2 * PATIENCE)
         self.size = width, height

@@ -536,6 +536,42 @@ class Reviewing(Pages):
         ada.type("done ")
         bob.shows("done " + TEXT.replace("ten", "noon"))
 
+    def test_a_remark_is_about_what_was_selected_as_it_was_begun(self) -> None:
+        ada = self.ada
+        # Whether the note has a margin is asked, and answered late.
+        ada.driver.refresh()
+        ada.wait_for(f"typeof CodeMirror === 'function' && document.title === 'note' && !{MIRROR}.getOption('readOnly')")
+        ada.run("""(() => {
+          const send = window.sends = WebSocket.prototype.send;
+          WebSocket.prototype.send = function (data) {
+            const sends = () => { if (this.readyState === WebSocket.OPEN) send.call(this, data); };
+            if (new TextDecoder().decode(data).includes('"remarks"')) setTimeout(sends, 1000);
+            else sends();
+          };
+          document.getElementById("name").dispatchEvent(new Event("change"));
+        })()""")
+        ada.wait_for(f"!{MIRROR}.getOption('readOnly')")
+        at = TEXT.index("the mill")
+        ada.select(at, at + len("the mill"))
+        ada.run("document.getElementById('remark').click()")
+        ada.to(0)
+        ada.wait_for("document.querySelector('.draft')")
+        self.assertEqual(ada.run("document.querySelector('main .looked-at')?.textContent"), "the mill")
+        ada.run("WebSocket.prototype.send = window.sends")
+
+    def test_what_is_composed_as_one_ends_suggesting_is_suggested(self) -> None:
+        ada, bob = self.ada, self.bob
+        for put, presses in ("noka", ["suggesting"]), ("yoka", ["find", "suggesting"]):
+            ada.press("suggesting")
+            ada.to(TEXT.index("ten"))
+            ada.type(put[:2])
+            for part in "k", "ka":
+                ada.command("Input.imeSetComposition", text=part, selectionStart=len(part), selectionEnd=len(part))
+            for button in presses:
+                ada.press(button)
+            bob.wait_for("[...document.querySelectorAll('main .spot.put')].some((one) => one.dataset.put === words[0])", put)
+            self.assertEqual([ada.text(), bob.text()], [TEXT, TEXT])
+
     def test_what_is_replaced_becomes_suggestions_where_one_chose_that(self) -> None:
         ada, bob = self.ada, self.bob
         ada.press("suggesting")
@@ -616,7 +652,6 @@ class Alone(Pages):
                                              ([100, 110, 120], [40, 40, 40], 1, [62, 110, 158])):
             window.run("import('/margin.js').then(({ stacked }) => { window.stacked = stacked(...arguments); })", wanted, heights, fixed)
             window.wait_for("JSON.stringify(window.stacked) === JSON.stringify(words[0])", tops)
-
 
     def test_what_is_written_in_a_card_stays_as_an_answer_comes_late(self) -> None:
         window = self.window()

@@ -16,16 +16,13 @@ export class Draft {
   #form;
 
   /**
-   * About what is selected, or the place of the cursor; `put`, if it is given, is what is suggested at first. `sends(request, isOther)`
-   * sends it, unless what is suggested is no other text, and gives whether that was done; `looked(draft)` and `left(draft, isDone)` are
-   * told so.
+   * About what is marked, or its place; `put`, if it is given, is what is suggested at first. `sends(request, isOther)` sends it, unless
+   * what is suggested is no other text, and gives whether that was done; `looked(draft)` and `left(draft, isDone)` are told so.
    */
-  constructor(editor, isSuggestion, put, { sends, looked, left }) {
-    const { cm } = editor;
-    const [from, to] = [cm.getCursor("from"), cm.getCursor("to")];
-    this.#editor = editor;
-    this.#mark = cm.markText(from, to, { className: "looked-at", clearWhenEmpty: false });
-    const [name, text] = isSuggestion ? ["Suggest", put ?? cm.getRange(from, to)] : ["Remark"];
+  constructor(editor, mark, isSuggestion, put, { sends, looked, left }) {
+    [this.#editor, this.#mark] = [editor, mark];
+    const { from, to } = this.place();
+    const [name, text] = isSuggestion ? ["Suggest", put ?? editor.cm.getRange(from, to)] : ["Remark"];
     this.#form = new Form({ words: name, text: "", isNeeded: !isSuggestion, put: text, left: () => left(this, true),
       done: (body, typed) => this.#sends(sends, body, text === undefined ? undefined : withLineEnds(typed, text)) });
     this.element = Object.assign(made("article", "", "card draft active"), { ariaLabel: `${name}: a new one` });

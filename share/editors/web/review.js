@@ -215,9 +215,15 @@ export class Review {
 
   /** Begins a remark or a suggestion about what is selected, perhaps with what was typed already. */
   async #begins(isSuggestion, put = undefined) {
-    if (!await this.#can()) return;
     this.#settle();
-    const draft = new Draft(this.#editor, isSuggestion, put, {
+    const { cm } = this.#editor;
+    // What is asked may take a while, and the cursor goes on meanwhile.
+    const here = cm.markText(cm.getCursor("from"), cm.getCursor("to"), { className: "looked-at", clearWhenEmpty: false });
+    if (!await this.#can()) {
+      here.clear();
+      return;
+    }
+    const draft = new Draft(this.#editor, here, isSuggestion, put, {
       sends: (...words) => this.#sends(...words), looked: () => this.#looks(draft), left: (_, isDone) => this.#puts(draft, isDone),
     });
     this.#cards.drafts.push(draft);

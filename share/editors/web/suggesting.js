@@ -8,6 +8,8 @@ import { mark, placeOf } from "./stretches.js";
 const element = (id) => document.getElementById(id);
 // How long nothing is typed before it is sent.
 const REST_MS = 4000;
+// How long after the text is left it is looked whether what was composed there is read back.
+const LEFT_MS = 50;
 const isBefore = (one, other) => CodeMirror.cmpPos(one, other) < 0;
 const isSame = (one, other) => CodeMirror.cmpPos(one, other) === 0;
 
@@ -29,7 +31,7 @@ export class Suggesting {
   constructor(editor, sends, fails) {
     [this.#editor, this.#sends, this.#fails] = [editor, sends, fails];
     editor.cm.on("cursorActivity", () => this.#passes());
-    editor.cm.on("blur", () => this.end());
+    editor.cm.on("blur", () => this.#leaves());
   }
 
   get #isOn() {
@@ -38,11 +40,12 @@ export class Suggesting {
 
   /** Whether something is gathered. */
   get hasWords() {
-    return this.#mark !== undefined;
+    return this.#mark !== undefined || this.#taken.length > 0;
   }
 
-  /** Whether the user's typing suggests, or not any more. */
+  /** Whether the user's typing suggests, or not any more; what is composed still belongs to what was before. */
   toggle() {
+    this.#editor.composing.end();
     this.end();
     const isOn = !this.#isOn;
     element("suggesting").ariaPressed = String(isOn);
@@ -62,6 +65,7 @@ export class Suggesting {
 
   #does() {
     const taken = this.#taken;
+    if (!taken.length) return;
     this.#taken = [];
     this.#isMoving = true;
     try {
@@ -69,8 +73,13 @@ export class Suggesting {
     } finally {
       this.#isMoving = false;
     }
+    this.#rests();
+  }
+
+  /** Sends what is gathered once nothing is typed for a while, nor composed. */
+  #rests() {
     clearTimeout(this.#timer);
-    this.#timer = setTimeout(() => this.end(), REST_MS);
+    this.#timer = setTimeout(() => (this.#editor.composing.isOn ? this.#rests() : this.end()), REST_MS);
   }
 
   #gathers({ from, to, put, isBack }) {
@@ -111,8 +120,16 @@ export class Suggesting {
     if (isBefore(cursor, at.from) || isBefore(at.to, cursor)) this.end();
   }
 
+  /** The text is left: what is gathered is all, with what was composed there, as soon as that is read back. */
+  #leaves() {
+    const { cm, composing } = this.#editor;
+    if (composing.isOn) setTimeout(() => { if (!cm.hasFocus()) this.#leaves(); }, LEFT_MS);
+    else this.end();
+  }
+
   /** Drops what is gathered; whether there was anything. */
   drops() {
+    this.#does();
     const { hasWords } = this;
     this.#mark?.clear();
     [this.#mark, this.#put] = [undefined, ""];
@@ -121,6 +138,7 @@ export class Suggesting {
 
   /** Sends what is gathered. */
   async end() {
+    this.#does();
     const [at, shown, put] = [this.#place(), this.#mark, this.#put];
     [this.#mark, this.#put] = [undefined, ""];
     if (!at) return;
