@@ -1,7 +1,9 @@
 /* The C library's calls for Node. text.js makes of them what its users see, and checks what it hands over. */
+#include <errno.h>
 #include <node_api.h>
 #include <stdlib.h>
 #include <string.h>
+#include <sys/file.h>
 
 #include "counted.h"
 #include "vialshoal.h"
@@ -696,6 +698,17 @@ static napi_value replacement(napi_env env, napi_callback_info info) {
     return ANSWER(number, (double)replacing.deleted, (double)replacing.inserted);
 }
 
+/* Locks a file where nobody else has, and answers the system's number of what forbids it, or 0. */
+static napi_value lock(napi_env env, napi_callback_info info) {
+    size_t found = 1;
+    napi_value given, answer;
+    int32_t file;
+    TRY(napi_get_cb_info(env, info, &found, &given, NULL, NULL));
+    TRY(napi_get_value_int32(env, given, &file));
+    TRY(napi_create_int32(env, flock(file, LOCK_EX | LOCK_NB) == 0 ? 0 : errno, &answer));
+    return answer;
+}
+
 NAPI_MODULE_INIT() {
     static const struct {
         const char *name;
@@ -736,6 +749,7 @@ NAPI_MODULE_INIT() {
         {"changes", changes},
         {"endNoting", end_noting},
         {"replacement", replacement},
+        {"lock", lock},
     };
     for (size_t i = 0; i < sizeof calls / sizeof calls[0]; i++) {
         napi_value made;

@@ -23,6 +23,11 @@ const REASONS = {
     109: ['STILL_NOTED', 'changes are noted, and told as such', TypeError],
 };
 const MISUSE = 101;
+export const WRONG_TEXT = 2;
+export const CONFLICT = 3;
+export const OUT_OF_MEMORY = 7;
+export const BEHIND = 8;
+export const BAD_FILE = 13;
 export const OUT_OF_TEXT = 103;
 export const NO_NUMBER = 105;
 export const NO_MESSAGE = 108;
@@ -50,6 +55,15 @@ export class FrontsDiffer extends Refused {
         this.seq = seq;
         const what = this.code === 'CONFLICT' ? `up to ${seq} are others there than here` : `from ${seq} on were made elsewhere`;
         this.message = `operations of site ${site} ${what}: two copies of its file went on`;
+    }
+}
+
+// The file of a text was changed by something else, or cut off. Nothing is done with it.
+export class Damaged extends Error {
+    constructor(words, { cause = undefined } = /** @type {{ cause?: unknown }} */ ({})) {
+        super(words, { cause });
+        this.name = 'Damaged';
+        this.code = 'DAMAGED';
     }
 }
 

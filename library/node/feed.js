@@ -10,10 +10,18 @@ function calls(listener, edit) {
     }
 }
 
-// Of a text, and of a call that answers what changed of it since it was called last.
+// The messages of the edits that listeners are called with, also of those whose messages may not be sent yet.
+const MADE = new WeakMap();
+export const madeBy = (edit) => MADE.get(edit);
+
+// Of a text, of a call that answers what changed of it since it was called last, and of one that says whether all of it is kept.
 export class Feed {
     #text;
     #newChanges;
+    #isKept;
+    // Messages that listeners don't have yet, since they weren't kept.
+    /** @type {any[]} */
+    #unsent = [];
     // What `changes` is to answer; what `delta` is to answer, once that was asked for.
     #log = new Log();
     #runs;
@@ -23,9 +31,10 @@ export class Feed {
     // What is done as one, while it is: its origin, and what was done since that was told.
     #open;
 
-    constructor(text, newChanges) {
+    constructor(text, newChanges, isKept) {
         this.#text = text;
         this.#newChanges = newChanges;
+        this.#isKept = isKept;
     }
 
     #isOn() {
@@ -69,12 +78,20 @@ export class Feed {
         const steps = allAfter(parts);
         this.#run(own, origin, steps);
         if (this.#listeners.size === 0) return;
-        this.#queue.push({ delta: deltaOf(steps), own, origin, messages });
+        this.#unsent.push(...messages);
+        const edit = { delta: deltaOf(steps), own, origin, messages: this.#isKept() ? this.#unsent.splice(0) : [] };
+        MADE.set(edit, messages);
+        this.#queue.push(edit);
         // (one that a listener makes is told after the one that it is told of)
         if (this.#queue.length > 1) return;
         for (; this.#queue.length > 0; this.#queue.shift()) {
             for (const listener of [...this.#listeners]) calls(listener, this.#queue[0]);
         }
+    }
+
+    // Tells the messages that are kept now, if there are some.
+    sendsRest() {
+        if (this.#unsent.length > 0 && this.#open === undefined) this.#tell({ own: true, origin: undefined, parts: [], messages: [] });
     }
 
     #run(own, origin, steps) {

@@ -8,8 +8,11 @@ export let isAscii;
 export let isUtf8;
 /** @type {any} */
 export let calls;
+// The class of files that texts are kept in, where there are files.
+/** @type {any} */
+export let Journal;
 
 // (the module that is imported first calls it, before any other's calls are made)
 export function use(host) {
-    ({ Buffer, isAscii, isUtf8, calls } = host);
+    ({ Buffer, isAscii, isUtf8, calls, Journal } = host);
 }

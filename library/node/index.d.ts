@@ -18,6 +18,11 @@ export class FrontsDiffer extends Refused {
     readonly seq: number;
 }
 
+/** The file of a text was changed by something else, or cut off. Nothing is done with it. */
+export class Damaged extends Error {
+    readonly code: 'DAMAGED';
+}
+
 /** What is thrown where a call is given what no text can have, and nothing was done: `code` is `OUT_OF_TEXT`, `NO_NAME`,
  * `NO_NUMBER`, `TOO_LONG` (each a RangeError), `NOT_OPEN` or `STILL_NOTED`. An argument of another type is a TypeError without
  * a code. */
@@ -94,7 +99,8 @@ export interface Done {
     origin: unknown;
 }
 
-/** The same of one call, and the messages that it made. The delta is empty where nothing of what is shown changed. */
+/** The same of one call, and the messages that it made. The delta is empty where nothing of what is shown changed. Messages that a file
+ * couldn't keep come with the first edit after they are kept. */
 export interface Edit extends Done {
     messages: Buffer[];
 }
@@ -125,6 +131,13 @@ export interface Looks {
 export interface Options {
     /** What positions and lengths count; bytes where it isn't said. */
     units?: 'bytes' | 'utf-16';
+}
+
+export interface OpenOptions extends Options {
+    /** The number of the text, 1 where it isn't said of a new one. */
+    text?: number;
+    /** The site; a file that isn't there is begun where it is said. */
+    site?: number;
 }
 
 export interface StoreOptions {
@@ -180,6 +193,18 @@ export class Text extends Shown {
     /** The text of a file that `store` answered, packed or not, at its site. No edit may have been made since it was
      * stored. */
     static load(file: Uint8Array, options?: Options): Text;
+    /** The text that is kept in a file, for its site to go on; in Node alone. The Python package has the same files. Each call that
+     * changes the text has the disk keep what it changed before it answers. One that can't throws the system's error; what it made is
+     * kept and handed out by the next one that can. What waits isn't kept. `close` closes the file.
+     *
+     * A file is open once at a time (an error with the code `EAGAIN`). `Damaged` is thrown where something else has changed it, and
+     * `FrontsDiffer` by a call that is given what the site has made elsewhere: the file was copied, and both went on. */
+    static open(path: string, options?: OpenOptions): Text;
+    /** Has the file have all that the text holds, where a call couldn't, and answers the messages that weren't handed out. */
+    keep(): Buffer[];
+    /** What stood in the file behind all that was kept whole, as it was opened: the begin of what a program was about to keep when it
+     * ended. Nobody was told that this is kept, unless the disk lost something. */
+    readonly torn: Buffer;
     /** The text as a file, with all that was taken in, from which its site goes on. */
     store(options?: StoreOptions): Buffer;
     /** The text as an Oberon text file: its characters and their looks, and nothing of who wrote them (docs/FORMATS.md, "Text
@@ -260,12 +285,12 @@ export class Past extends Shown {
 }
 
 /** What `undo` and `redo` did: what is to be sent; the selection of before the edit that was taken back, or done again; and where the
- * text changed. */
+ * text changed, if it did. */
 export interface Undone<S> {
     chunks: Buffer[];
     selection: S | undefined;
-    beg: number;
-    end: number;
+    beg: number | undefined;
+    end: number | undefined;
 }
 
 export interface UndoOptions<S> {

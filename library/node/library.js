@@ -1,6 +1,6 @@
 // What the package has, wherever it runs.
 export { Backlog } from './backlog.js';
-export { FrontsDiffer, Refused } from './errors.js';
+export { Damaged, FrontsDiffer, Refused } from './errors.js';
 export { Presence } from './presence.js';
 export { Past, Shown, Text } from './text.js';
 export { UndoManager } from './undo.js';

@@ -8,12 +8,11 @@
 //
 // Numbers are big-endian. So two texts see whether the operations that both have of a site are the same.
 import { blake2b } from './blake2b.js';
-import { FrontsDiffer, failure } from './errors.js';
+import { BEHIND, CONFLICT, FrontsDiffer, WRONG_TEXT, failure } from './errors.js';
 import { Buffer } from './host.js';
 
 const TAG = [0x4f, 0x54, 0x56, 0x31];
 const HEAD = 6, ENTRY = 14, HASH = 6, SIZE = 8;
-const WRONG_TEXT = 2, CONFLICT = 3, BEHIND = 8;
 
 function isSame(one, other) {
     return one.every((byte, at) => byte === other[at]);

@@ -1,15 +1,18 @@
 import { DEFAULT_LOOKS, INSERT } from './delta.js';
 import { between } from './diff.js';
-import { failure, NO_MESSAGE, OUT_OF_TEXT } from './errors.js';
+import { BAD_FILE, Damaged, NO_MESSAGE, OUT_OF_MEMORY, OUT_OF_TEXT, Refused, failure } from './errors.js';
 import { Feed } from './feed.js';
 import * as given from './given.js';
-import { calls } from './host.js';
+import { Buffer, Journal, calls } from './host.js';
+import { Keeper } from './keeper.js';
 import { Positions, begins, decoded } from './positions.js';
 import { Digests } from './state.js';
 
 const UNITS = ['bytes', 'utf-16'];
 const TAKINGS = [undefined, 'taken', 'repeat', 'waits'];
 const TAKEN = 1;
+// What a packed file begins with.
+const PACKED = 'OTP1';
 const CHANGES = [undefined, 'insert', 'delete', 'replace'];
 // What `using` calls; where the platform has none yet, compilers make this one.
 const DISPOSE = Symbol.dispose ?? Symbol.for('Symbol.dispose');
@@ -157,6 +160,14 @@ function wordAt(bytes, at) {
     return 256 * bytes[at] + bytes[at + 1];
 }
 
+// The chunks of bytes that have each behind its length.
+function* chunksIn(packed) {
+    for (let beg = 0, end; beg < packed.length; beg = end) {
+        end = beg + 2 + packed[beg] + 256 * (packed[beg + 1] ?? 0);
+        yield packed.subarray(beg + 2, end);
+    }
+}
+
 // The changes of a text's bytes since this was called last.
 function changesOf(handle) {
     const changes = [];
@@ -178,6 +189,10 @@ export class Text extends Shown {
     // The hashes of the messages up to this one.
     #digests = new Digests();
     #digested = 0;
+    // What keeps it in a file, if it is; and the messages that weren't answered, since they couldn't be kept.
+    /** @type {Keeper | undefined} */
+    #keeper;
+    #held = [];
 
     constructor(text, site, { units = 'bytes' } = {}, file = undefined) {
         if (!UNITS.includes(units)) throw new TypeError(`units are ${UNITS.join(' or ')}, not ${units}`);
@@ -185,7 +200,7 @@ export class Text extends Shown {
         super(handle, units, () => changesOf(handle));
         this.#handle = handle;
         [this.#number, this.#site] = file === undefined ? [text, site] : [wordAt(file, 4), wordAt(file, 6)];
-        this.#feed = new Feed(this, () => positionsOf(this)?.tell() ?? changesOf(handle));
+        this.#feed = new Feed(this, () => positionsOf(this)?.tell() ?? changesOf(handle), () => this.#keeper?.isKept ?? true);
     }
 
     static {
@@ -205,7 +220,91 @@ export class Text extends Shown {
         return new Text(0, 0, options, given.bytes(file));
     }
 
+    // The text that is kept in a file.
+    static open(path, { text = undefined, site = undefined, units = 'bytes' } = {}) {
+        if (Journal === undefined) throw new TypeError('a page has no files');
+        const journal = new Journal(path, site !== undefined);
+        try {
+            const kept = journal.read();
+            if (kept === undefined) return Text.#begun(journal, text ?? 1, site, units);
+            if (kept.text !== (text ?? kept.text) || kept.site !== (site ?? kept.site)) {
+                throw new RangeError(`${path} is of text ${kept.text} at site ${kept.site}`);
+            }
+            return Text.#of(kept, units, journal.path).#keptIn(journal);
+        } catch (why) {
+            journal.close();
+            throw why;
+        }
+    }
+
+    static #begun(journal, text, site, units) {
+        if (site === undefined) throw new TypeError('a file that has nothing yet needs a site');
+        const made = new Text(text, site, { units });
+        journal.begin(text, site);
+        return made.#keptIn(journal);
+    }
+
+    // The text of a file, whose bytes may be anybody's.
+    static #of({ text, site, history, entries }, units, path) {
+        let made;
+        try {
+            const isPacked = history.subarray(0, PACKED.length).toString('latin1') === PACKED;
+            made = isPacked ? Text.load(history, { units }) : new Text(text, site, { units });
+            for (const entry of isPacked ? entries : [history, ...entries]) {
+                for (const chunk of chunksIn(entry)) made.unpack(chunk);
+            }
+        } catch (why) {
+            const isRefused = why instanceof Refused ? why.number !== OUT_OF_MEMORY : why instanceof RangeError;
+            if (!isRefused) throw why;
+            throw new Damaged(`what ${path} has is refused: ${why.message}`, { cause: why });
+        }
+        if (made.waiting > 0 || made.number !== text || made.site !== site) throw new Damaged(`what ${path} has isn't of one text`);
+        return made;
+    }
+
+    #keptIn(journal) {
+        this.#keeper = new Keeper(this, journal, {
+            packed: (fronts) => this.#packed(fronts),
+            history: () => {
+                const packed = calls.storePacked(this.#handle);
+                return Array.isArray(packed) && packed[0] === BAD_FILE ? this.#packed([]) : opened(packed);
+            },
+        });
+        return this;
+    }
+
+    // What stood in the file behind all that was kept whole, as it was opened.
+    get torn() {
+        return this.#keeper?.torn ?? Buffer.from([]);
+    }
+
+    // Has the file have all that the text holds, and answers the messages that couldn't be answered before.
+    keep() {
+        done(calls.length(this.#handle));
+        this.#keeper?.begins();
+        return this.#feed.isOpen ? [] : this.#handedOut();
+    }
+
+    // All messages that weren't answered, which are kept by then.
+    #handedOut() {
+        this.#keeper?.keep();
+        this.#feed.sendsRest();
+        return this.#held.splice(0);
+    }
+
+    close() {
+        const keeper = this.#keeper;
+        this.#keeper = undefined;
+        try {
+            keeper?.keep();
+        } finally {
+            super.close();
+            keeper?.close();
+        }
+    }
+
     store({ packed = false } = {}) {
+        this.#keeper?.keep();
         return opened(packed ? calls.storePacked(this.#handle) : calls.store(this.#handle));
     }
 
@@ -213,67 +312,78 @@ export class Text extends Shown {
         return opened(calls.save(this.#handle));
     }
 
-    #edited([number]) {
-        const messages = calls.messages(this.#handle);
-        if (messages.length > 0) this.#feed.noted(true, messages);
+    #edited(call) {
+        this.#keeper?.begins();
+        const [number] = call();
+        const made = calls.messages(this.#handle);
+        if (this.#keeper !== undefined) this.#held.push(...made);
+        if (made.length > 0) this.#feed.noted(true, made);
+        const messages = this.#keeper === undefined ? made : this.#feed.isOpen ? [] : this.#handedOut();
         if (number !== 0) throw failure(number, messages);
         return this.#feed.isOpen ? [] : messages;
     }
 
     // What others made was taken in, so many operations, and perhaps not all.
     #taken(count, number, operations = 0) {
-        if (count > 0 || operations > 0) this.#feed.noted(false);
+        try {
+            this.#keeper?.took(this.#feed.isOpen);
+        } finally {
+            if (count > 0 || operations > 0) this.#feed.noted(false);
+        }
         if (number !== 0) throw failure(number, [], operations);
     }
 
     insert(pos, data, looks = undefined) {
         const [byte, bytes] = [byteOf(this, pos), given.bytesOrString(data)];
-        if (looks === undefined) return this.#edited(calls.insert(this.#handle, byte, bytes));
+        if (looks === undefined) return this.#edited(() => calls.insert(this.#handle, byte, bytes));
         const { font = DEFAULT_LOOKS.font, colour = DEFAULT_LOOKS.colour, offset = DEFAULT_LOOKS.offset } = given.looks(looks);
-        return this.#edited(calls.insertInLooks(this.#handle, byte, bytes, given.font(font), given.number(colour, 0, 255),
+        return this.#edited(() => calls.insertInLooks(this.#handle, byte, bytes, given.font(font), given.number(colour, 0, 255),
             given.number(offset, -128, 127)));
     }
 
     delete(beg, end) {
-        return this.#edited(calls.delete(this.#handle, byteOf(this, beg), byteOf(this, end)));
+        return this.#edited(() => calls.delete(this.#handle, byteOf(this, beg), byteOf(this, end)));
     }
 
     changeLooks(beg, end, looks) {
         const { font, colour, offset } = given.looks(looks);
         const selected = Number(font !== undefined) + 2 * Number(colour !== undefined) + 4 * Number(offset !== undefined);
-        return this.#edited(calls.looks(this.#handle, byteOf(this, beg), byteOf(this, end), selected,
+        return this.#edited(() => calls.looks(this.#handle, byteOf(this, beg), byteOf(this, end), selected,
             given.font(font ?? ''), given.number(colour ?? 0, 0, 255), given.number(offset ?? 0, -128, 127)));
     }
 
     restore() {
-        return this.#edited(calls.restore(this.#handle));
+        return this.#edited(() => calls.restore(this.#handle));
     }
 
     recall(pos) {
-        return this.#edited(calls.recall(this.#handle, byteOf(this, pos)));
+        return this.#edited(() => calls.recall(this.#handle, byteOf(this, pos)));
     }
 
     deleteNames(names) {
-        return this.#edited(calls.deleteNames(this.#handle, given.ranges(names)));
+        return this.#edited(() => calls.deleteNames(this.#handle, given.ranges(names)));
     }
 
     restoreNames(names) {
-        return this.#edited(calls.restoreNames(this.#handle, given.ranges(names)));
+        return this.#edited(() => calls.restoreNames(this.#handle, given.ranges(names)));
     }
 
     take(message) {
+        this.#keeper?.begins();
         const [number, kind, drained, dropped, stopped] = calls.take(this.#handle, given.bytes(message));
         this.#taken(kind === TAKEN ? 1 : drained, number);
         return { kind: TAKINGS[kind], drained, dropped, stopped: stopped !== 0 };
     }
 
     unpack(chunk) {
+        this.#keeper?.begins();
         const [number, stand, taken, known, waiting, stopped] = calls.unpack(this.#handle, given.bytes(chunk));
         this.#taken(taken, number, stand);
         return { taken, known, waiting, stopped: stopped !== 0 };
     }
 
     settle() {
+        this.#keeper?.begins();
         const [number, drained, dropped, stopped] = calls.settle(this.#handle);
         this.#taken(drained, number);
         return { drained, dropped, stopped: stopped !== 0 };
@@ -287,6 +397,8 @@ export class Text extends Shown {
         given.instance(other, Text);
         // A closed text refuses to take in itself too.
         done(calls.length(this.#handle));
+        other.#keeper?.keep();
+        this.#keeper?.begins();
         const [number, taken] = calls.merge(this.#handle, other.#handle);
         this.#taken(taken, number);
         return taken;
@@ -306,6 +418,7 @@ export class Text extends Shown {
 
     // How far this text is, as bytes.
     state() {
+        this.#keeper?.keep();
         return this.#followedDigests().state(this.number, this.fronts());
     }
 
@@ -337,6 +450,7 @@ export class Text extends Shown {
 
     *#since(fronts) {
         for (let index = 0, message; ;) {
+            this.#keeper?.keep();
             const answer = calls.since(this.#handle, fronts, index);
             if (answer[0] === NO_MESSAGE) return;
             [index, message] = done(answer);
@@ -346,13 +460,12 @@ export class Text extends Shown {
 
     /** @param {Iterable<readonly number[]> | Uint8Array} fronts */
     pack(fronts = []) {
-        const packed = opened(calls.pack(this.#handle, given.fronts(this.#asked(fronts))));
-        const chunks = [];
-        for (let beg = 2, end; beg < packed.length; beg = end + 2) {
-            end = beg + packed.readUInt16LE(beg - 2);
-            chunks.push(packed.subarray(beg, end));
-        }
-        return chunks;
+        this.#keeper?.keep();
+        return [...chunksIn(this.#packed(this.#asked(fronts)))];
+    }
+
+    #packed(fronts) {
+        return opened(calls.pack(this.#handle, given.fronts(fronts)));
     }
 
     past(fronts) {
@@ -407,15 +520,24 @@ export class Text extends Shown {
     batch(calls, origin = undefined) {
         if (typeof calls !== 'function') throw new TypeError('a function is wanted, which makes the calls');
         const before = this.fronts();
+        if (this.#held.length > 0) before.set(this.site, this.front(this.site) - this.#held.length);
         let isWhole = false;
         try {
             isWhole = this.#feed.batch(calls, origin);
         } catch (why) {
             // (what was done stands)
-            if (!this.#feed.isOpen && why instanceof Error) /** @type {any} */ (why).messages = this.pack(before);
+            if (!this.#feed.isOpen && why instanceof Error) /** @type {any} */ (why).messages = this.#packedPast(before);
             throw why;
         }
-        return isWhole ? this.pack(before) : [];
+        return isWhole ? this.#packedPast(before) : [];
+    }
+
+    #packedPast(fronts) {
+        this.#keeper?.refuseWhereElsewhere();
+        const chunks = this.pack(fronts);
+        this.#held = [];
+        this.#feed.sendsRest();
+        return chunks;
     }
 
     paste(pos, data, looks = undefined) {

@@ -1,4 +1,5 @@
 // What is edited here can be taken back, and done again, by the characters' names: nobody else's text is touched.
+import { madeBy } from './feed.js';
 import { effectOf, united, without } from './names.js';
 
 // No message speaks of more ranges.
@@ -68,11 +69,12 @@ export class UndoManager {
         return this.#origins === undefined ? !(origin instanceof UndoManager) : this.#origins.has(origin);
     }
 
-    #edited({ own, origin, messages, delta }) {
+    #edited(edit) {
+        const { own, origin, delta } = edit;
         if (origin === this) {
-            this.#made = { ...effectOfAll(messages), ...stretchOf(delta) };
+            this.#made = { ...effectOfAll(madeBy(edit)), ...stretchOf(delta) };
         } else if (own && this.#isTracked(origin)) {
-            const effect = effectOfAll(messages);
+            const effect = effectOfAll(madeBy(edit));
             if (!doesNothing(effect)) this.#add(effect);
         }
     }
@@ -103,9 +105,11 @@ export class UndoManager {
     #move(from, to) {
         if (this.#text.isInBatch) throw new TypeError('a batch is open, which is one change');
         this.stopCapturing();
+        // (what does nothing may hand out what couldn't be kept before)
+        const chunks = [];
         while (from.length > 0) {
             const item = from.at(-1), selection = this.#selection();
-            const chunks = this.#reverse(item);
+            chunks.push(...this.#reverse(item));
             const { came, went, beg, end } = this.#made;
             from.pop();
             if (doesNothing({ came, went })) continue;
@@ -113,7 +117,7 @@ export class UndoManager {
             this.#tell();
             return { chunks, selection: item.selection, beg, end };
         }
-        return undefined;
+        return chunks.length > 0 ? { chunks, selection: undefined, beg: undefined, end: undefined } : undefined;
     }
 
     undo() {

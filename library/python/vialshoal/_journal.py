@@ -1,14 +1,4 @@
-"""The file of a text that is open: its history, and behind it a journal of what was taken in since.
-
-    head      20 bytes: the tag OTJ1; the text and the site, 2 each; the length of the history, and its CRC-32, 4 each; the CRC-32 of
-              all these, 4
-    history   a packed file, or, where that has too many operations, an entry's chunks
-    entries   8 bytes: the length of the chunks, and a CRC-32 of the text, the site, that length and the chunks; then the chunks,
-              each behind its length in two bytes, the low one first
-
-Other numbers are big-endian. An entry is synced before it counts, and before the next one is begun. So where the program or the machine
-ends midway the last entry alone may be torn, and nobody was told that this one is kept.
-"""
+"""The file of a text that is open (docs/FORMATS.md, "Files of open texts"). The package for Node has the same."""
 from __future__ import annotations
 
 import errno
