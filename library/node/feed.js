@@ -132,8 +132,10 @@ export class Feed {
         try {
             calls();
         } finally {
-            this.#flush();
+            // (what a listener edits then is no part of it)
+            const { edit } = this.#open;
             this.#open = undefined;
+            if (edit !== undefined) this.#tell(edit);
         }
         return true;
     }

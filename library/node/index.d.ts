@@ -330,8 +330,10 @@ export class Presence<S extends object = Record<string, unknown>> {
     set(state: S | null): Buffer;
     /** The states of those who are there, oneself too, by their ids. */
     states(): Map<string, S>;
-    /** All that is known, for one who comes. */
-    encode(): Buffer;
+    /** What is known of some, or of all, for one who comes. */
+    encode(ids?: Iterable<string>): Buffer;
+    /** Says of others that they left, as one sees it by whom they were heard, and answers what is to be sent. */
+    leave(ids: Iterable<string>): Buffer;
     /** Takes in what others sent, and answers the ids of whose states changed. Other bytes are `Refused`. */
     take(bytes: Uint8Array): string[];
     /** Lets those go who weren't heard of, and answers what is to be sent, if it is time to. */

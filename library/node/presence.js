@@ -20,7 +20,7 @@ function isEntry(entry) {
 
 function entriesOf(bytes) {
     try {
-        const entries = JSON.parse(given.bytes(bytes).toString());
+        const entries = JSON.parse(Buffer.from(given.bytes(bytes)).toString());
         if (Array.isArray(entries) && entries.every(isEntry)) return entries;
     } catch (why) {
         if (!(why instanceof SyntaxError)) throw why;
@@ -73,9 +73,17 @@ export class Presence {
         return new Map([...this.#known].filter(([, { state }]) => state !== null).map(([id, { state }]) => [id, state]));
     }
 
-    // All that is known, for one who comes.
-    encode() {
-        return this.#encoded([...this.#known.keys()]);
+    // What is known of some, or of all, for one who comes.
+    encode(ids = this.#known.keys()) {
+        return this.#encoded([...ids].filter((id) => this.#known.has(id)));
+    }
+
+    // Says of others that they left, as one sees it by whom they were heard. Answers what is to be sent.
+    leave(ids) {
+        const left = [...ids].filter((id) => id !== this.id && this.#known.get(id)?.state);
+        for (const id of left) this.#known.set(id, { clock: this.#known.get(id).clock + 1, state: null, at: this.#now() });
+        this.#tell(left);
+        return this.#encoded(left);
     }
 
     // Takes in what others sent. Answers the ids of those whose states changed.

@@ -88,6 +88,14 @@ assert.deepEqual([seen[0], `${text}`], [[[{ delete: 10 }], [{ insert: '>' }]], '
 assert.deepEqual(seen[0], seen[1]);
 echo();
 ends.forEach((end) => end());
+// What it edits as a batch ends is no part of that.
+const heard = [], answered = [], answers = text.subscribe(({ own, origin, messages }) => {
+    heard.push([own, origin, messages.length]);
+    if (origin === 'asks') answered.push(...text.insert(0, '<'));
+});
+text.batch(() => text.insert(0, '?'), 'asks');
+assert.deepEqual([heard, answered.length], [[[true, 'asks', 1], [true, undefined, 1]], 1]);
+answers();
 
 // Calls within a batch hand nothing out; it answers chunks of all that was done, also where it fails.
 const told = [], begun = text.fronts();

@@ -1,7 +1,11 @@
 // Calls as users write them, for the compiler alone: the types of index.d.ts.
 import {
-    Backlog, FrontsDiffer, Misused, Past, Presence, Refused, Text, UndoManager, type Anchor, type Delta, type Edit,
+    Backlog, Damaged, FrontsDiffer, Misused, Past, Presence, Refused, Text, UndoManager, type Anchor, type Delta, type Edit,
 } from '../index.js';
+import { CodeMirrorBinding, type Cursor } from '../codemirror.js';
+import { IndexedDBStore } from '../indexeddb.js';
+import { Relay } from '../relay.js';
+import { WebSocketProvider } from '../websocket.js';
 
 export function used(): Delta {
     const text = new Text(1, 1, { units: 'utf-16' }), past: Past = text.past(text.fronts());
@@ -35,4 +39,25 @@ export function shared(text: Text, sent: (bytes: Uint8Array) => void): number {
     const undone = undo.undo();
     undone?.chunks.forEach(sent);
     return places.length + text.diff(text.fronts()).length + (undone?.selection?.site ?? 0);
+}
+
+export function connected(text: Text, editor: unknown): () => void {
+    const presence = new Presence<Cursor & { site: number }>();
+    const binding = new CodeMirrorBinding(text, editor, { presence, user: { name: 'Ann', colour: '#0060c0' }, undo: { captureTime: 300 } });
+    const provider = new WebSocketProvider(text, 'ws://localhost', { presence, connect: false });
+    const end = provider.subscribe(({ status, error }) => console.log(status, error instanceof FrontsDiffer ? error.site : error?.message));
+    console.log([...binding.cursors.values()].map(({ head, name }) => `${name} ${head}`));
+    return () => { end(); provider.close(); binding.close(); };
+}
+
+export async function kept(): Promise<number> {
+    const store = await IndexedDBStore.open('note', { site: 1, units: 'utf-16' }), provider = new WebSocketProvider(store.text, '', { store });
+    provider.close();
+    await store.close();
+    const relay = new Relay((room) => Text.open(`rooms${room}`, { text: 1, site: 9 }));
+    try {
+        return Text.open('note').torn.length + relay.texts.size;
+    } catch (why) {
+        return why instanceof Damaged ? why.code.length : 0;
+    }
 }
