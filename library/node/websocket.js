@@ -36,7 +36,8 @@ export class WebSocketProvider {
     // Whether the other side says next who is there, and is to be told that one is here, too.
     #isNew = false;
 
-    constructor(text, url, { presence, store, WebSocket = globalThis.WebSocket, least = LEAST, most = MOST, connect = true } = /** @type {any} */ ({})) {
+    constructor(text, url, options = /** @type {any} */ ({})) {
+        const { presence, store, WebSocket = globalThis.WebSocket, least = LEAST, most = MOST, connect = true } = options;
         this.#text = text;
         this.#url = url;
         this.#presence = presence;

@@ -30,6 +30,7 @@ CHROMIUM, DRIVER = shutil.which("chromium"), shutil.which("chromedriver")
 WORDS = ["--headless=new", "--no-sandbox", "--disable-gpu", "--disable-dev-shm-usage", "--no-first-run", "--disable-extensions",
          "--no-proxy-server"]
 PATIENCE = 120
+MOST_SHOWN = 2_000
 # What runs in pages too, of library/node/tests.
 TESTS = ("text", "delta", "versions", "undo", "presence", "backlog")
 IN_PAGE = "const [name, done] = arguments; import('/test/said.mjs').then((it) => it.said(name)).then(done, (why) => done(String(why)))"
@@ -64,8 +65,8 @@ def served(folder: Path) -> Iterator[str]:
         server.server_close()
 
 
-class Page(unittest.TestCase):
-    """Pages in a browser."""
+class Browser(unittest.TestCase):
+    """A browser."""
 
     driver: Any
 
@@ -82,6 +83,18 @@ class Page(unittest.TestCase):
     def tearDownClass(cls) -> None:
         cls.driver.quit()
 
+    def wait_for(self, condition: str, *words: object) -> None:
+        """Waits until a condition of the page's holds, in which `words` are these."""
+        if not self.driver.execute_async_script(WAITING.replace("CONDITION", condition), words, PATIENCE):
+            shown = self.driver.execute_script("return document.body.innerText")
+            boxes = self.driver.execute_script(f"return {BOXES}")
+            self.fail(f"waited {PATIENCE} seconds for {condition}, {words}; the page: {shown[:MOST_SHOWN]!r}, {boxes}; "
+                      f"{self.driver.get_log('browser')}")
+
+
+class Page(Browser):
+    """Pages in a browser."""
+
     def setUp(self) -> None:
         folder = Path(self.enterContext(tempfile.TemporaryDirectory()))
         for name in "out", "tests":
@@ -92,12 +105,6 @@ class Page(unittest.TestCase):
             (folder / name).symlink_to(there)
         address = self.enterContext(served(folder))
         self.driver.get(f"{address}/node/example/")
-
-    def wait_for(self, condition: str, *words: object) -> None:
-        """Waits until a condition of the page's holds, in which `words` are these."""
-        if not self.driver.execute_async_script(WAITING.replace("CONDITION", condition), words, PATIENCE):
-            shown = self.driver.execute_script(f"return {BOXES}")
-            self.fail(f"waited {PATIENCE} seconds for {condition}, {words}; the boxes: {shown}; {self.driver.get_log('browser')}")
 
     def both_show(self, text: str) -> None:
         """Waits until both boxes show a text."""
@@ -142,16 +149,20 @@ class Page(unittest.TestCase):
             self.wait_for("document.body.textContent === words[0]", "Oberon")
 
 
+def counted(ran: unittest.TestResult) -> int:
+    """Says how many tests passed; the status."""
+    failed = len(ran.failures) + len(ran.errors)
+    print(f"{ran.testsRun - failed} passed, {failed} failed")
+    return 1 if failed else 0
+
+
 def main() -> int:
     """Runs all, where there is Chromium."""
     if not HAS_SELENIUM or CHROMIUM is None or DRIVER is None:
         print("page: there is no Chromium with its driver and Selenium, so nothing is tested")
         print("0 passed, 0 failed")
         return 0
-    ran = unittest.main(argv=[sys.argv[0]], exit=False).result
-    failed = len(ran.failures) + len(ran.errors)
-    print(f"{ran.testsRun - failed} passed, {failed} failed")
-    return 1 if failed else 0
+    return counted(unittest.main(argv=[sys.argv[0]], exit=False).result)
 
 
 if __name__ == "__main__":

@@ -1,0 +1,172 @@
+"""Chromium with the two editors of library/node/example/editors.html, over the package that bin/library --wasm makes or VIALSHOAL_PACKAGE
+names: keys, undo, cursors, away and back, a page that is loaded again; and at random against plain models, for VIALSHOAL_SECONDS
+(20) from the seed VIALSHOAL_SEED on. The last line is 'N passed, M failed'."""
+import contextlib
+import os
+import random
+import shutil
+import subprocess
+import sys
+import unittest
+from pathlib import Path
+from typing import Any
+
+import page
+
+with contextlib.suppress(ImportError):
+    from selenium.webdriver.common.by import By
+    from selenium.webdriver.common.keys import Keys
+
+SERVES = page.LIBRARY / "node" / "example" / "serve.mjs"
+NEEDED = ("/usr/share/nodejs/ws", "/usr/share/javascript/codemirror/lib/codemirror.js")
+SECONDS = float(os.environ.get("VIALSHOAL_SECONDS", "20"))
+# So long is played in one page, before it is another.
+ROUND = 10.0
+PLAY = """const [seed, seconds, done] = arguments;
+import('/test/editors_play.mjs').then((it) => it.play(seed, seconds)).then(done, (why) => done({ wrong: `${why}` }));"""
+THERE = "globalThis.editors?.every(({ provider }) => provider.isSynced)"
+SHOWN = "editors.map(({ cm }) => cm.getValue())"
+
+
+class Editors(page.Browser):
+    """The example, in a room of each test's own."""
+
+    def setUp(self) -> None:
+        self.server = subprocess.Popen(["node", str(SERVES)], stdout=subprocess.PIPE, text=True)
+        self.addCleanup(self.end)
+        assert self.server.stdout
+        self.address = self.server.stdout.readline().strip()
+        self.open("room")
+
+    def end(self) -> None:
+        """Ends the server."""
+        self.driver.get("about:blank")
+        self.server.kill()
+        self.server.communicate()
+
+    def open(self, room: str, words: str = "") -> None:
+        """Opens the page."""
+        self.driver.get(f"{self.address}?room={room}{words}")
+        self.wait_for(THERE)
+
+    def run_script(self, script: str, *words: object) -> Any:
+        """What a script of the page answers."""
+        return self.driver.execute_script(f"return {script}", *words)
+
+    def both_show(self, text: str) -> None:
+        """Waits until both editors show a text, and their texts are that."""
+        self.wait_for(f"{SHOWN}.every((shown) => shown === words[0]) && editors.every(({{ text }}) => `${{text}}` === words[0])", text)
+
+    def type(self, index: int, *keys: str) -> None:
+        """Presses keys in an editor."""
+        self.run_script("editors[arguments[0]].cm.focus()", index)
+        self.driver.switch_to.active_element.send_keys(*keys)
+
+    def switch(self, index: int) -> None:
+        """Takes an editor off line, or has it come back."""
+        self.driver.find_elements(By.TAG_NAME, "input")[index].click()
+
+    def test_keys(self) -> None:
+        self.type(0, "Project\nOberon")
+        self.both_show("Project\nOberon")
+        self.wait_for("editors[1].binding.cursors.get(editors[0].presence.id)?.head === 14")
+        self.assertEqual(self.run_script("document.querySelectorAll('section')[1].querySelector('.vialshoal-caret').title"), "Ann")
+        # Others' text at a cursor comes after it; what is selected is shown there.
+        self.run_script("editors[1].cm.setCursor(0, 7)")
+        self.type(1, " of")
+        self.both_show("Project of\nOberon")
+        self.run_script("editors[0].cm.setSelection({ line: 0, ch: 0 }, { line: 0, ch: 7 })")
+        self.wait_for("document.querySelectorAll('section')[1].querySelector('.vialshoal-selection')?.textContent === 'Project'")
+        # Each takes back what was typed there, and does it again.
+        self.type(1, Keys.CONTROL + "z")
+        self.both_show("Project\nOberon")
+        self.type(1, Keys.CONTROL + "z")
+        self.type(1, Keys.CONTROL + "y")
+        self.both_show("Project of\nOberon")
+        self.type(0, Keys.CONTROL + "z")
+        self.both_show(" of")
+        # What is typed over a selection goes into its place, and comes back with it.
+        self.type(0, Keys.CONTROL + "y")
+        self.both_show("Project of\nOberon")
+        self.run_script("editors[0].cm.setSelection({ line: 0, ch: 0 }, { line: 0, ch: 7 })")
+        self.type(0, "Y")
+        self.both_show("Y of\nOberon")
+        self.type(0, Keys.CONTROL + "z")
+        self.both_show("Project of\nOberon")
+        self.assertEqual(self.run_script("editors[0].cm.getSelection()"), "Project")
+
+    def test_away_and_back(self) -> None:
+        self.type(0, "ab")
+        self.both_show("ab")
+        self.switch(1)
+        self.type(0, "c")
+        self.type(1, "d")
+        self.wait_for("editors[0].provider.isSynced && editors[1].provider.status === 'offline'")
+        self.assertEqual(self.run_script(SHOWN), ["abc", "dab"])
+        self.switch(1)
+        self.both_show("dabc")
+        # The relay ends and comes back with nothing, at the same address: all is brought there again.
+        port = self.address.split(":")[2].split("/")[0]
+        self.server.kill()
+        self.server.communicate()
+        self.wait_for("editors.every(({ provider }) => provider.status !== 'online')")
+        self.type(0, "e")
+        self.type(1, "f")
+        self.server = subprocess.Popen(["node", str(SERVES), port], stdout=subprocess.PIPE, text=True)
+        self.wait_for(THERE)
+        self.wait_for(f"new Set({SHOWN}).size === 1 && {SHOWN}[0].length === 6")
+
+    def test_loaded_again(self) -> None:
+        self.type(0, "kept")
+        self.both_show("kept")
+        self.switch(0)
+        self.type(0, " here")
+        self.wait_for("editors[0].text.toString() === 'kept here'")
+        self.driver.execute_async_script("const [done] = arguments; editors[0].store.kept().then(done)")
+        # Another page has it not while this one does.
+        first = self.driver.current_window_handle
+        self.driver.switch_to.new_window("window")
+        self.driver.get(f"{self.address}?room=room")
+        self.wait_for("document.body.textContent.includes('it is open already')")
+        self.driver.close()
+        self.driver.switch_to.window(first)
+        self.open("room")
+        self.both_show("kept here")
+        # Undo begins anew; the site goes on.
+        self.type(0, Keys.CONTROL + "z")
+        self.type(0, "!")
+        self.wait_for(f"{SHOWN}.every((shown) => shown === '!kept here')")
+        # What becomes long is kept as a history.
+        size = self.run_script("editors[0].text.insert(0, 'x'.repeat(200000)).length")
+        self.assertGreater(size, 10)
+        self.driver.execute_async_script("const [done] = arguments; editors[0].store.kept().then(done)")
+        self.type(0, "y")
+        self.wait_for(f"new Set({SHOWN}).size === 1 && {SHOWN}[0].length === 200011")
+        shown = self.run_script(f"{SHOWN}[0]")
+        self.open("room")
+        self.both_show(shown)
+
+    def test_at_random(self) -> None:
+        seed, left, steps = int(os.environ.get("VIALSHOAL_SEED", random.randrange(1, 1 << 31))), SECONDS, 0
+        counts = dict.fromkeys(("edits", "undos", "meetings", "away"), 0)
+        while left > 0:
+            self.open(f"room{seed}", "&capture=0")
+            told = self.driver.execute_async_script(PLAY, seed, min(left, ROUND))
+            self.assertEqual(told["wrong"], "", told)
+            counts = {name: count + told[name] for name, count in counts.items()}
+            seed, left, steps = seed + 1, left - ROUND, steps + told["steps"]
+        print(f"editors at random: {steps} steps, {counts}: 0 differences", flush=True)
+
+
+def main() -> int:
+    """Runs all, where there is what it needs."""
+    lacking = [name for name in NEEDED if not Path(name).exists()]
+    if not page.HAS_SELENIUM or page.CHROMIUM is None or page.DRIVER is None or shutil.which("node") is None or lacking:
+        print("editors: there is no Chromium with its driver and Selenium, no node-ws or no libjs-codemirror, so nothing is tested")
+        print("0 passed, 0 failed")
+        return 0
+    return page.counted(unittest.main(argv=[sys.argv[0]], exit=False).result)
+
+
+if __name__ == "__main__":
+    sys.exit(main())
