@@ -74,6 +74,22 @@ class Deltas(unittest.TestCase):
         self.assertTrue(all(is_own in kinds for (is_own, before), after in zip(runs, afters) if before != after))
         runs.clear()
 
+    def test_each_has_the_origin_of_its_batch(self) -> None:
+        with Text(1, site=1) as text, Text(1, site=2) as other:
+            text.delta()
+            told: list[Delta[bytes]] = []
+            text.subscribe(told.append)
+            other.insert(0, b"others")
+            text.insert(0, b"a")
+            with text.batch("keys"):
+                text.insert(0, b"b")
+                with text.batch("inner"):
+                    text.insert(0, b"c")
+                text.merge(other)
+            text.insert(0, b"d")
+            put = [(delta.origin, delta.is_own, [it.data for it in delta.steps if isinstance(it, Insert)]) for delta in told]
+            self.assertEqual(put, [(None, True, [b"a"]), ("keys", True, [b"cb"]), ("keys", False, [b"others"]), (None, True, [b"d"])])
+
     @given(edits, turns)
     @settings(max_examples=100, deadline=None)
     def test_they_lead_from_what_was_shown_to_what_is(self, given_edits: list[Any], given_turns: list[Turn]) -> None:

@@ -185,21 +185,29 @@ class Changing(Replica[AnyStr]):
         return messages
 
     @contextmanager
-    def batch(self) -> Iterator[list[bytes]]:
-        """Calls that are one change: they are kept together as the block ends, and the list has then the chunks of all that
-        they made and took in, of 16,000 bytes at most; edits answer no messages meanwhile. Other threads wait for its end. One
-        within another is a part of that."""
+    def batch(self, origin: object = None) -> Iterator[list[bytes]]:
+        """Calls that are one change, with this origin: they are kept together as the block ends, and the list has then the chunks
+        of all that they made and took in, of 16,000 bytes at most; edits answer no messages meanwhile. Other threads wait for its
+        end. One within another is a part of that."""
         chunks: list[bytes] = []
         with self._turn_with(self):
             before = self._fronts()
             before[self._site] = self._front(self._site) - self._unsent()
+            if not self._batches:
+                self._originates(origin)
             self._batches += 1
             try:
                 yield chunks
             finally:
                 self._batches -= 1
                 if not self._batches:
+                    self._originates(None)
                     chunks += self._handed_out_past(before)
+
+    def _originates(self, origin: object) -> None:
+        if self._deltas.are_wanted:
+            self._gather()
+        self._deltas.origin = origin
 
     def _handed_out_past(self, fronts: dict[int, int]) -> Iterator[bytes]:
         self._refuse_where_elsewhere()

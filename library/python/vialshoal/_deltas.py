@@ -5,7 +5,7 @@ import logging
 import threading
 from collections import deque
 from collections.abc import Callable, Iterable
-from dataclasses import dataclass
+from dataclasses import dataclass, field
 from typing import Any, AnyStr, Generic, Union
 
 from ._composing import Step, Triple, composed
@@ -35,10 +35,12 @@ class Delete:
 
 @dataclass(frozen=True)
 class Delta(Generic[AnyStr]):
-    """What was done to a text from its begin on, by its own site or by others; what comes behind the last step stays."""
+    """What was done to a text from its begin on, by its own site or by others, with the origin that `batch` was given; what comes
+    behind the last step stays."""
 
     is_own: bool
     steps: tuple[Union[Retain, Insert[AnyStr], Delete], ...]
+    origin: object = field(default=None, repr=False, compare=False)
 
     def applied(self, shown: AnyStr) -> AnyStr:
         """What it makes of what was shown."""
@@ -58,7 +60,7 @@ class Delta(Generic[AnyStr]):
 Listener = Callable[[Delta[Any]], object]
 
 
-def delta_of(is_own: bool, changes: Iterable[Triple], read: Callable[[int, int], AnyStr]) -> Delta[AnyStr]:
+def delta_of(is_own: bool, origin: object, changes: Iterable[Triple], read: Callable[[int, int], AnyStr]) -> Delta[AnyStr]:
     """What changes did, where `read` reads a range of the text as it is after them."""
     steps: list[Union[Retain, Insert[AnyStr], Delete]] = []
     at = cut = put = 0
@@ -73,7 +75,7 @@ def delta_of(is_own: bool, changes: Iterable[Triple], read: Callable[[int, int],
             at, cut, put = at + put + length, 0, 0
     if steps and isinstance(steps[-1], Retain) and not steps[-1].is_dressed:
         steps.pop()
-    return Delta(is_own, tuple(steps))
+    return Delta(is_own, tuple(steps), origin)
 
 
 class Deltas(Generic[AnyStr]):
@@ -81,15 +83,18 @@ class Deltas(Generic[AnyStr]):
     text, and waits for nobody who waits for it."""
 
     def __init__(self) -> None:
-        # Whether anybody asked for deltas, and whose the changes are that aren't in one yet.
+        # Whether anybody asked for deltas, and whose the changes are that aren't in one yet, of which origin.
         self.are_wanted = self.is_own = False
+        self.origin: object = None
         self.listeners: list[Listener] = []
+        # What has each delta while the text is locked, before anybody is told: it is for bindings, whose texts are shown elsewhere.
+        self.feeds: list[deque[Delta[AnyStr]]] = []
         self._untold: list[Delta[AnyStr]] = []
         self.queue: deque[tuple[Delta[AnyStr], list[Listener]]] = deque()
         self._turn = threading.Lock()
 
     def add(self, changes: Iterable[Triple], read: Callable[[int, int], AnyStr]) -> None:
-        delta = delta_of(self.is_own, changes, read)
+        delta = delta_of(self.is_own, self.origin, changes, read)
         if delta.steps:
             self._untold.append(delta)
 
@@ -100,7 +105,10 @@ class Deltas(Generic[AnyStr]):
     def publish(self) -> None:
         """Has the listeners be told, if there are any."""
         if self.listeners:
-            self.queue.extend((delta, [*self.listeners]) for delta in self.take())
+            deltas = self.take()
+            self.queue.extend((delta, [*self.listeners]) for delta in deltas)
+            for feed in self.feeds:
+                feed.extend(deltas)
 
     def tell(self) -> None:
         """Tells the listeners, one delta after the other; another thread, or a call of this one, may be about it."""
