@@ -24,6 +24,12 @@ SECONDS = float(os.environ.get("VIALSHOAL_SECONDS", "20"))
 ROUND = 10.0
 PLAY = """const [seed, seconds, done] = arguments;
 import('/test/editors_play.mjs').then((it) => it.play(seed, seconds)).then(done, (why) => done({ wrong: `${why}` }));"""
+# How long what a database has is, the one after the other.
+KEPT = """const [name, done] = arguments, opening = indexedDB.open(name);
+opening.onsuccess = () => opening.result.transaction('kept').objectStore('kept').getAll().onsuccess = ({ target }) => {
+  opening.result.close();
+  done(target.result.map(({ history, chunks }) => chunks ? chunks.reduce((sum, { length }) => sum + length, 0) : history?.length ?? 0));
+};"""
 THERE = "globalThis.editors?.every(({ provider }) => provider.isSynced)"
 SHOWN = "editors.map(({ cm }) => cm.getValue())"
 
@@ -94,6 +100,10 @@ class Editors(page.Browser):
         self.type(0, Keys.CONTROL + "z")
         self.both_show("Project of\nOberon")
         self.assertEqual(self.run_script("editors[0].cm.getSelection()"), "Project")
+        # What the program puts in isn't the editor's to take back.
+        self.run_script("editors[0].text.insert(0, '> ')")
+        self.type(0, Keys.CONTROL + "z")
+        self.both_show(">  of")
 
     def test_away_and_back(self) -> None:
         self.type(0, "ab")
@@ -142,6 +152,10 @@ class Editors(page.Browser):
         self.driver.execute_async_script("const [done] = arguments; editors[0].store.kept().then(done)")
         self.type(0, "y")
         self.wait_for(f"new Set({SHOWN}).size === 1 && {SHOWN}[0].length === 200011")
+        # A key adds what it made.
+        self.driver.execute_async_script("const [done] = arguments; editors[0].store.kept().then(done)")
+        sizes = self.driver.execute_async_script(KEPT, "vialshoal room Ann")
+        self.assertTrue(len(sizes) >= 2 and sizes[0] > 1000 > sizes[1], sizes)
         shown = self.run_script(f"{SHOWN}[0]")
         self.open("room")
         self.both_show(shown)

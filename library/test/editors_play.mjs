@@ -94,8 +94,12 @@ class Player {
     }
 
     select(index) {
-        const { cm } = this.editors[index], { length } = cm.getValue();
-        cm.setSelection(...[0, 0].map(() => cm.posFromIndex(this.draw(length + 1))));
+        const { cm } = this.editors[index], shown = cm.getValue();
+        cm.setSelection(...[0, 0].map(() => {
+            const at = this.draw(shown.length + 1);
+            // (nobody's cursor is within a pair)
+            return cm.posFromIndex(/[\udc00-\udfff]/.test(shown[at] ?? '') ? at - 1 : at);
+        }));
     }
 
     // Both are what one is that takes in both, and show each other's cursors.

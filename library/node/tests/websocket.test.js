@@ -49,7 +49,16 @@ class Server {
     }
 
     provider(text, options = {}) {
-        return new WebSocketProvider(text, `ws://127.0.0.1:${this.port}/room`, { WebSocket: ws.WebSocket, least: 5, most: 40, ...options });
+        // (the kinds of the frames that come to it)
+        const got = /** @type {any[]} */ ([]);
+        class Socket extends ws.WebSocket {
+            constructor(url) {
+                super(url);
+                this.on('message', (data) => got.push(new Uint8Array(data)[0]));
+            }
+        }
+        const provider = new WebSocketProvider(text, `ws://127.0.0.1:${this.port}/room`, { WebSocket: Socket, least: 5, most: 40, ...options });
+        return Object.assign(provider, { got });
     }
 
     get text() {
@@ -87,6 +96,12 @@ async function meet() {
         await until(() => areSame(a, b), 'each letter comes');
     }
     assert.deepEqual(server.came.slice(length).map(([kind]) => kind), Array(6).fill(2));
+    assert.equal(one.got.filter((kind) => kind === 2).length, 1);
+    // Nor does what the other one got go back with what that makes.
+    server.came.length = 0;
+    b.insert(0, '!');
+    await until(() => areSame(a, b), 'it comes');
+    assert.ok(server.came.length === 1 && server.came[0][1] < 40, JSON.stringify(server.came));
     // One who is away gives and gets what was made meanwhile, and no more.
     one.disconnect();
     assert.deepEqual([one.status, one.isSynced], ['offline', false]);
@@ -277,6 +292,24 @@ async function anybody() {
     await server.close();
 }
 
+// What came too early, and is kept until what it builds on comes from another one, goes to all then.
+async function early() {
+    const server = await Server.made(inMemory), [, b, c] = texts(3), made = new Text(1, 5, UTF_16);
+    const [first] = made.insert(0, 'a'), had = made.fronts();
+    made.insert(1, 'b');
+    const [one, other] = [server.provider(b), server.provider(c)];
+    await synced(one, other);
+    const socket = new ws.WebSocket(`ws://127.0.0.1:${server.port}/room`);
+    await new Promise((done) => { socket.on('open', done); });
+    for (const [kind, bytes] of [[1, new Text(1, 5).state()], [2, made.pack(had)[0]]]) socket.send(Buffer.concat([Buffer.from([kind]), bytes]));
+    await until(() => server.came.filter(([kind]) => kind === 2).length === 1, 'it has come');
+    b.take(first);
+    await until(() => areSame(b, c, server.text, made), 'all have both');
+    socket.terminate();
+    [one, other].forEach((provider) => provider.close());
+    await server.close();
+}
+
 // Whatever ends whenever: all have all in the end.
 async function atRandom(seed) {
     const draw = drawn(seed), server = await Server.made(inMemory), all = texts(3);
@@ -310,6 +343,7 @@ async function all() {
         await stored();
         await full(folder);
         await anybody();
+        await early();
         for (let seed = 1; seed <= Number(process.env.VIALSHOAL_ROUNDS ?? 15); seed += 1) await atRandom(seed);
     } finally {
         fs.rmSync(folder, { recursive: true });

@@ -133,6 +133,35 @@ class Pages(unittest.TestCase):
         with self.assertRaises(TypeError):
             BufferBinding(bytes_of, buffer)  # type: ignore[arg-type]
 
+    def test_the_letter_at_the_cursor_is_the_one_that_was_typed(self) -> None:
+        buffer, binding = self.bound()
+        buffer.insert_text("aaa")
+        for place in (0, 2, 4):
+            buffer.cursor_position = place
+            buffer.insert_text("a")
+        self.assertEqual([it.offset for it in self.text.names(0, 6)], [3, 0, 4, 1, 5, 2])
+        buffer.cursor_position = 1
+        buffer.delete(1)
+        buffer.cursor_position = 3
+        buffer.delete_before_cursor(1)
+        self.assertEqual([it.offset for it in self.text.names(0, 4)], [3, 4, 5, 2])
+        binding.close()
+
+    def test_undo_passes_over_what_does_nothing_any_more(self) -> None:
+        buffer, binding = self.bound()
+        for word in ("one", " two"):
+            buffer.save_to_undo_stack()
+            buffer.insert_text(word)
+        for message in self.other.delete(3, 7):
+            self.text.take(message)
+        buffer.undo()
+        self.assertEqual(buffer.text, "")
+        buffer.redo()
+        self.assertEqual(buffer.text, "one")
+        buffer.redo()
+        self.assertEqual(buffer.text, "one")
+        binding.close()
+
     def test_what_is_refused_is_told(self) -> None:
         told: list[Exception] = []
         buffer, binding = self.bound(on_error=told.append)
