@@ -188,6 +188,7 @@ export class CodeMirrorBinding {
         const [was, is] = [made.removed.join('\n'), made.text.join('\n')];
         // (halves of pairs may be told apart; or another one made it another change)
         if (beg === undefined || PAIR.test(was + is)) this.#gathered.push({ isPlain: false });
+        else if (made.origin === 'setValue') this.#gathered.push({ ...difference(was, is), isPlain: true });
         else this.#gathered.push({ beg, end: beg + was.length, put: is, isPlain: true });
     }
 

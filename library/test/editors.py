@@ -4,9 +4,11 @@ names: keys, undo, cursors, away and back, a page that is loaded again; and at r
 import contextlib
 import os
 import random
+import re
 import shutil
 import subprocess
 import sys
+import tempfile
 import unittest
 from pathlib import Path
 from typing import Any
@@ -18,7 +20,9 @@ with contextlib.suppress(ImportError):
     from selenium.webdriver.common.keys import Keys
 
 SERVES = page.LIBRARY / "node" / "example" / "serve.mjs"
-NEEDED = ("/usr/share/nodejs/ws", "/usr/share/javascript/codemirror/lib/codemirror.js")
+CODEMIRROR = "/usr/share/javascript/codemirror"
+NEEDED = ("/usr/share/nodejs/ws", f"{CODEMIRROR}/lib/codemirror.js")
+MIRROR = "document.querySelector('.CodeMirror')?.CodeMirror"
 SECONDS = float(os.environ.get("VIALSHOAL_SECONDS", "20"))
 # So long is played in one page, before it is another.
 ROUND = 10.0
@@ -104,6 +108,34 @@ class Editors(page.Browser):
         self.run_script("editors[0].text.insert(0, '> ')")
         self.type(0, Keys.CONTROL + "z")
         self.both_show(">  of")
+        # Another value changes only what is another one.
+        names = self.run_script("editors[0].text.names(3, 5)")
+        self.run_script("editors[0].cm.setValue('> all of')")
+        self.both_show("> all of")
+        self.assertEqual(self.run_script("editors[1].text.names(6, 8)"), names)
+
+    def test_page_of_the_docs(self) -> None:
+        found = re.search(r"\n\n((?:    .*\n|\n)+?)(?=\n\S)", page.DOCS.read_text(encoding="utf-8").split("folder lies beside `node`:")[1])
+        assert found
+        lines = found[1].replace("127.0.0.1:8000", self.address.split("/")[2])
+        with tempfile.TemporaryDirectory() as name, page.served(Path(name)) as address:
+            for name_in, there in {"node": page.PACKAGE, "codemirror": CODEMIRROR}.items():
+                Path(name, name_in).symlink_to(there)
+            Path(name, "ann.html").write_text(lines, encoding="utf-8")
+            other = lines.replace("'note', { site: 1", "'other', { site: 2").replace("'Ann'", "'Bob'")
+            Path(name, "bob.html").write_text(other, encoding="utf-8")
+            self.driver.get(f"{address}/ann.html")
+            first = self.driver.current_window_handle
+            self.wait_for(f"{MIRROR} !== undefined")
+            self.run_script(f"{MIRROR}.focus()")
+            self.driver.switch_to.active_element.send_keys("Oberon")
+            self.driver.switch_to.new_window("window")
+            self.driver.get(f"{address}/bob.html")
+            self.wait_for(f"{MIRROR}?.getValue() === 'Oberon' && document.querySelector('.vialshoal-caret')?.title === 'Ann'")
+            self.driver.close()
+            self.driver.switch_to.window(first)
+            self.driver.get(f"{address}/ann.html")
+            self.wait_for(f"{MIRROR}?.getValue() === 'Oberon'")
 
     def test_away_and_back(self) -> None:
         self.type(0, "ab")

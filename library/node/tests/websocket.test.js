@@ -1,12 +1,13 @@
 // Texts that meet by way of a relay: away and back, relays that end and lose what they had, histories that differ, disks that are full, and at
 // random. In Node, with the package ws.
+import { spawn } from 'node:child_process';
 import fs from 'node:fs';
 import { createRequire } from 'node:module';
 import os from 'node:os';
 import path from 'node:path';
 import { setTimeout as sleep } from 'node:timers/promises';
 
-import { assert, Buffer, part, vialshoal } from './here.js';
+import { assert, Buffer, PACKAGE, part, vialshoal } from './here.js';
 import { drawn, edited } from './random.js';
 
 const { FrontsDiffer, Presence, Text } = vialshoal;
@@ -310,6 +311,37 @@ async function early() {
     await server.close();
 }
 
+// The relay that docs/LIBRARY.md shows, at another port.
+async function ofTheDocs(folder) {
+    const page = `${fs.readFileSync(new URL('../../../docs/LIBRARY.md', import.meta.url))}`;
+    const [, lines] = /** @type {RegExpMatchArray} */ (page.match(/^The relay, in Node[^\n]*\n\n((?: {4}[^\n]*\n|\n)+)/m));
+    const port = await new Promise((done) => {
+        const server = new ws.WebSocketServer({ port: 0 }, () => {
+            const { port: free } = server.address();
+            server.close(() => done(free));
+        });
+    });
+    fs.mkdirSync(path.join(folder, 'node_modules'));
+    fs.symlinkSync(PACKAGE, path.join(folder, 'node_modules/vialshoal'));
+    fs.symlinkSync('/usr/share/nodejs/ws', path.join(folder, 'node_modules/ws'));
+    fs.writeFileSync(path.join(folder, 'relay.mjs'), lines.replace('8000', `${port}`));
+    const relay = spawn(process.execPath, ['--preserve-symlinks', 'relay.mjs'], { cwd: folder, stdio: 'inherit' });
+    try {
+        const all = texts(2), options = { WebSocket: ws.WebSocket, least: 5, most: 40 };
+        const providers = all.map((text) => new WebSocketProvider(text, `ws://127.0.0.1:${port}/note`, options));
+        await synced(...providers);
+        all[0].insert(0, 'Oberon');
+        await until(() => areSame(...all), 'it comes');
+        providers.forEach((provider) => provider.close());
+    } finally {
+        relay.kill();
+        await new Promise((done) => { relay.on('exit', done); });
+    }
+    const kept = Text.open(path.join(folder, 'note'));
+    assert.equal(`${kept}`, 'Oberon');
+    kept.close();
+}
+
 // Whatever ends whenever: all have all in the end.
 async function atRandom(seed) {
     const draw = drawn(seed), server = await Server.made(inMemory), all = texts(3);
@@ -344,6 +376,7 @@ async function all() {
         await full(folder);
         await anybody();
         await early();
+        await ofTheDocs(folder);
         for (let seed = 1; seed <= Number(process.env.VIALSHOAL_ROUNDS ?? 15); seed += 1) await atRandom(seed);
     } finally {
         fs.rmSync(folder, { recursive: true });

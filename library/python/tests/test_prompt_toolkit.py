@@ -7,10 +7,16 @@ from __future__ import annotations
 
 import asyncio
 import errno
+import io
+import os
+import re
 import subprocess
 import sys
+import tempfile
+import textwrap
 import unittest
 from collections.abc import Callable
+from contextlib import redirect_stdout
 from functools import partial
 from typing import Any
 from unittest import mock
@@ -18,6 +24,7 @@ from unittest import mock
 from hypothesis import given, settings
 from hypothesis import strategies as st
 
+from test_text import TOP
 from test_threads import often_switching, side_by_side
 from vialshoal import Misused, Text
 from vialshoal import _names as names
@@ -26,6 +33,7 @@ from vialshoal._answers import NameRange
 
 try:
     from prompt_toolkit import PromptSession
+    from prompt_toolkit.application import create_app_session
     from prompt_toolkit.buffer import Buffer
     from prompt_toolkit.document import Document
     from prompt_toolkit.input import create_pipe_input
@@ -109,6 +117,43 @@ class Pages(unittest.TestCase):
             self.assertEqual(str(self.text), "Oberon>> Oberon>> ")
             pipe.send_text("\x1b\r")
             await asyncio.wait_for(asking, PATIENCE)
+
+    def test_the_lines_of_the_docs(self) -> None:
+        page = (TOP / "docs" / "LIBRARY.md").read_text()
+        block = re.search(r"In a terminal:\n\n((?:    .*\n|\n)+)", page)
+        assert block
+        code = compile(textwrap.dedent(block[1]), "LIBRARY.md", "exec")
+        before = os.getcwd()
+        with tempfile.TemporaryDirectory() as folder, create_pipe_input() as pipe, create_app_session(pipe, DummyOutput()):
+            os.chdir(folder)
+            try:
+                pipe.send_text("Oberon\x1b\r")
+                with redirect_stdout(io.StringIO()) as said:
+                    exec(code, {})
+                self.assertIn("OTC1", said.getvalue())
+                with Text.open("typed") as text:
+                    self.assertEqual(str(text), "Oberon")
+                # It goes on with what is there.
+                pipe.send_text("!\x1b\r")
+                with redirect_stdout(io.StringIO()):
+                    exec(code, {})
+                with Text.open("typed") as text:
+                    self.assertEqual(str(text), "Oberon!")
+            finally:
+                os.chdir(before)
+
+    def test_a_buffer_that_is_emptied_shows_the_text_again(self) -> None:
+        # (a session does so as it asks, and once it is answered)
+        buffer, binding = self.bound()
+        buffer.insert_text("kept")
+        buffer.reset()
+        self.assertEqual((buffer.text, buffer.cursor_position), ("kept", 4))
+        buffer.reset(Document("x"), append_to_history=True)
+        buffer.insert_text("!")
+        self.assertEqual((buffer.text, str(self.text)), ("kept!",) * 2)
+        binding.close()
+        buffer.reset()
+        self.assertEqual((buffer.text, str(self.text)), ("", "kept!"))
 
     def test_selections_and_bytes(self) -> None:
         buffer, binding = self.bound()

@@ -1,12 +1,6 @@
 """A text in a buffer of prompt_toolkit: what is typed there goes into the text, what others do is shown, and undo takes back what was
 typed there alone.
 
-    from prompt_toolkit import PromptSession
-    from vialshoal.prompt_toolkit import BufferBinding
-
-    session = PromptSession(multiline=True)
-    binding = BufferBinding(text, session.default_buffer, send=send)
-
 The buffer is used by the thread of its application; the text may be changed by any."""
 from __future__ import annotations
 
@@ -106,8 +100,9 @@ class BufferBinding:
             self._shown = text[:]
         self._show(self._shown, 0)
         buffer.on_text_changed += self._typed
-        # (what keys call, each before it edits, or to take edits back)
-        self._instead: dict[str, Callable[..., object]] = {"undo": self.undo, "redo": self.redo, "save_to_undo_stack": self._part}
+        # (what keys call, each before it edits, or to take edits back; and sessions, before they ask and after that)
+        self._instead: dict[str, Callable[..., object]] = {
+            "undo": self.undo, "redo": self.redo, "save_to_undo_stack": self._part, "reset": self._reset}
         for name, method in self._instead.items():
             setattr(buffer, name, method)
 
@@ -125,6 +120,10 @@ class BufferBinding:
 
     def _part(self, clear_redo_stack: bool = True) -> None:
         self._undo.part()
+
+    def _reset(self, *words: Any, **named: Any) -> None:
+        type(self._buffer).reset(self._buffer, *words, **named)
+        self.refresh(anew=True, cursor=len(self._text))
 
     def _typed(self, _: Buffer) -> None:
         if self._is_showing:
