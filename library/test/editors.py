@@ -119,7 +119,7 @@ class Editors(page.Browser):
         assert found
         lines = found[1].replace("127.0.0.1:8000", self.address.split("/")[2])
         with tempfile.TemporaryDirectory() as name, page.served(Path(name)) as address:
-            for name_in, there in {"node": page.PACKAGE, "codemirror": CODEMIRROR}.items():
+            for name_in, there in {"node": page.PACKAGE, "codemirror": Path(CODEMIRROR)}.items():
                 Path(name, name_in).symlink_to(there)
             Path(name, "ann.html").write_text(lines, encoding="utf-8")
             other = lines.replace("'note', { site: 1", "'other', { site: 2").replace("'Ann'", "'Bob'")
