@@ -144,6 +144,8 @@ class BufferBinding:
             if self._on_error is None:
                 raise
             self._on_error(why)
+        # (another thread may be about telling)
+        self.refresh()
         if chunks and self._send is not None:
             self._send(chunks)
 
