@@ -657,29 +657,39 @@ static napi_value find(napi_env env, napi_callback_info info) {
     return ANSWER(number, (double)place.pos, place.is_shown);
 }
 
-/* Changes as an array of a kind, a begin and an end each. */
+/* So many changes are handed out without memory being asked for. */
+enum { FEW = 16 };
+
+/* Whether more may be left, since what a call before couldn't hand out comes alone; and changes, a kind, a begin and an end each. */
 static napi_value changes(napi_env env, napi_callback_info info) {
     arguments given;
     uint64_t need;
-    vialshoal_change none;
-    if (!taken(env, info, 1, &given)) return NULL;
-    uint32_t number = vialshoal_changes(given.text, &none, 0, &need);
-    if (number != VIALSHOAL_TOO_SHORT) return ANSWER(number);
-    vialshoal_change *room = malloc(need * sizeof *room);
-    double *numbers = malloc((3 * need + 1) * sizeof *numbers);
+    vialshoal_change few[FEW], *room = few;
+    double fewer[2 + 3 * FEW], *numbers = fewer;
     napi_value list = NULL;
-    if (room != NULL && numbers != NULL && vialshoal_changes(given.text, room, need, &need) == 0) {
-        numbers[0] = 0;
-        for (uint64_t i = 0; i < need; i++) {
-            numbers[3 * i + 1] = room[i].kind;
-            numbers[3 * i + 2] = (double)room[i].beg;
-            numbers[3 * i + 3] = (double)room[i].end;
-        }
-        list = answer(env, 3 * need + 1, numbers);
+    if (!taken(env, info, 1, &given)) return NULL;
+    uint32_t number = vialshoal_changes(given.text, few, FEW, &need);
+    bool is_long = number == VIALSHOAL_TOO_SHORT;
+    if (is_long) {
+        room = malloc(need * sizeof *room);
+        numbers = malloc((2 + 3 * need) * sizeof *numbers);
+        number = room == NULL || numbers == NULL ? 7 : vialshoal_changes(given.text, room, need, &need);
     }
-    free(room);
-    free(numbers);
-    return list == NULL ? ANSWER(7) : list;
+    if (number == 0) {
+        numbers[0] = 0;
+        numbers[1] = is_long;
+        for (uint64_t i = 0; i < need; i++) {
+            numbers[3 * i + 2] = room[i].kind;
+            numbers[3 * i + 3] = (double)room[i].beg;
+            numbers[3 * i + 4] = (double)room[i].end;
+        }
+        list = answer(env, 2 + 3 * need, numbers);
+    }
+    if (is_long) {
+        free(room);
+        free(numbers);
+    }
+    return number == 0 ? list : ANSWER(number);
 }
 
 static napi_value end_noting(napi_env env, napi_callback_info info) {

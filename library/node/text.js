@@ -28,7 +28,7 @@ function opened(made) {
 }
 
 // What only the classes here ask of one another.
-let byteOf, positionsOf, handleOf;
+let byteOf, putIn, positionsOf, handleOf;
 
 // What is shown, now or as it was.
 export class Shown {
@@ -38,6 +38,8 @@ export class Shown {
     #units;
     // Answers what changed since it was called last.
     #changes;
+    // The bytes that were put in last, if nothing was followed since.
+    #put;
 
     constructor(handle, units, changes) {
         if (new.target === Shown) throw new TypeError('a Text or a Past is to be made');
@@ -48,6 +50,7 @@ export class Shown {
 
     static {
         byteOf = (shown, pos) => shown.#byte(pos);
+        putIn = (shown, bytes) => { if (shown.#units !== undefined) shown.#put = bytes; };
         positionsOf = (shown) => shown.#units && shown.#followed();
     }
 
@@ -61,8 +64,10 @@ export class Shown {
 
     // The positions in units as they are now.
     #followed() {
-        const changes = this.#changes();
-        if (changes.length > 0) this.#units.follow(changes, (beg, end) => this.#bytes(beg, end));
+        const changes = this.#changes(), put = this.#put;
+        this.#put = undefined;
+        const isPut = put !== undefined && changes.length === 1;
+        if (changes.length > 0) this.#units.follow(changes, (beg, end) => (isPut ? put : this.#bytes(beg, end)));
         return this.#units;
     }
 
@@ -171,14 +176,15 @@ function* chunksIn(packed) {
 // The changes of a text's bytes since this was called last.
 function changesOf(handle) {
     const changes = [];
-    // Those that a call before this one couldn't hand out come first, and alone.
-    for (;;) {
-        const numbers = done(calls.changes(handle));
-        if (numbers.length === 0) return changes;
-        for (let i = 0; i < numbers.length; i += 3) {
+    for (let isMore = 1; isMore;) {
+        const numbers = calls.changes(handle);
+        if (numbers[0] !== 0) throw failure(numbers[0]);
+        isMore = numbers[1];
+        for (let i = 2; i < numbers.length; i += 3) {
             changes.push({ kind: numbers[i], beg: numbers[i + 1], end: numbers[i + 2] });
         }
     }
+    return changes;
 }
 
 export class Text extends Shown {
@@ -312,9 +318,10 @@ export class Text extends Shown {
         return opened(calls.save(this.#handle));
     }
 
-    #edited(call) {
+    #edited(call, put = undefined) {
         this.#keeper?.begins();
         const [number] = call();
+        putIn(this, number === 0 ? put : undefined);
         const made = calls.messages(this.#handle);
         if (this.#keeper !== undefined) this.#held.push(...made);
         if (made.length > 0) this.#feed.noted(true, made);
@@ -335,7 +342,9 @@ export class Text extends Shown {
 
     insert(pos, data, looks = undefined) {
         const [byte, bytes] = [byteOf(this, pos), given.bytesOrString(data)];
-        if (looks === undefined) return this.#edited(() => calls.insert(this.#handle, byte, bytes));
+        // (bytes may be changed by whoever has them)
+        const put = typeof data === 'string' && data !== '' ? bytes : undefined;
+        if (looks === undefined) return this.#edited(() => calls.insert(this.#handle, byte, bytes), put);
         const { font = DEFAULT_LOOKS.font, colour = DEFAULT_LOOKS.colour, offset = DEFAULT_LOOKS.offset } = given.looks(looks);
         return this.#edited(() => calls.insertInLooks(this.#handle, byte, bytes, given.font(font), given.number(colour, 0, 255),
             given.number(offset, -128, 127)));

@@ -297,7 +297,10 @@ function calls(library) {
         },
         find: (it, site, offset) => [findIn(it, site, offset, answer), wide(answer), library.byte(answer + 8)],
         changes: (it) => library.filled(CHANGE, (at, count) => call(c.vialshoal_changes, text(it), at, count, answer),
-            (at, count) => listed(at, count, CHANGE, (change) => [number(change), wide(change + 8), wide(change + 16)])),
+            (at, count) => {
+                const [done, ...changes] = listed(at, count, CHANGE, (change) => [number(change), wide(change + 8), wide(change + 16)]);
+                return [done, Number(count > ROOM / CHANGE), ...changes];
+            }),
         endNoting: (it, shown) => [call(c.vialshoal_end_noting, text(it), BigInt(shown))],
         replacement: (it) => [call(c.vialshoal_replacement, text(it), answer), wide(answer), wide(answer + 8)],
     };

@@ -166,7 +166,7 @@ function playedByTheProgram(events) {
     assert.deepStrictEqual(sent, events.flatMap(([, messages]) => messages.map((message) => message.toString('hex'))));
 }
 
-for (const block of [3, 2048]) {
+for (const block of [3, 16, 2048]) {
     Positions.BLOCK = block;
     for (let seed = 1; seed <= ROUNDS; seed += 1) {
         const events = meet(drawn(seed));
@@ -185,4 +185,13 @@ assert.throws(() => new Text(1, 1, { units: 'lines' }), TypeError);
 assert.deepStrictEqual([0, 1, 2, 3, 4, 5].map((offset) => text.find({ site: 1, offset }).pos), [1, 3, 3, 3, 3, 4]);
 text.insert(1, '\ud800');
 assert.strictEqual(`${text}`, 'a\ufffd\u{1f600}b');
+// What was put in last isn't what others put in, nor what was refused, nor what its bytes became.
+const other = new Text(1, 2), bytes = Buffer.from('uvw');
+for (const before of [() => text.insert(0, ''), () => text.insert(1, 'uvw'), () => text.insert(0, bytes),
+    () => assert.throws(() => text.insert(0, 'u'.repeat(2 ** 24 + 1))), () => { text.insert(0, 'uvw'); text.delete(0, 2); }]) {
+    before();
+    bytes.fill(0x80);
+    text.take(other.insert(0, 'p\u00e9')[0]);
+    agrees(text);
+}
 console.log('UTF-16 units: all is so');
