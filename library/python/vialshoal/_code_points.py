@@ -68,8 +68,9 @@ class CodePoints:
         # How many bytes, and how many code points, stand before each block and after the last one.
         self._bytes = [0]
         self._points = [0]
-        # Changes that weren't asked for yet: the kind of each, and its range in code points.
-        self._told = array("Q")
+        # Changes that weren't asked for yet: the kind of each, and its range in code points. Before they are asked for the first time
+        # none are noted.
+        self._told: array[int] | None = None
 
     def __len__(self) -> int:
         return self._points[-1]
@@ -113,6 +114,8 @@ class CodePoints:
         beg, end = beg - start, end - start
         new, grown = old[:beg] + data + old[end:], len(data) - (end - beg)
         self._replace(first, last, new)
+        if self._told is None:
+            return
         beg = min(_around(old, beg)[0], _around(new, beg)[0])
         end = max(_around(old, end)[1], _around(new, end + grown)[1] - grown)
         at = points + len(decoded(old[:beg]))
@@ -120,11 +123,22 @@ class CodePoints:
         self._tell(INSERT, at, len(decoded(new[beg:end + grown])))
 
     def _tell(self, kind: int, beg: int, length: int) -> None:
-        if length:
+        if length and self._told is not None:
             self._told.extend((kind, beg, beg + length))
 
     def follow(self, changes: list[Triple], read: Callable[[int, int], bytes]) -> None:
         """Does what was changed since, where `read` reads a range of the text as it is after it."""
+        # (most often it is one key)
+        if len(changes) == 1 and changes[0][0] != REPLACE:
+            kind, beg, end = changes[0]
+            if kind == INSERT:
+                self._splice(beg, beg, read(beg, end))
+            else:
+                self._splice(beg, end, b"")
+        else:
+            self._follow_all(changes, read)
+
+    def _follow_all(self, changes: list[Triple], read: Callable[[int, int], bytes]) -> None:
         at = cut = put = 0
         # (of an empty text nothing can have stayed)
         steps = composed(changes) if self._blocks else [(Step.PUT, growth(changes))]
@@ -143,7 +157,9 @@ class CodePoints:
                 at += length
 
     def tell(self) -> list[Triple]:
-        """The changes that were followed since they were told last."""
-        told = iter(self._told)
-        self._told = array("Q")
-        return [*zip(told, told, told)]
+        """The changes that were followed since they were told last; at first one insertion of all, which does what they did."""
+        told, self._told = self._told, array("Q")
+        if told is None:
+            return [(INSERT, 0, len(self))] if len(self) else []
+        numbers = iter(told)
+        return [*zip(numbers, numbers, numbers)]
