@@ -12,6 +12,8 @@ const { Text } = await import(pathToFileURL(path.join(PACKAGE, 'index.js')).href
 
 const PASTE = 4000;
 const READINGS = 10;
+const LAST = 10;
+const KEYS = 10000;
 
 class AddonSite {
     constructor(site, units) {
@@ -32,6 +34,28 @@ class AddonSite {
 
     shown() {
         return this.text.toString();
+    }
+
+    paste(letters) {
+        this.text.paste(0, letters);
+    }
+
+    // How far it is, and what another site lacks that is so far.
+    fronts() {
+        return this.text.fronts();
+    }
+
+    since(fronts) {
+        return this.text.pack(fronts);
+    }
+
+    file() {
+        return this.text.store({ packed: true });
+    }
+
+    loaded(file) {
+        this.text.close();
+        this.text = Text.load(file, { units: this.text.units });
     }
 }
 
@@ -66,6 +90,28 @@ class YjsSite {
 
     shown() {
         return this.text.toString();
+    }
+
+    paste(letters) {
+        this.text.insert(0, letters);
+    }
+
+    fronts() {
+        return this.yjs.encodeStateVector(this.doc);
+    }
+
+    since(fronts) {
+        return this.yjs.encodeStateAsUpdate(this.doc, fronts);
+    }
+
+    file() {
+        return this.yjs.encodeStateAsUpdate(this.doc);
+    }
+
+    loaded(file) {
+        this.doc = new this.yjs.Doc();
+        this.text = this.doc.getText('1');
+        this.take(file);
     }
 }
 
@@ -108,13 +154,42 @@ const edits = fs.readFileSync(0, 'latin1').split('\n').slice(0, -1).map((line) =
     const [pos, letter] = line.split(' ').map(Number);
     return { pos, letter: letter === 0 ? '' : String.fromCharCode(letter) };
 });
-let messages = [];
-if (mode === 'joined') messages = edits.flatMap((edit) => make(a, edit));
-if (mode === 'read') pasted(b, edits);
+const allOf = (site, these) => these.flatMap((edit) => make(site, edit));
+// By the name of what is timed, what comes before it, and it.
+const MODES = {
+    typed: () => () => edits.forEach((edit) => make(a, edit).forEach((message) => b.take(message))),
+    made: () => () => edits.forEach((edit) => make(b, edit)),
+    joined: () => {
+        const messages = allOf(a, edits);
+        return () => messages.forEach((message) => b.take(message));
+    },
+    read: () => {
+        pasted(b, edits);
+        return () => b.shown();
+    },
+    pasted: () => {
+        const letters = edits.map(({ letter }) => letter).join('');
+        return () => b.paste(letters);
+    },
+    // The last ones, after those before came in at once.
+    far: () => {
+        b.paste(edits.slice(0, -KEYS).map(({ letter }) => letter).join(''));
+        return () => edits.slice(-KEYS).forEach((edit) => make(b, edit));
+    },
+    since: () => {
+        edits.slice(0, -LAST).forEach((edit) => make(b, edit));
+        const fronts = b.fronts();
+        edits.slice(-LAST).forEach((edit) => make(b, edit));
+        return () => b.since(fronts);
+    },
+    loaded: () => {
+        allOf(a, edits);
+        const file = a.file();
+        return () => b.loaded(file);
+    },
+};
+const work = MODES[mode]();
 global.gc?.();
 const before = peak();
-let seconds;
-if (mode === 'joined') seconds = timed(() => messages.forEach((message) => b.take(message)));
-else if (mode === 'read') seconds = least(Array.from({ length: READINGS }, () => timed(() => b.shown())));
-else seconds = timed(() => edits.forEach((edit) => make(a, edit).forEach((message) => b.take(message))));
+const seconds = ['read', 'since'].includes(mode) ? least(Array.from({ length: READINGS }, () => timed(work))) : timed(work);
 process.stdout.write(`${seconds.clock.toFixed(9)} ${seconds.busy.toFixed(9)} ${peak() - before}\n${b.shown()}\n`);
