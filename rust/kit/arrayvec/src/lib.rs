@@ -56,8 +56,10 @@ impl<T: Copy, const N: usize> ArrayVec<T, N> {
         if N - self.len < items.len() {
             return Err(CapacityError);
         }
-        for item in items {
-            self.push(*item);
+        if let Some(first) = items.first() {
+            let end = self.len + items.len();
+            self.items.get_or_insert([*first; N])[self.len..end].copy_from_slice(items);
+            self.len = end;
         }
         Ok(())
     }
