@@ -23,4 +23,5 @@ pub(crate) fn tell(texts: &mut Texts, windows: &mut Windows, text: TextNo)
 {
     let changes = texts.changes(text);
     windows.tell(texts, text, &changes);
+    texts.reuse(text, changes);
 }

@@ -15,6 +15,10 @@ same_texts d text t t' at same =
     let read = get_or_from_slice_get d.texts (text - 1) t t at in
     ap (slice_set d.texts (text - 1)) (same ∙ sym read) ∙ set-get_or d.texts (text - 1) t
 
+-- a desk with the text that it has is itself
+pub with_text_left : (d : SiteTexts) (text : ℕ) (t : TextState) → IsTextOf d text t → with_text d text t ≡ d
+with_text_left d text t at = rw (same_texts d text t t at refl) refl
+
 -- a number has one text
 pub same_text : (d : SiteTexts) (text : ℕ) (t u : TextState) → IsTextOf d text t → IsTextOf d text u → t ≡ u
 same_text d text t u at at' = same_Some t u (sym at ∙ at')
@@ -25,5 +29,4 @@ pub desk_left : (d : SiteTexts) (other : ℕ) (u : TextState) (text beg end pos 
     → CopiesSite d text beg end other pos result (with_text d other u) before after
     → CopiesSite d text beg end other pos result d before after
 desk_left d other u text beg end pos result before after at copies =
-    let same : with_text d other u ≡ d = rw (same_texts d other u u at refl) refl in
-    subst (λ (new : SiteTexts). CopiesSite d text beg end other pos result new before after) same copies
+    subst (λ (new : SiteTexts). CopiesSite d text beg end other pos result new before after) (with_text_left d other u at) copies

@@ -278,6 +278,14 @@ impl Texts {
         self.replica_mut(text).changes()
     }
 
+    /// Keeps the memory of changes that a text told for those to come, where it is little.
+    pub fn reuse(&mut self, text: TextNo, told: Vec<Change>)
+        requires on_desk { text ≤ MAX_TEXT }
+        ensures { self.new ≡ self.old }
+    {
+        self.replica_mut(text).reuse(told);
+    }
+
     /// A law: the desk has a text of this number, and it is what its operations define. A proof gets it by calling
     /// this, at no cost.
     pub fn lemma_has_text(&self, text: TextNo)

@@ -237,6 +237,13 @@ impl Replica {
         }
     }
 
+    /// Keeps the memory of changes that were told for those to come, where it is little and none are kept.
+    pub fn reuse(&mut self, told: Vec<Change>)
+        ensures { self.new ≡ self.old }
+    {
+        self.taken.reuse(told);
+    }
+
     /// Where more changes than so many are kept, and none was asked for before, one insertion of all that is shown is kept in
     /// their place. Refused `OutOfMemory` alone, and then they stay.
     pub fn note_together(&mut self, most: usize) -> Result<(), Refusal>

@@ -9,4 +9,5 @@ use desk_windows::Windows;
 pub(crate) fn tell(texts: &mut Texts, windows: &mut Windows, text: TextNo) {
     let changes = texts.changes(text);
     windows.tell(texts, text, &changes);
+    texts.reuse(text, changes);
 }

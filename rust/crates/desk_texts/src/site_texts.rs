@@ -224,6 +224,13 @@ impl Texts {
         self.replica_mut(text).changes()
     }
 
+    /// Keeps the memory of changes that a text told for those to come, where it is little.
+    ///
+    /// Asks of its caller: `on_desk: text ≤ MAX_TEXT`.
+    pub fn reuse(&mut self, text: TextNo, told: Vec<Change>) {
+        self.replica_mut(text).reuse(told);
+    }
+
     /// The lines that a query prints of a text: a row for each query. Refused `OutOfRange` for positions outside the text, and
     /// else `OutOfMemory` alone.
     ///

@@ -9,7 +9,7 @@ use text_chunks::{UnpackRefusal, Unpacked};
 use texts::{EditRefusal, MergeRefusal, Outbox, Settled, Took};
 
 // How many bytes are written in hex at once.
-const STRETCH: usize = 128;
+const STRETCH: usize = 64;
 
 /// Writes the bytes. Refused `WriteFault` where the writer fails, is interrupted or takes nothing.
 pub fn put<W: Write>(output: &mut Output<W>, bytes: &[u8]) -> Result<(), Refusal> {

@@ -9,6 +9,9 @@ use operations::{Kind, Op};
 use piece_list::{PieceList, Run};
 use std::mem;
 
+// The most changes whose memory is kept for those to come.
+const MOST_REUSED: usize = 8;
+
 /// The operations that a replica has taken in, found by their identities at once, and the characters that they
 /// make: a list of pieces over append-only files. What they change of what is shown is noted until it is asked
 /// for.
@@ -138,6 +141,14 @@ impl TakenText {
     pub fn changes(&mut self) -> Vec<Change> {
         self.asked = self.log.len();
         mem::replace(&mut self.note, Vec::new(self.alloc))
+    }
+
+    /// Keeps the memory of changes that were told for those to come, where it is little and none are noted.
+    pub fn reuse(&mut self, mut told: Vec<Change>) {
+        if self.note.is_empty() && told.capacity() <= MOST_REUSED {
+            told.clear();
+            self.note = told;
+        }
     }
 
     /// Where more changes than so many are noted, and none was asked for before, one insertion of all that is shown is noted in
