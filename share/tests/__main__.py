@@ -42,8 +42,8 @@ MODULES = ["test_storm", "test_all_editors", "test_page", "test_of_files", "test
            "test_review_engines"]
 # These run over notes of the second form, too, which has rules of its own for what they are about: numbers, copies, losses, what is
 # sent, who is on, and attacks. Any module does as "test_one:2".
-OVER_BOTH = frozenset(("test_carried", "test_changed", "test_copied_numbers", "test_copies", "test_left_out", "test_losses",
-                       "test_numbers", "test_presence", "test_security", "test_withdrawn"))
+OVER_BOTH = frozenset(("test_all_editors", "test_carried", "test_changed", "test_copied_numbers", "test_copies", "test_left_out",
+                       "test_losses", "test_numbers", "test_presence", "test_security", "test_withdrawn"))
 # After this long a module is ended, on however busy a machine, unless one of these has its tests take as long as they are told to.
 MODULE_SECONDS = 1_800.0
 LONG_RUNS = "SHARE_STORM", "SHARE_ROUNDS", "SHARE_SECONDS"

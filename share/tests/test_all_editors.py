@@ -1,10 +1,10 @@
 """A terminal, Emacs, Neovim and a page of Chromium are at one note. In each somebody types, deletes, rewrites and takes back at
 random, by commands that ask, too, and in Neovim in blocks, while the log is stopped and started, and editors and engines are killed:
-each word that nobody deleted or rewrote stands in one text, which all have, as often as it was typed and where it was. Where the seed is
-odd the note is of the second form, and words are remarked on, others suggested for them, and these answered, accepted and rejected, by the
-same editors and by scripts: then all have the same threads at the same places, those that the plain program finds.
+each word that nobody deleted or rewrote stands in one text, which all have, as often as it was typed and where it was. In a note of the
+second form words are remarked on, others suggested for them, and these answered, accepted and rejected, by the same editors and by scripts:
+then all have the same threads at the same places, those that the plain program finds.
 
-    SHARE_SECONDS=300 SHARE_SEED=7 share/tests/run test_all_editors
+    SHARE_SECONDS=300 SHARE_SEED=7 share/tests/run test_all_editors test_all_editors:2
 """
 import contextlib
 import os
@@ -19,10 +19,10 @@ from concurrent.futures import ThreadPoolExecutor
 from dataclasses import dataclass
 from functools import partial
 
+from share.tests.forms import is_second_form
 from share.tests.said import STATES, Said, Sayings, Told, alike, as_plain, plainly
 from share.tests.servers import FileLog, RedisServer
 from share.tests.support import NOTE, Case, wait_for, written
-from share.tests.test_review import second_form
 from share.tests.writers import PATIENCE, Cut, Emacs, Neovim, OwnEditor, PageInChromium, State, Writer, kill_editor, kill_engine
 from share.text.line import Line
 
@@ -334,8 +334,6 @@ class AllEditors(Case):
 
     def setUp(self) -> None:
         super().setUp()
-        if SEED % 2:
-            second_form(self)
         self.chance = random.Random(SEED)
         self.log: RedisServer | FileLog = self.redis() if SEED % 3 else FileLog(self.folder)
         link = begun(self, self.log.url, "begin.\n")
@@ -354,7 +352,7 @@ class AllEditors(Case):
         self.told = {person: Told(self.folder / person) for person in ("ada", "bo")}
         for told in self.told.values():
             self.addCleanup(told.close)
-        self.sayings = Sayings() if SEED % 2 else None
+        self.sayings = Sayings() if is_second_form() else None
         self.authors = [Author(writer, self.words, deciding, random.Random(self.chance.random()), self.sayings, self.told[writer.person])
                         for writer in writers]
 
