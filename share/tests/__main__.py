@@ -24,7 +24,8 @@ from share.tests.processes import descendants, handles
 # How many modules run at a time. They wait more than they work.
 AT_A_TIME = 2 * (os.cpu_count() or 2) + 2
 # The longest first.
-MODULES = ["test_storm", "test_all_editors", "test_page", "test_of_files", "test_page_use", "test_page_review", "test_web",
+MODULES = ["test_storm", "test_spots", "test_all_editors", "test_page", "test_review_engines", "test_of_files", "test_page_use",
+           "test_page_review", "test_web",
            "test_bad_input", "test_engine_edits", "test_editor", "test_looks", "test_engine", "test_logs", "test_closing",
            "test_installing", "test_copies", "test_rewriting", "test_damage", "test_engine_faults", "test_running",
            "test_killed", "test_unsent", "test_slow_editor", "test_version_of_before", "test_second_losses", "test_letters",
@@ -38,8 +39,7 @@ MODULES = ["test_storm", "test_all_editors", "test_page", "test_of_files", "test
            "test_difference", "test_state", "test_chained", "test_links", "test_copied_numbers", "test_memory",
            "test_withdrawn", "test_held_up", "test_records", "test_claim_search", "test_message_judge", "test_composing",
            "test_rebasing", "test_record_judge", "test_second_notes", "test_not_begun", "test_turns", "test_margin",
-           "test_review", "test_spots", "test_reviews", "test_critic", "test_review_scripts", "test_review_terminal",
-           "test_review_engines"]
+           "test_review", "test_reviews", "test_critic", "test_review_scripts", "test_review_terminal"]
 # These run over notes of the second form, too, which has rules of its own for what they are about: numbers, copies, losses, what is
 # sent, who is on, and attacks. Any module does as "test_one:2".
 OVER_BOTH = frozenset(("test_all_editors", "test_carried", "test_changed", "test_copied_numbers", "test_copies", "test_left_out",
