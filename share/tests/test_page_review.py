@@ -57,6 +57,14 @@ TIDY = """(() => {
 HOSTILE = "<img src=x onerror=\"document.title='bad'\"><script>document.title='bad'</script> \x1b[31m\u202eevil\u2066 \x07\nnext &lt; line"
 
 
+# Has nothing be sent because one rests: on a busy machine keys come as late.
+RESTLESS = """(() => {
+  const later = window.rested ??= window.setTimeout;
+  window.setTimeout = (call, wait, ...words) => later(call, wait === 4000 ? 2 ** 31 - 1 : wait, ...words);
+})()"""
+RESTING = "window.setTimeout = window.rested"
+
+
 def setUpModule() -> None:
     """Starts one Chromium for all."""
     global BROWSER
@@ -503,6 +511,8 @@ class Reviewing(Pages):
 
     def test_what_is_typed_becomes_a_suggestion_where_one_chose_that(self) -> None:
         ada, bob = self.ada, self.bob
+        ada.run(RESTLESS)
+        self.addCleanup(ada.run, RESTING)
         ada.press("suggesting")
         ada.to(TEXT.index("ten"))
         ada.type(Keys.DELETE * 3, "noonx", Keys.BACKSPACE)
