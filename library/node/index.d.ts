@@ -255,7 +255,8 @@ export class Text extends Shown {
     diff(from: Fronts, to?: Fronts): Delta;
     /** The text, or what it was up to some fronts, at another site, which nobody may be yet. */
     copy(site: number, options?: Options & { at?: Fronts }): Text;
-    /** What changed of what is shown since this was called last, one after the other. */
+    /** What changed of what is shown since this was called last, one after the other; in UTF-16 units the first call has one insertion
+     * of all. */
     changes(): Change[];
     /** Calls a listener after each edit that is made or taken in, once a call, or once for a `batch`; ended by the call that it answers.
      * What a listener edits is told after what it was called with; what it throws is thrown in a task of its own. */

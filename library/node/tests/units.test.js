@@ -185,6 +185,14 @@ assert.throws(() => new Text(1, 1, { units: 'lines' }), TypeError);
 assert.deepStrictEqual([0, 1, 2, 3, 4, 5].map((offset) => text.find({ site: 1, offset }).pos), [1, 3, 3, 3, 3, 4]);
 text.insert(1, '\ud800');
 assert.strictEqual(`${text}`, 'a\ufffd\u{1f600}b');
+// What changed is noted once it was asked for.
+const fresh = new Text(1, 1, UTF_16);
+fresh.insert(0, 'ab');
+fresh.delete(0, 1);
+assert.deepStrictEqual(fresh.changes(), [{ kind: 'insert', beg: 0, end: 1 }]);
+fresh.insert(1, 'c');
+fresh.delete(0, 1);
+assert.deepStrictEqual(fresh.changes(), [{ kind: 'insert', beg: 1, end: 2 }, { kind: 'delete', beg: 0, end: 1 }]);
 // What was put in last isn't what others put in, nor what was refused, nor what its bytes became.
 const other = new Text(1, 2), bytes = Buffer.from('uvw');
 for (const before of [() => text.insert(0, ''), () => text.insert(1, 'uvw'), () => text.insert(0, bytes),

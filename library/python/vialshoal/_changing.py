@@ -223,7 +223,8 @@ class Changing(Replica[AnyStr]):
 
     @alone
     def changes(self) -> list[Change]:
-        """What changed of what is shown since this was called last, one after the other."""
+        """What changed of what is shown since this was called last, one after the other; in code points the first call has one insertion
+        of all."""
         return [Change(ChangeKind(kind), beg, end) for kind, beg, end in self._told()]
 
     def _read(self, beg: int, end: int) -> AnyStr:
