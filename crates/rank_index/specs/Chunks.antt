@@ -1,6 +1,6 @@
 -- An index in chunks: neighbouring members that are looked through as a whole.
 use Rattle.std.specs.Prelude.{◌≡◌, ℕ, ◌+◌, ◌-◌, ◌*◌, ◌<◌, ◌≤◌, ◌⊎◌, List, [], ◌∷◌, ◌++◌, Option, Some, None}
-use Rattle.std.specs.Prelude.{All, length, min, slice_get}
+use Rattle.std.specs.Prelude.{All, length, max, min, slice_get}
 use Rattle.std.specs.List.{flat_map}
 use Rattle.rank_index.specs.declared.chunk.TheConstants.{MOST, HALF}
 use Rattle.piece_raw.specs.Ring.{HasTag, AreTags}
@@ -81,6 +81,11 @@ pub record IsHalved (at : ℕ) (old new : List ChunkSeen) : Type 0 where
   pub parts : whole.members ≡ front.members ++ rest.members
   pub halves : (length front.members ≡ HALF) × (length rest.members ≡ HALF)
 
--- so many insertions take no memory: a chunk that is full has been filled by half a chunk at least
-abbrev pub index_room : ℕ → ℕ → ℕ → ℕ
-index_room slots chunks members = min slots (HALF * (chunks + 1) - members)
+-- so many insertions find a chunk with room: each takes one spare chunk at most, and none is missing while there are fewer members
+-- than fill one of all chunks whole and the others by half
+abbrev pub chunk_room : ℕ → ℕ → ℕ → ℕ
+chunk_room chunks spare members = max spare (HALF * (chunks + spare + 1) - members)
+
+-- so many take no memory
+abbrev pub index_room : ℕ → ℕ → ℕ → ℕ → ℕ
+index_room slots chunks spare members = min slots (chunk_room chunks spare members)

@@ -4,7 +4,7 @@ ghost use Rattle.looks.specs.Refusal.{RefusedForMemoryAlone};
 ghost use Rattle.piece_raw.specs.Ring.{HasTag, IsPushed, AreTags, with_value};
 ghost use Rattle.piece_raw.specs.declared.TheConstants.{MAX_TAGS};
 ghost use Rattle.rank_index.specs.Chunks.{ChunkSeen, members_of, AreEnteredUnder, AreHomes, AreTied, AreEmpty, AreHalfFull};
-ghost use Rattle.rank_index.specs.Chunks.{AreSlotsTo, AreInSlots, HomesDiffer, IsSlotOf, IsSlotAfter, HasRoomInChunk, IsHalved};
+ghost use Rattle.rank_index.specs.Chunks.{AreSlotsTo, AreInSlots, HomesDiffer, IsSlotOf, IsSlotAfter, HasRoomInChunk, IsHalved, chunk_room};
 ghost use Rattle.rank_index.specs.Groups.{AreLows};
 ghost use Rattle.rank_index.specs.Keyed.{AreLeast, IsPassedIn};
 ghost use Rattle.rank_index.specs.Ranked.{weight_of, IsRank, IsFound};
@@ -28,7 +28,7 @@ pub struct RankIndex {
     // In order; at least one.
     chunks: Vec<Chunk>,
     // By tag, the home of the member's chunk.
-    homes: Vec<usize>,
+    homes: Vec<u32>,
     // By tag, the member's key.
     keys: Vec<u64>,
     // By home, the slot of the chunk in the list of all.
@@ -55,7 +55,7 @@ impl Model for RankIndex {
 
     ghost view = { λ r. ranked (members_of r.chunks.items) r.keys.items
         (index_room (min (min (vec_capacity r.homes) (vec_capacity r.keys)) MAX_TAGS - vec_len r.homes)
-        (vec_len r.chunks + vec_len r.spare) (vec_len r.homes)) };
+        (vec_len r.chunks) (vec_len r.spare) (vec_len r.homes)) };
 
     ghost invariant = { λ r. AreTied r.homes.items r.chunks.items
         × AreEmpty r.spare.items
@@ -73,14 +73,14 @@ impl Model for RankIndex {
 }
 
 // The slot of the chunk that has the member of this tag, as the tables tell it: the chunks aren't read.
-fn chunk_of(chunks: &[Chunk], slots: &[usize], homes: &[usize], tag: u64) -> usize
+fn chunk_of(chunks: &[Chunk], slots: &[usize], homes: &[u32], tag: u64) -> usize
     requires here { HasTag (members_of chunks.now) tag }
     requires homes { AreHomes homes.now chunks.now }
     requires placed { AreInSlots slots.now chunks.now }
     ensures { IsSlotOf chunks.now result tag }
 {
     let _ = chunks;
-    let home = homes[tag as usize];
+    let home = homes[tag as usize] as usize;
     slots[home]
 }
 
@@ -100,7 +100,7 @@ fn found_in(chunks: &[Chunk], pos: u64) -> (u64, u64)
 }
 
 // Enters the members of the chunk as being in it.
-fn enter(homes: &mut [usize], chunk: &Chunk)
+fn enter(homes: &mut [u32], chunk: &Chunk)
     requires { (tag : ℕ) → HasTag chunk.now.members tag → tag < length homes.old }
     ensures entered { AreEnteredUnder homes.new chunk.now.home chunk.now.members }
     ensures others { (tag : ℕ) → (HasTag chunk.now.members tag → ⊥)
@@ -121,7 +121,7 @@ fn renumber(slots: &mut [usize], chunks: &[Chunk], from: usize)
     ensures { AreSlotsTo slots.new chunks.now (length chunks.now) }
 {
     for slot in from..chunks.len() {
-        slots[chunks[slot].home()] = slot;
+        slots[chunks[slot].home() as usize] = slot;
     }
 }
 
@@ -130,7 +130,7 @@ fn halve(
     chunks: &mut Vec<Chunk>,
     spare: &mut Vec<Chunk>,
     slots: &mut Vec<usize>,
-    homes: &mut [usize],
+    homes: &mut [u32],
     keys: &[u64],
     slot: usize,
 )
@@ -141,12 +141,14 @@ fn halve(
     requires placed { AreInSlots slots.old.items chunks.old.items }
     requires room { vec_len chunks.old + vec_len spare.old ≤ vec_capacity chunks.old }
     requires slots_room { vec_len chunks.old + vec_len spare.old ≤ vec_capacity slots.old }
+    requires few { vec_len slots.old < MAX_TAGS }
     requires least { AreLeast keys.now chunks.old.items }
     ensures halved { IsHalved slot chunks.old.items chunks.new.items }
     ensures empty { AreEmpty spare.new.items }
     ensures tied { AreTied homes.new chunks.new.items }
     ensures placed { AreInSlots slots.new.items chunks.new.items }
     ensures count { vec_len chunks.new + vec_len spare.new ≡ vec_len chunks.old + vec_len spare.old }
+    ensures one { vec_len spare.new + 1 ≡ vec_len spare.old }
     ensures room { vec_capacity chunks.old ≤ vec_capacity chunks.new }
     ensures slots_room { vec_capacity slots.old ≤ vec_capacity slots.new }
     ensures least { AreLeast keys.now chunks.new.items }
@@ -154,7 +156,7 @@ fn halve(
     match spare.pop() {
         Some(mut rest) => {
             let home = slots.len();
-            rest.move_to(home);
+            rest.move_to(home as u32);
             chunks[slot].halve(&mut rest, keys);
             enter(homes, &rest);
             match chunks.insert(slot + 1, rest) {
@@ -173,17 +175,18 @@ fn slot_after(
     chunks: &mut Vec<Chunk>,
     spare: &mut Vec<Chunk>,
     slots: &mut Vec<usize>,
-    homes: &mut [usize],
+    homes: &mut [u32],
     keys: &[u64],
     after: Option<u64>,
 ) -> usize
     requires after { IfSome after (HasTag (members_of chunks.old.items)) }
-    requires room { length (members_of chunks.old.items) < HALF * (vec_len chunks.old + vec_len spare.old + 1) }
+    requires room { 0 < chunk_room (vec_len chunks.old) (vec_len spare.old) (length (members_of chunks.old.items)) }
     requires empty { AreEmpty spare.old.items }
     requires tied { AreTied homes.old chunks.old.items }
     requires placed { AreInSlots slots.old.items chunks.old.items }
     requires chunks_room { vec_len chunks.old + vec_len spare.old ≤ vec_capacity chunks.old }
     requires slots_room { vec_len chunks.old + vec_len spare.old ≤ vec_capacity slots.old }
+    requires few { length homes.old < MAX_TAGS }
     requires least { AreLeast keys.now chunks.old.items }
     ensures slot { IsSlotAfter chunks.new.items result after }
     ensures room { HasRoomInChunk chunks.new.items result }
@@ -192,6 +195,7 @@ fn slot_after(
     ensures tied { AreTied homes.new chunks.new.items }
     ensures placed { AreInSlots slots.new.items chunks.new.items }
     ensures count { vec_len chunks.new + vec_len spare.new ≡ vec_len chunks.old + vec_len spare.old }
+    ensures one { vec_len spare.old ≤ vec_len spare.new + 1 }
     ensures chunks_room { vec_capacity chunks.old ≤ vec_capacity chunks.new }
     ensures slots_room { vec_capacity slots.old ≤ vec_capacity slots.new }
     ensures least { AreLeast keys.now chunks.new.items }
@@ -280,7 +284,8 @@ impl RankIndex {
     {
         self.homes.reserve(n)?;
         self.keys.reserve(n)?;
-        let wanted = (self.homes.len() + n) / HALF;
+        // A member more takes one spare chunk at most, and half full chunks aren't more than all members fill.
+        let wanted = ((self.homes.len() + n) / HALF).min(self.chunks.len() + n);
         // One for each chunk is more than enough.
         self.groups.reserve(wanted)?;
         self.lows.reserve(wanted)?;

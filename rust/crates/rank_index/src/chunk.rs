@@ -17,7 +17,7 @@ pub(crate) struct Chunk {
     // A tag and a weight in eight bytes: a look along a chunk takes as long as its members are in memory.
     members: Vec<(u32, u32)>,
     sum: u64,
-    home: usize,
+    home: u32,
     // What it was told last: the least key of its members.
     least: u64,
 }
@@ -46,12 +46,12 @@ impl Chunk {
     }
 
     // The number under which its members are entered.
-    pub(crate) fn home(&self) -> usize {
+    pub(crate) fn home(&self) -> u32 {
         self.home
     }
 
     // Gives it another home.
-    pub(crate) fn move_to(&mut self, home: usize) {
+    pub(crate) fn move_to(&mut self, home: u32) {
         self.home = home;
     }
 

@@ -16,7 +16,7 @@ pub struct RankIndex {
     // In order; at least one.
     chunks: Vec<Chunk>,
     // By tag, the home of the member's chunk.
-    homes: Vec<usize>,
+    homes: Vec<u32>,
     // By tag, the member's key.
     keys: Vec<u64>,
     // By home, the slot of the chunk in the list of all.
@@ -32,9 +32,9 @@ pub struct RankIndex {
 }
 
 // The slot of the chunk that has the member of this tag, as the tables tell it: the chunks aren't read.
-fn chunk_of(chunks: &[Chunk], slots: &[usize], homes: &[usize], tag: u64) -> usize {
+fn chunk_of(chunks: &[Chunk], slots: &[usize], homes: &[u32], tag: u64) -> usize {
     let _ = chunks;
-    let home = homes[tag as usize];
+    let home = homes[tag as usize] as usize;
     slots[home]
 }
 
@@ -51,7 +51,7 @@ fn found_in(chunks: &[Chunk], pos: u64) -> (u64, u64) {
 }
 
 // Enters the members of the chunk as being in it.
-fn enter(homes: &mut [usize], chunk: &Chunk) {
+fn enter(homes: &mut [u32], chunk: &Chunk) {
     let home = chunk.home();
     let members = chunk.members();
     for member in members {
@@ -62,7 +62,7 @@ fn enter(homes: &mut [usize], chunk: &Chunk) {
 // Tells the slots of the chunks from this one on anew, as those before it are told.
 fn renumber(slots: &mut [usize], chunks: &[Chunk], from: usize) {
     for slot in from..chunks.len() {
-        slots[chunks[slot].home()] = slot;
+        slots[chunks[slot].home() as usize] = slot;
     }
 }
 
@@ -71,14 +71,14 @@ fn halve(
     chunks: &mut Vec<Chunk>,
     spare: &mut Vec<Chunk>,
     slots: &mut Vec<usize>,
-    homes: &mut [usize],
+    homes: &mut [u32],
     keys: &[u64],
     slot: usize,
 ) {
     match spare.pop() {
         Some(mut rest) => {
             let home = slots.len();
-            rest.move_to(home);
+            rest.move_to(home as u32);
             chunks[slot].halve(&mut rest, keys);
             enter(homes, &rest);
             match chunks.insert(slot + 1, rest) {
@@ -97,7 +97,7 @@ fn slot_after(
     chunks: &mut Vec<Chunk>,
     spare: &mut Vec<Chunk>,
     slots: &mut Vec<usize>,
-    homes: &mut [usize],
+    homes: &mut [u32],
     keys: &[u64],
     after: Option<u64>,
 ) -> usize {
@@ -162,7 +162,8 @@ impl RankIndex {
     pub fn reserve(&mut self, n: usize) -> Result<(), Refusal> {
         self.homes.reserve(n)?;
         self.keys.reserve(n)?;
-        let wanted = (self.homes.len() + n) / HALF;
+        // A member more takes one spare chunk at most, and half full chunks aren't more than all members fill.
+        let wanted = ((self.homes.len() + n) / HALF).min(self.chunks.len() + n);
         // One for each chunk is more than enough.
         self.groups.reserve(wanted)?;
         self.lows.reserve(wanted)?;

@@ -1,14 +1,16 @@
-use Rattle.std.proofs.Common.{◌≡◌, ℕ, ◌+◌, ◌<◌, ◌≤◌, List, length, get_or, slice_get, Some, None, refl, sym, ap, subst, ◌∙◌, arith, rules, true, true≢false}
+use Rattle.std.proofs.Common.{◌≡◌, ℕ, ◌+◌, ◌*◌, ◌<◌, ◌≤◌, List, length, get_or, slice_get, Some, None, refl, sym, ap, subst, ◌∙◌, arith, rules, true, true≢false}
 use Rattle.std.proofs.lemmas.Option.{same_Some, slice_get_read, slice_get_within}
 use Rattle.piece_raw.specs.Ring.{HasTag}
-use Rattle.rank_index.specs.declared.chunk.TheConstants.{MOST}
-use Rattle.rank_index.specs.Chunks.{ChunkSeen, IsSlotOf, IsSlotAfter, IsHalved}
+use Rattle.rank_index.specs.declared.chunk.TheConstants.{MOST, HALF}
+use Rattle.rank_index.specs.Chunks.{ChunkSeen, members_of, IsSlotOf, IsSlotAfter, IsHalved}
 use Rattle.rank_index.proofs.Halved.{full_among, at_front, in_front, from_front, same_if_few, after_in_rest, room_at_front, room_at_rest}
 use Rattle.rank_index.proofs.index.slot_after.Goals as goal
-use Rattle.rank_index.proofs.index.slot_after.Goals.{in-Some, in-None}
+use Rattle.rank_index.proofs.index.slot_after.Goals.{After-index, in-Some, in-None}
 
-pub halve-requires-clause-spare : goal.halve-requires-clause-spare
-halve-requires-clause-spare c =
+-- where the chunk is full, they all have as many members as half a chunk more
+many : (c : After-index) → MOST ≤ length c.index.result.now.members
+    → HALF * (length c.args.chunks.now.items + 1) ≤ length (members_of c.args.chunks.now.items)
+many c full =
     let chunks : List ChunkSeen = c.args.chunks.now.items in
     let slot : ℕ = c.match-after.slot in
     let whole : ChunkSeen = c.index.result.now in
@@ -25,13 +27,31 @@ halve-requires-clause-spare c =
     ] in
     let at : slice_get chunks slot ≡ Some whole =
     slice_get_read chunks (length chunks) slot whole refl within c.index.ensures in
-    let full : MOST ≤ length whole.members =
+    full_among chunks slot whole c.requires.tied.halves at full
+
+pub halve-requires-clause-spare : goal.halve-requires-clause-spare
+halve-requires-clause-spare c =
+    let full : MOST ≤ length c.index.result.now.members =
     omega (arith, c.if-members-lt-MOST.false, ap length c.members.ensures.members) in
     omega (
       arith,
-      full_among chunks slot whole c.requires.tied.halves at full,
+      many (goal.at.halve-requires-clause-spare c).After-index full,
       c.requires.room,
       c.args.chunks.now.ok.0,
+    )
+
+pub halve-requires-clause-few : goal.halve-requires-clause-few
+halve-requires-clause-few c =
+    let full : MOST ≤ length c.index.result.now.members =
+    omega (arith, c.if-members-lt-MOST.false, ap length c.members.ensures.members) in
+    omega (
+      arith,
+      many (goal.at.halve-requires-clause-few c).After-index full,
+      c.requires.few,
+      c.requires.tied.counted,
+      c.requires.placed.counted,
+      c.args.chunks.now.ok.0,
+      c.args.slots.now.ok.0,
     )
 
 pub returns-in-Some-after-clause-slot : goal.returns-in-Some-after-clause-slot

@@ -1,0 +1,4 @@
+pub mod Coming
+pub mod Each
+pub mod Following
+pub mod Lists

@@ -1,0 +1,47 @@
+-- A note as a value.
+use Rattle.std.specs.Prelude.{◌≡◌, ℕ, ◌+◌, List, length}
+use Rattle.note_laws.specs.Note.{Note, Entries, Saying, Claim}
+use Rattle.note_laws.specs.Laws.{AreToldApart}
+use Rattle.note_entries.specs.Kept.{with_claim, with_saying}
+use Rattle.note_hashes.specs.Hashes.{digest_of}
+use Rattle.note_admission.specs.Standing.{AreChainsOf, ChainsSeen}
+use Rattle.note.specs.Texts.{EachText, IsTextOfNote, IsUpToDate, NoteText}
+
+-- the texts of a note have the numbers from 1 up to this one
+abbrev pub MOST_TEXTS : ℕ
+MOST_TEXTS = 16
+
+-- what is seen of a note: its key, its chains, and its texts
+pub record NoteSeen : Type 0 where
+  pub key : List ℕ
+  pub chains : ChainsSeen
+  pub texts : List NoteText
+
+-- the texts have the numbers from 1 on
+pub record AreNumberedTexts (texts : List NoteText) : Type 0 where
+  pub many : length texts ≡ MOST_TEXTS
+  pub numbers : EachText (λ k t. t.admission.text ≡ k + 1) texts
+
+-- it is of this note, and these entries came
+pub record IsOfEntries (n : NoteSeen) (note : Note) (entries : Entries) : Type 0 where
+  pub digest : note.digest ≡ digest_of n.key
+  pub chains : AreChainsOf n.chains note entries
+  pub texts : EachText (λ k t. IsTextOfNote note entries t) n.texts
+
+-- all that counts is taken in by each text
+abbrev pub ShowsWhatCounts : NoteSeen → Type 0
+ShowsWhatCounts n = EachText (λ k t. IsUpToDate t) n.texts
+
+-- no more entries came
+abbrev pub KeepsEntries : (old new : NoteSeen) → Type 0
+KeepsEntries old new = (note : Note) (entries : Entries) → IsOfEntries old note entries → IsOfEntries new note entries
+
+-- one message more came
+abbrev pub TakesSaying : (old : NoteSeen) → Saying → (new : NoteSeen) → Type 0
+TakesSaying old s new = (note : Note) (entries : Entries) → AreToldApart (with_saying entries s)
+    → IsOfEntries old note entries → IsOfEntries new note (with_saying entries s)
+
+-- one claim more came
+abbrev pub TakesClaim : (old : NoteSeen) → Claim → (new : NoteSeen) → Type 0
+TakesClaim old claim new = (note : Note) (entries : Entries) → AreToldApart (with_claim entries claim)
+    → IsOfEntries old note entries → IsOfEntries new note (with_claim entries claim)

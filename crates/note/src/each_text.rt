@@ -1,0 +1,86 @@
+//! What is done with each text of a note.
+
+ghost use Rattle.std.specs.Prelude.{◌≡◌, ◌≢◌, ℕ, ◌<◌, ◌↔◌, [], length, slice_index_or, Contains, IfOk, OnOk};
+ghost use Rattle.looks.specs.Refusal.{RefusedForMemoryAlone};
+ghost use Rattle.note_laws.specs.Note.{Note, Entries, IsOfBase};
+ghost use Rattle.note_admission.specs.Growing.{AreAdmitted, IsOfLost, IsReplaced, StaysAdmitted};
+ghost use Rattle.note.specs.Notes.{AreNumberedTexts};
+ghost use Rattle.note.specs.Texts.{ArePairs, EachText, HasFollowed, HasAdmittedMore, IsSameText, IsUpToDate, NoteText as Seen};
+
+use crate::note_text::NoteText;
+use char_files::{SiteNo, TextNo};
+use looks::Refusal;
+use note_admission::NoteChains;
+use note_hashes::NoteKey;
+use std::alloc::Global;
+
+/// The texts of a note have the numbers from 1 up to this one.
+pub const TEXTS: u16 = 16;
+
+// Of no text anything came; the base has messages of these numbers. Refused `OutOfMemory` alone.
+pub(crate) fn begin(alloc: Global, site: SiteNo, base: &[SiteNo]) -> Result<Vec<NoteText>, Refusal>
+    ensures numbers { IfOk result (λ texts. AreNumberedTexts texts.items) }
+    ensures site { IfOk result (λ texts. EachText (λ k t. t.replica.site ≡ site) texts.items) }
+    ensures ok { IfOk result (λ texts. (note : Note) (entries : Entries) → entries.said ≡ []
+        → ((site : ℕ) → Contains base.now site ↔ IsOfBase note site)
+        → EachText (λ k t. AreAdmitted note entries t.admission []) texts.items) }
+    ensures errors { RefusedForMemoryAlone result }
+{
+    let mut texts = Vec::new(alloc);
+    for number in 1..TEXTS + 1 {
+        let Some(text) = TextNo::new(number) else {
+            unreachable!()
+        };
+        texts.push(NoteText::new(alloc, text, site, base)?)?;
+    }
+    Ok(texts)
+}
+
+// A message of this number may come to a text. Refused `OutOfMemory` alone.
+pub(crate) fn expect(texts: &mut [NoteText], at: usize, site: SiteNo) -> Result<(), Refusal>
+    requires { at < length texts.old }
+    ensures len { length texts.new ≡ length texts.old }
+    ensures stays { ArePairs (λ was t. StaysAdmitted was.admission t.admission × IsSameText was t) texts.old texts.new }
+    ensures known { OnOk result ((d : Seen) → Contains (slice_index_or texts.new at d).admission.sites site) }
+    ensures errors { RefusedForMemoryAlone result }
+{
+    texts[at].expect(site)
+}
+
+// The chains have a message of a text and a number that was expected, and it may have taken another's place.
+pub(crate) fn note_message(texts: &mut [NoteText], at: usize, site: SiteNo, seq: u32, lost: bool)
+    requires { at < length texts.old }
+    ensures len { length texts.new ≡ length texts.old }
+    ensures others { (k : ℕ) (d : Seen) → k ≢ at → slice_index_or texts.new k d ≡ slice_index_or texts.old k d }
+    ensures own { (d : Seen) → HasFollowed site (IsReplaced lost site seq) (slice_index_or texts.old at d)
+        (slice_index_or texts.new at d) }
+{
+    texts[at].note_message(site, seq, lost);
+}
+
+// The chains have a claim of a number, and it may have taken the number from another.
+pub(crate) fn note_claim(texts: &mut [NoteText], site: SiteNo, lost: bool)
+    ensures len { length texts.new ≡ length texts.old }
+    ensures follows { ArePairs (λ was t. HasFollowed site (IsOfLost lost site) was t) texts.old texts.new }
+{
+    for index in 0..texts.len() {
+        texts[index].note_claim(site, lost);
+    }
+}
+
+// Admits what counts, and takes it in. Refused `OutOfMemory` alone, and then a further call makes it whole.
+pub(crate) fn update(
+    texts: &mut [NoteText],
+    chains: &NoteChains,
+    key: &NoteKey,
+) -> Result<(), Refusal>
+    ensures len { length texts.new ≡ length texts.old }
+    ensures grown { ArePairs (λ was t. HasAdmittedMore key.now chains.now was t) texts.old texts.new }
+    ensures ok { OnOk result (EachText (λ k t. IsUpToDate t) texts.new) }
+    ensures errors { RefusedForMemoryAlone result }
+{
+    for index in 0..texts.len() {
+        texts[index].update(chains, key)?;
+    }
+    Ok(())
+}

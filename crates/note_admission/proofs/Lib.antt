@@ -1,0 +1,15 @@
+pub mod Adding
+pub mod Base
+pub mod Bases
+pub mod Expecting
+pub mod Fating
+pub mod Finding
+pub mod Growth
+pub mod Heads
+pub mod Keeping
+pub mod LastNames
+pub mod OneMore
+pub mod Settling
+pub mod Standing
+pub mod Telling
+pub mod Verdicts

@@ -1,0 +1,7 @@
+pub mod Base
+pub mod Fates
+pub mod Growing
+pub mod Kept
+pub mod Places
+pub mod Ranges
+pub mod Standing

@@ -1,0 +1,11 @@
+use Rattle.std.proofs.Common.{ℕ, List, [], Contains, sym, subst}
+use Rattle.note_laws.specs.Note.{Saying}
+use Rattle.note_entries.specs.Branches.{Place}
+use Rattle.note_entries.proofs.Least.{of_none}
+use Rattle.note_entries.proofs.branches.Branches.new.Goals as goal
+
+pub invariant_of-result : goal.invariant_of-result
+invariant_of-result c = record {
+  keyed = λ k x held. absurd (of_none (k, x) (subst (λ (es : List (Place × Saying)). Contains es (k, x)) c.new.ensures.empty held));
+  distinct = c.new.ensures.unique;
+}

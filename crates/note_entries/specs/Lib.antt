@@ -1,0 +1,5 @@
+pub mod Branches
+pub mod Bytes
+pub mod Claims
+pub mod Keyed
+pub mod Kept

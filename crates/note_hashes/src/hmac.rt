@@ -1,0 +1,90 @@
+//! HMAC (RFC 2104) by SHA-256.
+
+ghost use Rattle.std.specs.Prelude.{◌≡◌, ◌++◌, ℕ, List, bit_xor, map};
+ghost use Rattle.sha2.specs.Hashers.{Holds256};
+ghost use Rattle.note_hashes.specs.Hmac.{hmac, padded};
+
+use sha2::{Digest, Sha256};
+use std::marker::Model;
+
+const BLOCK: usize = 64;
+
+const INNER_PAD: u8 = 0x36;
+
+const OUTER_PAD: u8 = 0x5c;
+
+/// A key of 32 bytes.
+#[derive(Drop)]
+pub struct HmacKey {
+    bytes: [u8; 32],
+}
+
+impl Model for HmacKey {
+    ghost use Rattle.std.specs.Prelude.{ℕ, List};
+
+    ghost Value = { List ℕ };
+
+    ghost view = { λ k. k.bytes };
+}
+
+// Adds bytes to what a hasher holds.
+pub(crate) fn add(hasher: &mut Sha256, bytes: &[u8])
+    ensures { (held : List ℕ) → Holds256 hasher.old held → Holds256 hasher.new (held ++ bytes.now) }
+{
+    hasher.update(bytes);
+}
+
+impl HmacKey {
+    /// The key of these bytes.
+    pub fn new(bytes: [u8; 32]) -> HmacKey
+        ensures { result ≡ bytes }
+    {
+        HmacKey { bytes }
+    }
+
+    // Its bytes, each xored with the pad.
+    fn xored(&self, pad: u8) -> [u8; 32]
+        ensures { result ≡ map (λ b. bit_xor b pad) self.now }
+    {
+        let mut xored = [0; 32];
+        for i in 0..32 {
+            xored[i] = self.bytes[i] ^ pad;
+        }
+        xored
+    }
+
+    // A hasher that holds the padded key.
+    fn keyed(&self, pad: u8) -> Sha256
+        ensures { Holds256 result (padded pad self.now) }
+    {
+        let mut hasher = Sha256::new();
+        hasher.update(self.xored(pad));
+        hasher.update([pad; BLOCK - 32]);
+        hasher
+    }
+
+    // A hasher, to which the message is to be added.
+    pub(crate) fn begin(&self) -> Sha256
+        ensures { Holds256 result (padded 0x36 self.now) }
+    {
+        self.keyed(INNER_PAD)
+    }
+
+    // The HMAC of the message that was added to such a hasher.
+    pub(crate) fn finish(&self, hasher: Sha256) -> [u8; 32]
+        ensures { (message : List ℕ) → Holds256 hasher (padded 0x36 self.now ++ message) → result ≡ hmac self.now message }
+    {
+        let mut outer = self.keyed(OUTER_PAD);
+        outer.update(hasher.finalize());
+        outer.finalize()
+    }
+
+    /// The HMAC of a message.
+    pub fn of(&self, message: &[u8]) -> [u8; 32]
+        ensures { result ≡ hmac self.now message.now }
+    {
+        let mut hasher = self.begin();
+        add(&mut hasher, message);
+        self.finish(hasher)
+    }
+}

@@ -1,0 +1,14 @@
+pub mod Adding
+pub mod Alike
+pub mod Choosing
+pub mod Deciding
+pub mod Existing
+pub mod Fates
+pub mod InTurn
+pub mod Lasts
+pub mod Lists
+pub mod OnMore
+pub mod Others
+pub mod OwnChain
+pub mod Places
+pub mod Staying

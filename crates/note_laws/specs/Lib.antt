@@ -1,0 +1,4 @@
+pub mod Admission
+pub mod Chains
+pub mod Laws
+pub mod Note

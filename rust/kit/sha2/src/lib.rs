@@ -1,0 +1,108 @@
+//! SHA-256 (FIPS 180-4), by the calls that are used here of the crate of this name.
+#![forbid(unsafe_code)]
+
+const BLOCK: usize = 64;
+// The first bits of the fractional parts of the square roots of the first primes, and of their cube roots.
+const BEGIN: [u32; 8] = [
+    0x6a09e667, 0xbb67ae85, 0x3c6ef372, 0xa54ff53a, 0x510e527f, 0x9b05688c, 0x1f83d9ab, 0x5be0cd19,
+];
+const ROUNDS: [u32; 64] = [
+    0x428a2f98, 0x71374491, 0xb5c0fbcf, 0xe9b5dba5, 0x3956c25b, 0x59f111f1, 0x923f82a4, 0xab1c5ed5,
+    0xd807aa98, 0x12835b01, 0x243185be, 0x550c7dc3, 0x72be5d74, 0x80deb1fe, 0x9bdc06a7, 0xc19bf174,
+    0xe49b69c1, 0xefbe4786, 0x0fc19dc6, 0x240ca1cc, 0x2de92c6f, 0x4a7484aa, 0x5cb0a9dc, 0x76f988da,
+    0x983e5152, 0xa831c66d, 0xb00327c8, 0xbf597fc7, 0xc6e00bf3, 0xd5a79147, 0x06ca6351, 0x14292967,
+    0x27b70a85, 0x2e1b2138, 0x4d2c6dfc, 0x53380d13, 0x650a7354, 0x766a0abb, 0x81c2c92e, 0x92722c85,
+    0xa2bfe8a1, 0xa81a664b, 0xc24b8b70, 0xc76c51a3, 0xd192e819, 0xd6990624, 0xf40e3585, 0x106aa070,
+    0x19a4c116, 0x1e376c08, 0x2748774c, 0x34b0bcb5, 0x391c0cb3, 0x4ed8aa4a, 0x5b9cca4f, 0x682e6ff3,
+    0x748f82ee, 0x78a5636f, 0x84c87814, 0x8cc70208, 0x90befffa, 0xa4506ceb, 0xbef9a3f7, 0xc67178f2,
+];
+
+/// A hash function: a message is added piece by piece.
+pub trait Digest {
+    /// The digest, as bytes.
+    type Output;
+
+    /// A hasher of the empty message.
+    fn new() -> Self;
+
+    /// Adds to the message.
+    fn update<T: AsRef<[u8]>>(&mut self, data: T);
+
+    /// The digest of the message.
+    fn finalize(self) -> Self::Output;
+}
+
+/// The hash function SHA-256.
+#[derive(Clone)]
+pub struct Sha256 {
+    state: [u32; 8],
+    // The message's last bytes, which fill no block yet, and how many bytes it has.
+    rest: [u8; BLOCK],
+    len: u64,
+}
+
+fn schedule(block: &[u8; BLOCK]) -> [u32; 64] {
+    let mut words = [0; 64];
+    for (word, bytes) in words.iter_mut().zip(block.chunks_exact(4)) {
+        *word = bytes.iter().fold(0, |word, byte| word << 8 | u32::from(*byte));
+    }
+    for t in 16..64 {
+        let (w15, w2) = (words[t - 15], words[t - 2]);
+        let s0 = w15.rotate_right(7) ^ w15.rotate_right(18) ^ w15 >> 3;
+        let s1 = w2.rotate_right(17) ^ w2.rotate_right(19) ^ w2 >> 10;
+        words[t] = words[t - 16].wrapping_add(s0).wrapping_add(words[t - 7]).wrapping_add(s1);
+    }
+    words
+}
+
+fn compress(state: &mut [u32; 8], block: &[u8; BLOCK]) {
+    let [mut a, mut b, mut c, mut d, mut e, mut f, mut g, mut h] = *state;
+    for (round, word) in ROUNDS.iter().zip(schedule(block)) {
+        let s1 = e.rotate_right(6) ^ e.rotate_right(11) ^ e.rotate_right(25);
+        let s0 = a.rotate_right(2) ^ a.rotate_right(13) ^ a.rotate_right(22);
+        let chosen = e & f ^ !e & g;
+        let most = a & b ^ a & c ^ b & c;
+        let first = h.wrapping_add(s1).wrapping_add(chosen).wrapping_add(*round).wrapping_add(word);
+        (h, g, f, e) = (g, f, e, d.wrapping_add(first));
+        (d, c, b, a) = (c, b, a, first.wrapping_add(s0).wrapping_add(most));
+    }
+    for (word, added) in state.iter_mut().zip([a, b, c, d, e, f, g, h]) {
+        *word = word.wrapping_add(added);
+    }
+}
+
+impl Digest for Sha256 {
+    type Output = [u8; 32];
+
+    fn new() -> Sha256 {
+        Sha256 {
+            state: BEGIN,
+            rest: [0; BLOCK],
+            len: 0,
+        }
+    }
+
+    fn update<T: AsRef<[u8]>>(&mut self, data: T) {
+        for byte in data.as_ref() {
+            self.rest[(self.len % BLOCK as u64) as usize] = *byte;
+            self.len += 1;
+            if self.len % BLOCK as u64 == 0 {
+                compress(&mut self.state, &self.rest);
+            }
+        }
+    }
+
+    fn finalize(mut self) -> [u8; 32] {
+        let bits = self.len.wrapping_mul(8);
+        self.update([0x80]);
+        while self.len % BLOCK as u64 != 56 {
+            self.update([0]);
+        }
+        self.update(bits.to_be_bytes());
+        let mut digest = [0; 32];
+        for (bytes, word) in digest.chunks_exact_mut(4).zip(self.state) {
+            bytes.copy_from_slice(&word.to_be_bytes());
+        }
+        digest
+    }
+}
