@@ -12,20 +12,21 @@
  * or a chunk of which a part stands: see `sent` and `done`. vialshoal_strerror has words for each number.
  *
  * Memory. The library allocates what a handle holds, by the program's malloc, realloc and free (or by others, see
- * vialshoal_heap_malloc), and vialshoal_free, or vialshoal_past_free, frees it. All else is the caller's: what is written goes into rooms that the caller passes. `need`
- * is set to how many elements there are to be written; where the room is shorter, nothing is written and the number is
- * VIALSHOAL_TOO_SHORT, so a length of 0 asks how long a room has to be.
+ * vialshoal_heap_malloc), and vialshoal_free, or vialshoal_past_free, frees it. All else is the caller's: what is written goes
+ * into rooms that the caller passes. `need` is set to how many elements there are to be written; where the room is shorter,
+ * nothing is written and the number is VIALSHOAL_TOO_SHORT, so a length of 0 asks how long a room has to be.
  *
  * What the caller owes, and nothing checks: a handle is {0} before it is used first, and isn't copied, since of two copies
  * the one wouldn't know that the other one was freed (hand on a pointer to it); every pointer points to as much memory as the
  * call reads or writes, and isn't null, but for one beside a length of 0; what is written lies apart from all else that the
- * same call is given, so the two handles of vialshoal_merge are two; one call at a time on a handle (see below); malloc,
- * realloc and free are of one allocator, which aligns as C says.
+ * same call is given, so the two handles of vialshoal_merge are two; no call beside one that changes its handle (see below);
+ * malloc, realloc and free are of one allocator, which aligns as C says.
  *
- * Threads. Any thread may call with any handle. The calls of one handle, also those that only read, are made one after the
- * other, and each thread sees what was done before (a mutex does both); so is an edit with the calls that take its messages,
- * since vialshoal_let_go lets those of all edits go. Calls of different handles may run beside each other; vialshoal_merge
- * is a call of both its handles, and vialshoal_past of the text and of the past it opens, which share nothing afterwards.
+ * Threads. Any thread may call with any handle. A call that takes a handle through a pointer to const reads it, and any number
+ * of these may run beside each other. A call that takes it otherwise changes it, and has it alone: all others with that handle
+ * come before or after, and each thread sees what was done before (a lock for readers and writers does both). An edit and the
+ * calls that take its messages are one turn, or else vialshoal_hand_out takes the messages: vialshoal_let_go lets those of all
+ * edits go. Calls of different handles may run beside each other. What vialshoal_past opens shares nothing with the text.
  */
 #ifndef VIALSHOAL_H
 #define VIALSHOAL_H
@@ -75,6 +76,11 @@ typedef struct vialshoal_past_text {
     void *at;
 } vialshoal_past_text;
 
+/* The file of a text that is kept, or none, which is {0}. The word is the library's alone. */
+typedef struct vialshoal_file {
+    void *at;
+} vialshoal_file;
+
 /* Numbers of refusals, as docs/FORMATS.md, "Refusals", has them. Those from 14 to 20, which are about viewers and events, no
  * call here answers. */
 enum {
@@ -98,8 +104,8 @@ enum {
     VIALSHOAL_NO_SELECTION = 18,    /* nothing is selected that is shown */
     VIALSHOAL_NO_CARET = 19,        /* there is no caret */
     VIALSHOAL_BAD_EVENT = 20,       /* the line spells no event */
-    VIALSHOAL_READ_FAULT = 21,      /* a file wasn't read */
-    VIALSHOAL_WRITE_FAULT = 22,     /* a file wasn't written */
+    VIALSHOAL_READ_FAULT = 21,      /* a file wasn't read; errno says why */
+    VIALSHOAL_WRITE_FAULT = 22,     /* a file wasn't written; errno says why */
     VIALSHOAL_SEQ_SPENT = 23        /* the site has made its last operation in the text */
 };
 
@@ -218,15 +224,36 @@ uint32_t vialshoal_free(vialshoal_text *text);
 /* Puts the site's file of the text into the room; docs/FORMATS.md has its format. 13 for more than 2^32 - 1 operations, 7
  * where memory was refused. VIALSHOAL_TOO_SHORT: *need is then how long the file is. What waits, what was deleted last and
  * the messages that are kept aren't in it. */
-uint32_t vialshoal_store(vialshoal_text *text, uint8_t *room, size_t length, uint64_t *need);
+uint32_t vialshoal_store(const vialshoal_text *text, uint8_t *room, size_t length, uint64_t *need);
 
 /* The same in a packed file, which has a byte for most keystrokes where the other has some 50; 13 for more than 2^22
  * operations. */
-uint32_t vialshoal_store_packed(vialshoal_text *text, uint8_t *room, size_t length, uint64_t *need);
+uint32_t vialshoal_store_packed(const vialshoal_text *text, uint8_t *room, size_t length, uint64_t *need);
 
 /* Opens an empty handle with the text and the site of a file of either form. 13 where it is none; 7;
  * VIALSHOAL_ALREADY_OPEN. */
 uint32_t vialshoal_load(vialshoal_text *text, const uint8_t *file, size_t length);
+
+/* -- A text is kept in a file, for its site to go on wherever the program or the machine ends. Python and Node open the same files. --
+ *
+ * After each edit, and before its messages are handed out or let go, vialshoal_keep is called; and after what others made was taken in,
+ * before anything that builds on it goes out. Where it can't keep, nothing is lost: it is called again later. */
+
+/* Opens an empty handle with the file at this path, and an empty one with its text, for its site to go on. Where a site is said, a file
+ * that isn't there, or has nothing, is begun for it and for this text, or for text 1 where that is 0; else they are those of the file.
+ * What was begun to be kept last, and wasn't, is gone. VIALSHOAL_READ_FAULT, with EAGAIN where it is open already, here or elsewhere;
+ * VIALSHOAL_WRITE_FAULT; 13 where it isn't such a file, or something else changed it; VIALSHOAL_NO_NUMBER where it is of another text or
+ * site, or has nothing and none is said; VIALSHOAL_ALREADY_OPEN; 7. */
+uint32_t vialshoal_open(vialshoal_file *file, vialshoal_text *text, const char *path, uint16_t text_number, uint16_t site_number);
+
+/* Has the disk have all that the file's text holds; what waits isn't kept. VIALSHOAL_WRITE_FAULT: the file has what it had. 8 where the
+ * site's operations came from elsewhere, since this is a copy, or an older state, of a file that went on, or where their messages were let
+ * go: nothing is kept from then on. VIALSHOAL_NOT_OPEN; 7. */
+uint32_t vialshoal_keep(vialshoal_file *file, const vialshoal_text *text);
+
+/* Closes the file, and keeps nothing; the handle is {0} then. The text stays, until it is freed. A process that was forked off closes it
+ * for itself alone. VIALSHOAL_NOT_OPEN. */
+uint32_t vialshoal_close(vialshoal_file *file);
 
 /* -- Edits. `*sent` is set to how many messages the edit made. They come after those that are kept (below). An edit that
  * is refused with *sent above 0 stands as far as these messages say, and the rest of it wasn't done; with *sent 0 nothing
@@ -269,14 +296,18 @@ uint32_t vialshoal_restore_names(vialshoal_text *text, const vialshoal_name_rang
 /* -- Messages that edits made. They are kept, in order, until they are let go. -- */
 
 /* How many are kept. */
-uint32_t vialshoal_messages(vialshoal_text *text, uint64_t *count);
+uint32_t vialshoal_messages(const vialshoal_text *text, uint64_t *count);
 
 /* The bytes of the message at this index, from 0. VIALSHOAL_NO_MESSAGE, VIALSHOAL_TOO_SHORT; no message has more than
  * 10,297 bytes. */
-uint32_t vialshoal_message(vialshoal_text *text, uint64_t index, uint8_t *room, size_t length, uint64_t *need);
+uint32_t vialshoal_message(const vialshoal_text *text, uint64_t index, uint8_t *room, size_t length, uint64_t *need);
 
 /* Lets all of them go. */
 uint32_t vialshoal_let_go(vialshoal_text *text);
+
+/* Puts all of them into the room, each after its length in two bytes, the low one first, and lets them go: so each is handed out
+ * once, whichever threads edit. Where none is kept *need is 0. VIALSHOAL_TOO_SHORT: all are kept then. */
+uint32_t vialshoal_hand_out(vialshoal_text *text, uint8_t *room, size_t length, uint64_t *need);
 
 /* -- What other replicas made -- */
 
@@ -297,53 +328,53 @@ uint32_t vialshoal_forget(vialshoal_text *text, uint32_t *count);
 /* Takes in all that another handle's replica of the same text holds, which stays as it is. `*taken` is set to how many
  * operations were new. 2 for another text, 3 where two sites used one number; 7 where memory was refused after *taken of
  * them, which stand. */
-uint32_t vialshoal_merge(vialshoal_text *text, vialshoal_text *other, uint64_t *taken);
+uint32_t vialshoal_merge(vialshoal_text *text, const vialshoal_text *other, uint64_t *taken);
 
 /* How many messages wait. */
-uint32_t vialshoal_waiting(vialshoal_text *text, uint32_t *count);
+uint32_t vialshoal_waiting(const vialshoal_text *text, uint32_t *count);
 
 /* The sites of which operations were taken in, rising; with their fronts they say what a replica has. 7;
  * VIALSHOAL_TOO_SHORT. */
-uint32_t vialshoal_sites(vialshoal_text *text, uint16_t *room, size_t length, uint64_t *need);
+uint32_t vialshoal_sites(const vialshoal_text *text, uint16_t *room, size_t length, uint64_t *need);
 
 /* The front of a site: how many of its operations were taken in. VIALSHOAL_NO_NUMBER for 0. */
-uint32_t vialshoal_front(vialshoal_text *text, uint16_t site, uint32_t *front);
+uint32_t vialshoal_front(const vialshoal_text *text, uint16_t site, uint32_t *front);
 
 /* A message of what was taken in past these fronts, in the order of taking: what brings a replica that has the operations
  * up to them to what this one has, if it takes all. One a call: `*index` is 0 at first, and each call that is done moves
  * it on to where the next one looks. What is taken in between two calls comes after the rest. VIALSHOAL_NO_MESSAGE where
  * none is left, VIALSHOAL_TOO_SHORT, and *index stays; no message has more than 10,297 bytes. VIALSHOAL_NO_NUMBER for a
  * site of 0; 7. */
-uint32_t vialshoal_since(vialshoal_text *text, const vialshoal_site_front *fronts, size_t count, uint64_t *index,
+uint32_t vialshoal_since(const vialshoal_text *text, const vialshoal_site_front *fronts, size_t count, uint64_t *index,
                          uint8_t *room, size_t length, uint64_t *need);
 
 /* Puts what was taken in past these fronts into the room, in the order of taking, in chunks: what brings a replica to what
  * this one has as the messages of vialshoal_since do, in a byte for most keystrokes where these have some 50. Each chunk,
  * of 16,000 bytes at most, stands after its length in two bytes, the low one first. Where nothing is past the fronts *need
  * is 0. VIALSHOAL_TOO_SHORT; VIALSHOAL_NO_NUMBER for a site of 0; 7. */
-uint32_t vialshoal_pack(vialshoal_text *text, const vialshoal_site_front *fronts, size_t count, uint8_t *room,
+uint32_t vialshoal_pack(const vialshoal_text *text, const vialshoal_site_front *fronts, size_t count, uint8_t *room,
                         size_t length, uint64_t *need);
 
 /* -- What is shown -- */
 
 /* How many bytes are shown. */
-uint32_t vialshoal_length(vialshoal_text *text, uint64_t *length);
+uint32_t vialshoal_length(const vialshoal_text *text, uint64_t *length);
 
 /* The bytes of the range. VIALSHOAL_OUT_OF_TEXT, VIALSHOAL_TOO_SHORT. */
-uint32_t vialshoal_bytes(vialshoal_text *text, uint64_t beg, uint64_t end, uint8_t *room, size_t length, uint64_t *need);
+uint32_t vialshoal_bytes(const vialshoal_text *text, uint64_t beg, uint64_t end, uint8_t *room, size_t length, uint64_t *need);
 
 /* What the character at `pos` looks like, and where others begin: *run is written, and the font's name put into `font`,
  * which 31 bytes are enough for. VIALSHOAL_OUT_OF_TEXT; VIALSHOAL_TOO_SHORT, with *run written. */
-uint32_t vialshoal_looks(vialshoal_text *text, uint64_t pos, vialshoal_looks_run *run, uint8_t *font, size_t length,
+uint32_t vialshoal_looks(const vialshoal_text *text, uint64_t pos, vialshoal_looks_run *run, uint8_t *font, size_t length,
                          uint64_t *need);
 
 /* The names of the characters of the range. VIALSHOAL_OUT_OF_TEXT, VIALSHOAL_TOO_SHORT. */
-uint32_t vialshoal_names(vialshoal_text *text, uint64_t beg, uint64_t end, vialshoal_name *room, size_t length,
+uint32_t vialshoal_names(const vialshoal_text *text, uint64_t beg, uint64_t end, vialshoal_name *room, size_t length,
                          uint64_t *need);
 
 /* Where the character of this name is. VIALSHOAL_NO_NAME where it wasn't taken in; VIALSHOAL_NO_NUMBER where the numbers
  * are those of no name. */
-uint32_t vialshoal_find(vialshoal_text *text, uint16_t site, uint32_t offset, vialshoal_place *place);
+uint32_t vialshoal_find(const vialshoal_text *text, uint16_t site, uint32_t offset, vialshoal_place *place);
 
 /* What changed of what is shown since the changes were last asked for: own edits, messages and merges, one after the
  * other. They are handed out once. Where the room is too short they stay, and are what the next call hands out, before
@@ -362,27 +393,27 @@ uint32_t vialshoal_replacement(vialshoal_text *text, vialshoal_replacing *replac
 
 /* Puts the text as an Oberon text file into the room: its characters with their looks, and nothing of who wrote them
  * (docs/FORMATS.md, "Text files"). 13 for more than 2^20 characters; 7; VIALSHOAL_TOO_SHORT. */
-uint32_t vialshoal_save(vialshoal_text *text, uint8_t *room, size_t length, uint64_t *need);
+uint32_t vialshoal_save(const vialshoal_text *text, uint8_t *room, size_t length, uint64_t *need);
 
 /* -- A text as it was. It is a copy of its own: it stays as it is when the text changes or is freed. -- */
 
 /* Opens an empty past handle with the text as it was, up to these fronts: what of the operations within them can be taken
  * in, which leaves out one that builds on an operation past them. It takes as long as taking these operations in.
  * VIALSHOAL_NOT_OPEN of the text, VIALSHOAL_ALREADY_OPEN of the past; VIALSHOAL_NO_NUMBER for a site of 0; 7. */
-uint32_t vialshoal_past(vialshoal_text *text, const vialshoal_site_front *fronts, size_t count, vialshoal_past_text *past);
+uint32_t vialshoal_past(const vialshoal_text *text, const vialshoal_site_front *fronts, size_t count, vialshoal_past_text *past);
 
 /* Frees what the handle holds; it is {0} then. VIALSHOAL_NOT_OPEN. */
 uint32_t vialshoal_past_free(vialshoal_past_text *past);
 
 /* These ask the text as it was what vialshoal_length, _bytes, _looks, _names and _find ask a text, and answer as they do. */
-uint32_t vialshoal_past_length(vialshoal_past_text *past, uint64_t *length);
-uint32_t vialshoal_past_bytes(vialshoal_past_text *past, uint64_t beg, uint64_t end, uint8_t *room, size_t length,
+uint32_t vialshoal_past_length(const vialshoal_past_text *past, uint64_t *length);
+uint32_t vialshoal_past_bytes(const vialshoal_past_text *past, uint64_t beg, uint64_t end, uint8_t *room, size_t length,
                               uint64_t *need);
-uint32_t vialshoal_past_looks(vialshoal_past_text *past, uint64_t pos, vialshoal_looks_run *run, uint8_t *font,
+uint32_t vialshoal_past_looks(const vialshoal_past_text *past, uint64_t pos, vialshoal_looks_run *run, uint8_t *font,
                               size_t length, uint64_t *need);
-uint32_t vialshoal_past_names(vialshoal_past_text *past, uint64_t beg, uint64_t end, vialshoal_name *room, size_t length,
+uint32_t vialshoal_past_names(const vialshoal_past_text *past, uint64_t beg, uint64_t end, vialshoal_name *room, size_t length,
                               uint64_t *need);
-uint32_t vialshoal_past_find(vialshoal_past_text *past, uint16_t site, uint32_t offset, vialshoal_place *place);
+uint32_t vialshoal_past_find(const vialshoal_past_text *past, uint16_t site, uint32_t offset, vialshoal_place *place);
 
 #ifdef __cplusplus
 }

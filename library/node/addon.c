@@ -36,6 +36,10 @@ typedef struct {
 /* What the call that runs is of. */
 static _Thread_local shown *touched;
 
+/* What an edit answers beside its messages, in an array that text.js reads: its number; of how many changes it tells, or -1 where these are
+ * more than there is room for; and of each its kind, its begin and its end. */
+enum { NUMBER, COUNT, CHANGES, FEW = 16, ROOM = CHANGES + 3 * FEW };
+
 typedef struct {
     napi_value at[MOST];
     shown *shown;
@@ -167,7 +171,7 @@ static napi_value load(napi_env env, napi_callback_info info) {
     return opened(env, it, it == NULL ? 7 : vialshoal_load(&it->text, bytes, length));
 }
 
-typedef uint32_t as_file(vialshoal_text *text, uint8_t *room, size_t length, uint64_t *need);
+typedef uint32_t as_file(const vialshoal_text *text, uint8_t *room, size_t length, uint64_t *need);
 
 /* A file of the text, as a buffer; or the number that refuses it. A call makes all of it to say how long it is, so it gets a little
  * more room than the last one needed. */
@@ -204,17 +208,61 @@ static napi_value close_shown(napi_env env, napi_callback_info info) {
     return ANSWER(freed(given.shown));
 }
 
+/* -- Edits. Each is given after its own words whether changes are asked for. -- */
+
+/* All messages that are kept, which are let go. */
+static napi_value messages(napi_env env, vialshoal_text *text) {
+    napi_value list, message;
+    uint8_t room[MESSAGE];
+    uint64_t count, need;
+    if (vialshoal_messages(text, &count) != 0) count = 0;
+    TRY(napi_create_array_with_length(env, count, &list));
+    for (uint64_t i = 0; i < count; i++) {
+        vialshoal_message(text, i, room, sizeof room, &need);
+        TRY(napi_create_buffer_copy(env, need, room, NULL, &message));
+        TRY(napi_set_element(env, list, (uint32_t)i, message));
+    }
+    if (count > 0) vialshoal_let_go(text);
+    return list;
+}
+
+/* Puts what changed into the room. */
+static void put_changes(vialshoal_text *text, double *room) {
+    vialshoal_change found[FEW];
+    uint64_t count;
+    bool are_few = vialshoal_changes(text, found, FEW, &count) == 0;
+    room[COUNT] = are_few ? (double)count : -1;
+    for (uint64_t i = 0; are_few && i < count; i++) {
+        double *at = room + CHANGES + 3 * i;
+        at[0] = found[i].kind;
+        at[1] = (double)found[i].beg;
+        at[2] = (double)found[i].end;
+    }
+}
+
+/* What an edit answers, the last word of which is whether changes are asked for. */
+static napi_value edited(napi_env env, const arguments *given, size_t last, uint32_t number) {
+    bool are_asked_for;
+    double *room;
+    TRY(napi_get_value_bool(env, given->at[last], &are_asked_for));
+    TRY(napi_get_instance_data(env, (void **)&room));
+    room[NUMBER] = number;
+    room[COUNT] = 0;
+    if (are_asked_for) put_changes(given->text, room);
+    return messages(env, given->text);
+}
+
 static napi_value insert(napi_env env, napi_callback_info info) {
     arguments given;
     uint64_t pos;
     const uint8_t *bytes;
     size_t length;
     uint32_t sent;
-    if (!taken(env, info, 3, &given)) return NULL;
+    if (!taken(env, info, 4, &given)) return NULL;
     TRY(number_of(env, given.at[1], &pos) ? napi_ok : napi_invalid_arg);
     TRY(bytes_of(env, given.at[2], &bytes, &length) ? napi_ok : napi_invalid_arg);
     uint32_t number = vialshoal_insert(given.text, pos, bytes, length, &sent);
-    return ANSWER(number, sent);
+    return edited(env, &given, 3, number);
 }
 
 static napi_value insert_in_looks(napi_env env, napi_callback_info info) {
@@ -224,7 +272,7 @@ static napi_value insert_in_looks(napi_env env, napi_callback_info info) {
     const uint8_t *bytes, *font;
     size_t length, font_length;
     uint32_t sent;
-    if (!taken(env, info, 6, &given)) return NULL;
+    if (!taken(env, info, 7, &given)) return NULL;
     TRY(number_of(env, given.at[1], &pos) ? napi_ok : napi_invalid_arg);
     TRY(bytes_of(env, given.at[2], &bytes, &length) ? napi_ok : napi_invalid_arg);
     TRY(bytes_of(env, given.at[3], &font, &font_length) ? napi_ok : napi_invalid_arg);
@@ -232,18 +280,18 @@ static napi_value insert_in_looks(napi_env env, napi_callback_info info) {
     TRY(napi_get_value_int32(env, given.at[5], &offset));
     uint32_t number = vialshoal_insert_in_looks(given.text, pos, bytes, length, font, font_length, (uint8_t)colour,
                                                 (int8_t)offset, &sent);
-    return ANSWER(number, sent);
+    return edited(env, &given, 6, number);
 }
 
 static napi_value delete_range(napi_env env, napi_callback_info info) {
     arguments given;
     uint64_t beg, end;
     uint32_t sent;
-    if (!taken(env, info, 3, &given)) return NULL;
+    if (!taken(env, info, 4, &given)) return NULL;
     TRY(number_of(env, given.at[1], &beg) ? napi_ok : napi_invalid_arg);
     TRY(number_of(env, given.at[2], &end) ? napi_ok : napi_invalid_arg);
     uint32_t number = vialshoal_delete(given.text, beg, end, &sent);
-    return ANSWER(number, sent);
+    return edited(env, &given, 3, number);
 }
 
 static napi_value change_looks(napi_env env, napi_callback_info info) {
@@ -253,7 +301,7 @@ static napi_value change_looks(napi_env env, napi_callback_info info) {
     const uint8_t *font;
     size_t length;
     uint32_t sent;
-    if (!taken(env, info, 7, &given)) return NULL;
+    if (!taken(env, info, 8, &given)) return NULL;
     TRY(number_of(env, given.at[1], &beg) ? napi_ok : napi_invalid_arg);
     TRY(number_of(env, given.at[2], &end) ? napi_ok : napi_invalid_arg);
     TRY(number_of(env, given.at[3], &selected) ? napi_ok : napi_invalid_arg);
@@ -262,25 +310,25 @@ static napi_value change_looks(napi_env env, napi_callback_info info) {
     TRY(napi_get_value_int32(env, given.at[6], &offset));
     uint32_t number = vialshoal_change_looks(given.text, beg, end, (uint8_t)selected, font, length, (uint8_t)colour,
                                              (int8_t)offset, &sent);
-    return ANSWER(number, sent);
+    return edited(env, &given, 7, number);
 }
 
 static napi_value restore(napi_env env, napi_callback_info info) {
     arguments given;
     uint32_t sent;
-    if (!taken(env, info, 1, &given)) return NULL;
+    if (!taken(env, info, 2, &given)) return NULL;
     uint32_t number = vialshoal_restore(given.text, &sent);
-    return ANSWER(number, sent);
+    return edited(env, &given, 1, number);
 }
 
 static napi_value recall(napi_env env, napi_callback_info info) {
     arguments given;
     uint64_t pos;
     uint32_t sent;
-    if (!taken(env, info, 2, &given)) return NULL;
+    if (!taken(env, info, 3, &given)) return NULL;
     TRY(number_of(env, given.at[1], &pos) ? napi_ok : napi_invalid_arg);
     uint32_t number = vialshoal_recall(given.text, pos, &sent);
-    return ANSWER(number, sent);
+    return edited(env, &given, 2, number);
 }
 
 typedef uint32_t by_names(vialshoal_text *text, const vialshoal_name_range *names, size_t count, uint32_t *sent);
@@ -291,17 +339,17 @@ static napi_value edit_names(napi_env env, napi_callback_info info, by_names *ed
     const uint32_t *numbers;
     size_t length;
     uint32_t sent;
-    if (!taken(env, info, 2, &given)) return NULL;
+    if (!taken(env, info, 3, &given)) return NULL;
     TRY(numbers_of(env, given.at[1], &numbers, &length) ? napi_ok : napi_invalid_arg);
     size_t count = length / 3;
     vialshoal_name_range *names = malloc((count + 1) * sizeof *names);
-    if (names == NULL) return ANSWER(7, 0);
+    if (names == NULL) return edited(env, &given, 2, VIALSHOAL_OUT_OF_MEMORY);
     for (size_t i = 0; i < count; i++) {
         names[i] = (vialshoal_name_range){(uint16_t)numbers[3 * i], numbers[3 * i + 1], numbers[3 * i + 2]};
     }
     uint32_t number = edit(given.text, names, count, &sent);
     free(names);
-    return ANSWER(number, sent);
+    return edited(env, &given, 2, number);
 }
 
 static napi_value delete_names(napi_env env, napi_callback_info info) {
@@ -310,24 +358,6 @@ static napi_value delete_names(napi_env env, napi_callback_info info) {
 
 static napi_value restore_names(napi_env env, napi_callback_info info) {
     return edit_names(env, info, vialshoal_restore_names);
-}
-
-/* All messages that are kept, which are let go. */
-static napi_value messages(napi_env env, napi_callback_info info) {
-    arguments given;
-    napi_value list, message;
-    uint8_t room[MESSAGE];
-    uint64_t count, need;
-    if (!taken(env, info, 1, &given)) return NULL;
-    if (vialshoal_messages(given.text, &count) != 0) count = 0;
-    TRY(napi_create_array(env, &list));
-    for (uint64_t i = 0; i < count; i++) {
-        vialshoal_message(given.text, i, room, sizeof room, &need);
-        TRY(napi_create_buffer_copy(env, need, room, NULL, &message));
-        TRY(napi_set_element(env, list, (uint32_t)i, message));
-    }
-    vialshoal_let_go(given.text);
-    return list;
 }
 
 static napi_value take(napi_env env, napi_callback_info info) {
@@ -657,9 +687,6 @@ static napi_value find(napi_env env, napi_callback_info info) {
     return ANSWER(number, (double)place.pos, place.is_shown);
 }
 
-/* So many changes are handed out without memory being asked for. */
-enum { FEW = 16 };
-
 /* Whether more may be left, since what a call before couldn't hand out comes alone; and changes, a kind, a begin and an end each. */
 static napi_value changes(napi_env env, napi_callback_info info) {
     arguments given;
@@ -738,7 +765,6 @@ NAPI_MODULE_INIT() {
         {"recall", recall},
         {"deleteNames", delete_names},
         {"restoreNames", restore_names},
-        {"messages", messages},
         {"take", take},
         {"unpack", unpack},
         {"settle", settle},
@@ -761,6 +787,12 @@ NAPI_MODULE_INIT() {
         {"replacement", replacement},
         {"lock", lock},
     };
+    napi_value buffer, room;
+    void *data;
+    TRY(napi_create_arraybuffer(env, ROOM * sizeof(double), &data, &buffer));
+    TRY(napi_create_typedarray(env, napi_float64_array, ROOM, buffer, 0, &room));
+    TRY(napi_set_named_property(env, exports, "room", room));
+    TRY(napi_set_instance_data(env, data, NULL, NULL));
     for (size_t i = 0; i < sizeof calls / sizeof calls[0]; i++) {
         napi_value made;
         TRY(napi_create_function(env, calls[i].name, NAPI_AUTO_LENGTH, counted, (void *)&calls[i].call, &made));

@@ -1,6 +1,7 @@
 // What comes before what it builds on is kept, and taken in once that is there. (A text lets 64 operations wait itself.)
 import { Refused } from './errors.js';
 import * as given from './given.js';
+import { partsOf } from './merging.js';
 
 const MOST = 2 ** 26;
 const ROOM_FULL = 'ROOM_FULL';
@@ -50,31 +51,51 @@ export class Backlog {
         return this.#kept.length;
     }
 
-    // Takes a chunk or a message in, as far as it is ready.
-    #done(bytes) {
-        try {
-            const { taken, kind, drained } = isChunk(bytes) ? this.#text.unpack(bytes) : this.#text.take(bytes);
-            return taken ?? drained + Number(kind === 'taken');
-        } catch (why) {
-            if (why.code !== ROOM_FULL) throw why;
-            return 0;
-        }
+    #isEarly({ site, seq }) {
+        return site > 0 && site < 65536 && this.#text.front(site) + 1 < seq;
     }
 
-    // The same, and keeps it where something of it waits, which comes again from here.
+    #count() {
+        return [...this.#text.fronts().values()].reduce((sum, seq) => sum + seq, 0);
+    }
+
+    #took(message) {
+        const { kind, drained } = this.#text.take(message);
+        return drained + Number(kind === 'taken');
+    }
+
+    #unpacked(chunk) {
+        const before = this.#count();
+        try {
+            this.#text.unpack(chunk);
+        } catch (why) {
+            if (why.code !== ROOM_FULL) throw why;
+        }
+        return this.#count() - before;
+    }
+
+    // Takes in what is ready of a chunk or a message, up to 64 that aren't. Answers how many were taken in, and whether some aren't ready.
+    #done(bytes) {
+        const taken = isChunk(bytes) ? this.#unpacked(bytes) : this.#took(bytes);
+        return { taken, isDone: this.#text.forget() === 0 };
+    }
+
+    // The same, whatever stands before what is ready, and keeps it where something of it isn't, which comes again from here.
     #handed(it) {
-        const { site, seq } = it.first;
-        const isEarly = site > 0 && site < 65536 && this.#text.front(site) + 1 < seq;
-        const taken = isEarly ? 0 : this.#done(it.bytes);
-        if (isEarly || this.#text.forget() > 0) this.#keep(it);
+        let { taken, isDone } = this.#isEarly(it.first) ? { taken: 0, isDone: false } : this.#done(it.bytes);
+        if (isDone) return taken;
+        it.parts ??= isChunk(it.bytes) ? partsOf(it.bytes).map((bytes) => ({ bytes, first: firstOf(bytes) })) : [];
+        for (const { bytes, first } of it.parts) if (!this.#isEarly(first)) taken += this.#done(bytes).taken;
+        this.#keep(it);
         return taken;
     }
 
     #keep(it) {
         if (this.#kept.some(({ bytes }) => isSame(bytes, it.bytes))) return;
-        if (this.#size + it.bytes.length > this.#most) throw new RangeError('too much came too early, and no more is kept');
+        const size = [it, ...it.parts].reduce((sum, { bytes }) => sum + bytes.length, 0);
+        if (this.#size + size > this.#most) throw new RangeError('too much came too early, and no more is kept');
         this.#kept.push(it);
-        this.#size += it.bytes.length;
+        this.#size += size;
     }
 
     // Hands in again what is kept, as long as that brings something.

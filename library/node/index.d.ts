@@ -343,6 +343,10 @@ export class Presence<S extends object = Record<string, unknown>> {
     subscribe(listener: (changed: string[]) => void): () => void;
 }
 
+/** Chunks that have all operations of these, each once, in an order in which a text takes them: for a store or a server that has no text. Of
+ * each site only what is past a front. Refused where bytes are no chunk, chunks are of two texts, or one identity has two operations. */
+export function mergeChunks(chunks: Iterable<Uint8Array>, past?: Iterable<readonly [site: number, seq: number]>): Buffer[];
+
 /** Takes chunks and messages in, in whatever order they come: what comes before what it builds on is kept, `most` bytes of it (64 MiB),
  * where a text alone lets 64 operations wait. All that others made goes by way of it. */
 export class Backlog {

@@ -1,6 +1,6 @@
 import type { OpenOptions, Text } from './index.js';
 
-/** A text that a page keeps in its browser's database. One page has it at a time: the error's code is `EAGAIN` otherwise. */
+/** A text that a page keeps in its browser's database. One page has it at a time: the error's code is `EAGAIN` otherwise, after five seconds. */
 export class IndexedDBStore {
     private constructor();
     /** The text of this name, for its site to go on; one that isn't there is begun where the site is said. */

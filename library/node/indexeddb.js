@@ -5,6 +5,8 @@ const STORE = 'kept';
 // What was taken in since isn't worth a new history below this many bytes.
 const LEAST = 65536;
 const PACKED = 'OTP1';
+// So long, in milliseconds, it may take until a page that ended, as before it is loaded again, has let go.
+const PATIENCE = 5000;
 
 function failure(name, words, at) {
     return Object.assign(new Error(`${words}: ${at}`), { name, code: name });
@@ -29,13 +31,11 @@ async function opened(indexedDB, name) {
 // Holds a lock until the call that it answers is made; one page has it at a time.
 function held(locks, name) {
     return new Promise((resolve, reject) => {
-        locks.request(`vialshoal ${name}`, { ifAvailable: true }, (lock) => {
-            if (lock === null) {
-                reject(failure('EAGAIN', 'it is open already: a site goes on from what it keeps once at a time', name));
-                return undefined;
-            }
-            return new Promise((free) => { resolve(free); });
-        }).catch(reject);
+        const patience = new AbortController();
+        setTimeout(() => patience.abort(), PATIENCE);
+        const fails = (why) => reject(!patience.signal.aborted ? why :
+            failure('EAGAIN', 'it is open already: a site goes on from what it keeps once at a time', name));
+        locks.request(`vialshoal ${name}`, { signal: patience.signal }, () => new Promise((free) => { resolve(free); })).catch(fails);
     });
 }
 

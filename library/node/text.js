@@ -27,8 +27,16 @@ function opened(made) {
     return made;
 }
 
+// What an edit told of what it changed, one after the other; none where that is more than it tells.
+function told() {
+    const { room } = calls, changes = [];
+    if (room[1] < 0) return undefined;
+    for (let at = 2; at < 2 + 3 * room[1]; at += 3) changes.push({ kind: room[at], beg: room[at + 1], end: room[at + 2] });
+    return changes;
+}
+
 // What only the classes here ask of one another.
-let byteOf, putIn, positionsOf, handleOf;
+let byteOf, fallsBehind, note, positionsOf, handleOf;
 
 // What is shown, now or as it was.
 export class Shown {
@@ -36,9 +44,11 @@ export class Shown {
     // Where the UTF-16 units are, if positions count these.
     /** @type {any} */
     #units;
-    // Answers what changed since it was called last.
+    // Answers what changed since it was called last; whether that may be something which no edit told; and what edits told since positions
+    // were followed, with the bytes that the first of it put in, if they are known.
     #changes;
-    // The bytes that were put in last, if nothing was followed since.
+    #isBehind = true;
+    #told = [];
     #put;
 
     constructor(handle, units, changes) {
@@ -50,7 +60,8 @@ export class Shown {
 
     static {
         byteOf = (shown, pos) => shown.#byte(pos);
-        putIn = (shown, bytes) => { if (shown.#units !== undefined) shown.#put = bytes; };
+        fallsBehind = (shown) => { shown.#isBehind = true; };
+        note = (/** @type {Shown} */ shown, put) => { if (shown.#units !== undefined) shown.#note(told(), put); };
         positionsOf = (shown) => shown.#units && shown.#followed();
     }
 
@@ -62,12 +73,22 @@ export class Shown {
         return done(calls.length(this.#handle))[0];
     }
 
+    // Notes what an edit told, to be followed later: whatever that meets, the edit has been made.
+    #note(changes, put) {
+        if (this.#told.length === 0) this.#put = put;
+        this.#isBehind = changes === undefined;
+        if (changes !== undefined) this.#told.push(...changes);
+    }
+
     // The positions in units as they are now.
     #followed() {
-        const changes = this.#changes(), put = this.#put;
+        if (!this.#isBehind && this.#told.length === 0) return this.#units;
+        const changes = [...this.#told, ...(this.#isBehind ? this.#changes() : [])];
+        const put = changes.length === 1 ? this.#put : undefined;
+        this.#told = [];
         this.#put = undefined;
-        const isPut = put !== undefined && changes.length === 1;
-        if (changes.length > 0) this.#units.follow(changes, (beg, end) => (isPut ? put : this.#bytes(beg, end)));
+        this.#isBehind = false;
+        if (changes.length > 0) this.#units.follow(changes, (beg, end) => put ?? this.#bytes(beg, end));
         return this.#units;
     }
 
@@ -92,6 +113,7 @@ export class Shown {
     }
 
     close() {
+        this.#isBehind = true;
         calls.close(this.#handle);
     }
 
@@ -142,8 +164,9 @@ export class Shown {
 
     // A place that stays with the character before it (side -1), or after it (1), wherever that goes; of site 0 at the text's ends.
     anchor(pos, side = -1) {
-        const at = this.#byte(pos) - Number(given.side(side) < 0);
-        if (at < 0 || at === this.#byteLength()) return { site: 0, offset: 0, side };
+        const byte = this.#byte(pos), length = this.#byteLength(), at = byte - Number(given.side(side) < 0);
+        if (byte > length) throw failure(OUT_OF_TEXT);
+        if (at < 0 || at === length) return { site: 0, offset: 0, side };
         const [site, offset] = done(calls.names(this.#handle, at, at + 1));
         return { site, offset, side };
     }
@@ -320,9 +343,8 @@ export class Text extends Shown {
 
     #edited(call, put = undefined) {
         this.#keeper?.begins();
-        const [number] = call();
-        putIn(this, number === 0 ? put : undefined);
-        const made = calls.messages(this.#handle);
+        const made = call(this.units !== 'bytes'), [number] = calls.room;
+        note(this, number === 0 ? put : undefined);
         if (this.#keeper !== undefined) this.#held.push(...made);
         if (made.length > 0) this.#feed.noted(true, made);
         const messages = this.#keeper === undefined ? made : this.#feed.isOpen ? [] : this.#handedOut();
@@ -332,6 +354,7 @@ export class Text extends Shown {
 
     // What others made was taken in, so many operations, and perhaps not all.
     #taken(count, number, operations = 0) {
+        fallsBehind(this);
         try {
             this.#keeper?.took(this.#feed.isOpen);
         } finally {
@@ -344,37 +367,37 @@ export class Text extends Shown {
         const [byte, bytes] = [byteOf(this, pos), given.bytesOrString(data)];
         // (bytes may be changed by whoever has them)
         const put = typeof data === 'string' && data !== '' ? bytes : undefined;
-        if (looks === undefined) return this.#edited(() => calls.insert(this.#handle, byte, bytes), put);
+        if (looks === undefined) return this.#edited((noted) => calls.insert(this.#handle, byte, bytes, noted), put);
         const { font = DEFAULT_LOOKS.font, colour = DEFAULT_LOOKS.colour, offset = DEFAULT_LOOKS.offset } = given.looks(looks);
-        return this.#edited(() => calls.insertInLooks(this.#handle, byte, bytes, given.font(font), given.number(colour, 0, 255),
-            given.number(offset, -128, 127)));
+        return this.#edited((noted) => calls.insertInLooks(this.#handle, byte, bytes, given.font(font), given.number(colour, 0, 255),
+            given.number(offset, -128, 127), noted));
     }
 
     delete(beg, end) {
-        return this.#edited(() => calls.delete(this.#handle, byteOf(this, beg), byteOf(this, end)));
+        return this.#edited((noted) => calls.delete(this.#handle, byteOf(this, beg), byteOf(this, end), noted));
     }
 
     changeLooks(beg, end, looks) {
         const { font, colour, offset } = given.looks(looks);
         const selected = Number(font !== undefined) + 2 * Number(colour !== undefined) + 4 * Number(offset !== undefined);
-        return this.#edited(() => calls.looks(this.#handle, byteOf(this, beg), byteOf(this, end), selected,
-            given.font(font ?? ''), given.number(colour ?? 0, 0, 255), given.number(offset ?? 0, -128, 127)));
+        return this.#edited((noted) => calls.looks(this.#handle, byteOf(this, beg), byteOf(this, end), selected,
+            given.font(font ?? ''), given.number(colour ?? 0, 0, 255), given.number(offset ?? 0, -128, 127), noted));
     }
 
     restore() {
-        return this.#edited(() => calls.restore(this.#handle));
+        return this.#edited((noted) => calls.restore(this.#handle, noted));
     }
 
     recall(pos) {
-        return this.#edited(() => calls.recall(this.#handle, byteOf(this, pos)));
+        return this.#edited((noted) => calls.recall(this.#handle, byteOf(this, pos), noted));
     }
 
     deleteNames(names) {
-        return this.#edited(() => calls.deleteNames(this.#handle, given.ranges(names)));
+        return this.#edited((noted) => calls.deleteNames(this.#handle, given.ranges(names), noted));
     }
 
     restoreNames(names) {
-        return this.#edited(() => calls.restoreNames(this.#handle, given.ranges(names)));
+        return this.#edited((noted) => calls.restoreNames(this.#handle, given.ranges(names), noted));
     }
 
     take(message) {

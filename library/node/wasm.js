@@ -17,6 +17,8 @@ const NAME = 8;
 const CHANGE = 24;
 // How many names are asked for at once.
 const NAMES = ROOM / NAME;
+// How many changes an edit tells of. Those of one that made more come alone, and what came later after them.
+const FEW = 16;
 
 class NoMemory extends Error {
     constructor() {
@@ -201,11 +203,43 @@ function calls(library) {
     const number = library.number.bind(library);
     const wide = library.wide.bind(library);
 
-    const edited = (refused) => [refused, number(answer)];
     const copied = (at, length) => Buffer.from(library.bytes(at, length));
     const file = (put) => library.filled(1, put, copied);
-    const names = (edit) => (it, ranges) =>
-        library.rows(ranges, 3, (at, count) => edited(call(edit, text(it), at, count, answer)));
+    // What an edit answers beside its messages: its number, of how many changes it tells, or -1, and of each three numbers.
+    const told = new Float64Array(2 + 3 * FEW);
+    // Puts what changed there.
+    function putChanges(at) {
+        const isTold = call(c.vialshoal_changes, at, room, FEW, answer) === 0;
+        told[1] = isTold ? wide(answer) : -1;
+        for (let index = 0, change = room; index < told[1]; index += 1, change += CHANGE) {
+            told.set([number(change), wide(change + 8), wide(change + 16)], 2 + 3 * index);
+        }
+    }
+    // All messages that are kept, which are let go.
+    function messages(at) {
+        const found = [];
+        const count = call(c.vialshoal_messages, at, answer) === 0 ? wide(answer) : 0;
+        for (let index = 0; index < count; index += 1) {
+            call(c.vialshoal_message, at, BigInt(index), room, ROOM, answer);
+            found.push(copied(room, wide(answer)));
+        }
+        if (count > 0) call(c.vialshoal_let_go, at);
+        return found;
+    }
+    // An edit, which is given after its own words whether changes are asked for.
+    const edit = (made) => (it, ...words) => {
+        const at = text(it), noted = words.pop();
+        try {
+            told[0] = made(at, ...words);
+        } catch (why) {
+            if (!(why instanceof NoMemory)) throw why;
+            told[0] = OUT_OF_MEMORY;
+        }
+        told[1] = 0;
+        if (noted) putChanges(at);
+        return messages(at);
+    };
+    const names = (wanted) => edit((it, ranges) => library.rows(ranges, 3, (at, count) => call(wanted, it, at, count, answer)));
     // What a text and one as it was are asked alike.
     const asked = (now, past) => (it, ...words) => call(it.isPast ? past : now, shown(it), ...words);
     const lengthOf = asked(c.vialshoal_length, c.vialshoal_past_length);
@@ -222,29 +256,18 @@ function calls(library) {
         storePacked: (it) => file((at, length) => call(c.vialshoal_store_packed, text(it), at, length, answer)),
         save: (it) => file((at, length) => call(c.vialshoal_save, text(it), at, length, answer)),
         close: (it) => [library.close({ at: shown(it), isPast: it.isPast })],
-        insert: (it, pos, data) => library.handed(data, (at, length) =>
-            edited(call(c.vialshoal_insert, text(it), BigInt(pos), at, length, answer))),
-        insertInLooks: (it, pos, data, font, colour, offset) => library.handed(Buffer.concat([data, font]), (at) =>
-            edited(call(c.vialshoal_insert_in_looks, text(it), BigInt(pos), at, data.length, at + data.length, font.length, colour,
-                offset, answer))),
-        delete: (it, beg, end) => edited(call(c.vialshoal_delete, text(it), BigInt(beg), BigInt(end), answer)),
-        looks: (it, beg, end, selected, font, colour, offset) => library.handed(font, (at, length) =>
-            edited(call(c.vialshoal_change_looks, text(it), BigInt(beg), BigInt(end), selected, at, length, colour, offset,
-                answer))),
-        restore: (it) => edited(call(c.vialshoal_restore, text(it), answer)),
-        recall: (it, pos) => edited(call(c.vialshoal_recall, text(it), BigInt(pos), answer)),
+        room: told,
+        insert: edit((it, pos, data) => library.handed(data, (at, length) =>
+            call(c.vialshoal_insert, it, BigInt(pos), at, length, answer))),
+        insertInLooks: edit((it, pos, data, font, colour, offset) => library.handed(Buffer.concat([data, font]), (at) =>
+            call(c.vialshoal_insert_in_looks, it, BigInt(pos), at, data.length, at + data.length, font.length, colour, offset, answer))),
+        delete: edit((it, beg, end) => call(c.vialshoal_delete, it, BigInt(beg), BigInt(end), answer)),
+        looks: edit((it, beg, end, selected, font, colour, offset) => library.handed(font, (at, length) =>
+            call(c.vialshoal_change_looks, it, BigInt(beg), BigInt(end), selected, at, length, colour, offset, answer))),
+        restore: edit((it) => call(c.vialshoal_restore, it, answer)),
+        recall: edit((it, pos) => call(c.vialshoal_recall, it, BigInt(pos), answer)),
         deleteNames: names(c.vialshoal_delete_names),
         restoreNames: names(c.vialshoal_restore_names),
-        messages(it) {
-            const at = text(it), found = [];
-            const count = call(c.vialshoal_messages, at, answer) === 0 ? wide(answer) : 0;
-            for (let index = 0; index < count; index += 1) {
-                call(c.vialshoal_message, at, BigInt(index), room, ROOM, answer);
-                found.push(copied(room, wide(answer)));
-            }
-            call(c.vialshoal_let_go, at);
-            return found;
-        },
         take: (it, message) => library.handed(message, (at, length) => {
             const refused = call(c.vialshoal_take, text(it), at, length, answer);
             return [refused, number(answer), number(answer + 4), number(answer + 8), library.byte(answer + 12)];
@@ -299,7 +322,7 @@ function calls(library) {
         changes: (it) => library.filled(CHANGE, (at, count) => call(c.vialshoal_changes, text(it), at, count, answer),
             (at, count) => {
                 const [done, ...changes] = listed(at, count, CHANGE, (change) => [number(change), wide(change + 8), wide(change + 16)]);
-                return [done, Number(count > ROOM / CHANGE), ...changes];
+                return [done, Number(count > FEW), ...changes];
             }),
         endNoting: (it, shown) => [call(c.vialshoal_end_noting, text(it), BigInt(shown))],
         replacement: (it) => [call(c.vialshoal_replacement, text(it), answer), wide(answer), wide(answer + 8)],
@@ -320,6 +343,6 @@ function answering(asked) {
 
 // The calls over a compiled module.
 export function callsOf(module) {
-    const found = calls(new Library(module));
-    return Object.fromEntries(Object.entries(found).map(([name, asked]) => [name, answering(asked)]));
+    const { room, ...found } = calls(new Library(module));
+    return { room, ...Object.fromEntries(Object.entries(found).map(([name, asked]) => [name, answering(asked)])) };
 }

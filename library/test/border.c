@@ -311,7 +311,7 @@ static void ends_noting(void) {
     IS(vialshoal_free(&a) == 0);
 }
 
-typedef uint32_t storing(vialshoal_text *text, uint8_t *room, size_t length, uint64_t *need);
+typedef uint32_t storing(const vialshoal_text *text, uint8_t *room, size_t length, uint64_t *need);
 
 /* A text that is kept in this form and opened again is what it was, and its site goes on; another one that has what it had
  * takes its next edit. What is no file opens none. */

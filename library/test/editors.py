@@ -34,8 +34,20 @@ opening.onsuccess = () => opening.result.transaction('kept').objectStore('kept')
   opening.result.close();
   done(target.result.map(({ history, chunks }) => chunks ? chunks.reduce((sum, { length }) => sum + length, 0) : history?.length ?? 0));
 };"""
+# A page in a frame, which asks for what is open here, and gets it once this lets go.
+LETS_GO = """const [room] = arguments, name = `vialshoal ${room} Ann`, frame = document.createElement('iframe');
+navigator.locks.request(name, () => new Promise((free) => {
+  frame.src = `${location.pathname}?room=${room}`;
+  document.body.append(frame);
+  (async function look() {
+    if ((await navigator.locks.query()).pending.some((asked) => asked.name === name)) free();
+    else setTimeout(look, 10);
+  })();
+}));"""
 THERE = "globalThis.editors?.every(({ provider }) => provider.isSynced)"
 SHOWN = "editors.map(({ cm }) => cm.getValue())"
+# Keys are one edit, however slowly a busy machine lets them come.
+SLOWLY = "&capture=600000"
 
 
 class Editors(page.Browser):
@@ -46,7 +58,7 @@ class Editors(page.Browser):
         self.addCleanup(self.end)
         assert self.server.stdout
         self.address = self.server.stdout.readline().strip()
-        self.open("room")
+        self.open("room", SLOWLY)
 
     def end(self) -> None:
         """Ends the server."""
@@ -191,6 +203,10 @@ class Editors(page.Browser):
         shown = self.run_script(f"{SHOWN}[0]")
         self.open("room")
         self.both_show(shown)
+
+    def test_one_that_ends_lets_go(self) -> None:
+        self.driver.execute_script(LETS_GO, "other")
+        self.wait_for("document.querySelector('iframe')?.contentWindow.editors?.every(({ provider }) => provider.isSynced)")
 
     def test_at_random(self) -> None:
         seed, left, steps = int(os.environ.get("VIALSHOAL_SEED", random.randrange(1, 1 << 31))), SECONDS, 0

@@ -1,6 +1,7 @@
 /* Plays what libFuzzer makes up: calls of three sites of one text, with messages, chunks and files of its own, or of theirs with bytes
- * changed. After each call the changes that were told lead to what is shown; in the end what was stored, packed and looked back at shows the
- * same. library/test/fuzz builds and runs it. */
+ * changed. After each call the changes that were told lead to what is shown, and one that was refused has left the text as it was. In the
+ * end what was stored, packed, taken in any order and looked back at shows the same, and so do two sites that took in each other's.
+ * library/test/fuzz builds and runs it. */
 #include <stdio.h>
 #include <stdlib.h>
 #include <string.h>
@@ -59,8 +60,10 @@ typedef struct {
     bool is_noted;
 } site;
 
+typedef uint32_t storing(const vialshoal_text *text, uint8_t *to, size_t length, uint64_t *need);
+
 static site sites[SITES];
-static uint8_t room[MOST], file[MOST];
+static uint8_t room[MOST], file[MOST], kept[MOST];
 
 static uint64_t length_of(vialshoal_text *text) {
     uint64_t length;
@@ -130,6 +133,35 @@ static void follow(site *at) {
 
 /* -- what is compared -- */
 
+/* All that a text holds but what was deleted last: its file, what waits and the messages that are kept. */
+typedef struct {
+    uint64_t sum, length, messages;
+    uint32_t waiting;
+} state;
+
+static state state_of(vialshoal_text *text) {
+    state found = {14695981039346656037u, 0, 0, 0};
+    IS(vialshoal_store(text, kept, sizeof kept, &found.length) == 0);
+    for (uint64_t i = 0; i < found.length; i++) found.sum = (found.sum ^ kept[i]) * 1099511628211u;
+    IS(vialshoal_messages(text, &found.messages) == 0 && vialshoal_waiting(text, &found.waiting) == 0);
+    return found;
+}
+
+static void is_as_before(vialshoal_text *text, state before) {
+    state now = state_of(text);
+    IS(now.sum == before.sum && now.length == before.length && now.messages == before.messages && now.waiting == before.waiting);
+}
+
+/* Whether an edit, or what it was refused for, is as it has to be: one that was refused as a whole changed nothing. */
+static void is_edited(vialshoal_text *text, state before, uint32_t number, uint32_t sent) {
+    if (is_done(number)) {
+        uint64_t messages;
+        IS(vialshoal_messages(text, &messages) == 0 && messages == before.messages + sent);
+    } else if (sent == 0) {
+        is_as_before(text, before);
+    }
+}
+
 static void show_the_same(vialshoal_text *one, vialshoal_text *other) {
     uint64_t length = length_of(one);
     IS(length == length_of(other));
@@ -138,8 +170,6 @@ static void show_the_same(vialshoal_text *one, vialshoal_text *other) {
     free(mine);
     free(its);
 }
-
-typedef uint32_t storing(vialshoal_text *text, uint8_t *to, size_t length, uint64_t *need);
 
 /* What was stored is read again, shows the same and is stored as the same. */
 static void comes_back(vialshoal_text *text, storing *store) {
@@ -190,6 +220,98 @@ static void reaches_another(vialshoal_text *text) {
     IS(vialshoal_free(&other) == 0);
 }
 
+/* Takes messages in until each is held; those for which there is no room to wait come again. */
+static void takes_all(vialshoal_text *to, uint8_t **messages, uint32_t count) {
+    vialshoal_taking taking;
+    for (uint32_t left = count, before; left > 0;) {
+        before = left;
+        left = 0;
+        for (uint32_t i = 0; i < before; i++) {
+            size_t length = messages[i][0] + 256u * messages[i][1];
+            uint32_t number = vialshoal_take(to, messages[i] + 2, length, &taking);
+            IS(number == 0 || number == VIALSHOAL_ROOM_FULL);
+            if (number == 0) {
+                free(messages[i]);
+            } else {
+                messages[left++] = messages[i];
+            }
+        }
+        IS(left < before);
+    }
+    uint32_t waiting;
+    IS(vialshoal_waiting(to, &waiting) == 0 && waiting == 0);
+}
+
+/* A site that has nothing shows the same once it took all messages, in whatever order they came. */
+static void reaches_another_in_any_order(vialshoal_text *text, uint64_t draw) {
+    vialshoal_text other = {0};
+    uint16_t site = 9;
+    uint64_t need, index = 0;
+    uint32_t all = operations_of(text, &site), count = 0;
+    if (site == 0) return;
+    uint8_t **messages = malloc((all + 1) * sizeof *messages);
+    IS(messages != NULL && vialshoal_new(&other, 1, site) == 0);
+    for (; vialshoal_since(text, NULL, 0, &index, room, sizeof room, &need) == 0; count++) {
+        uint8_t *message = malloc(2 + need);
+        IS(message != NULL && count < all);
+        message[0] = (uint8_t)need;
+        message[1] = (uint8_t)(need >> 8);
+        memcpy(message + 2, room, need);
+        draw = draw * 6364136223846793005u + 1442695040888963407u;
+        uint32_t at = (uint32_t)((draw >> 33) % (count + 1));
+        messages[count] = messages[at];
+        messages[at] = message;
+    }
+    IS(count == all);
+    takes_all(&other, messages, count);
+    free(messages);
+    IS(operations_of(&other, &site) == all);
+    show_the_same(text, &other);
+    IS(vialshoal_free(&other) == 0);
+}
+
+static vialshoal_text copy_of(vialshoal_text *text) {
+    vialshoal_text copy = {0};
+    uint64_t need;
+    IS(vialshoal_store_packed(text, file, sizeof file, &need) == 0 && vialshoal_load(&copy, file, need) == 0);
+    return copy;
+}
+
+/* Hands on, in chunks, what a text lacks of another's, or of its own file. */
+static void catches_up(vialshoal_text *text, vialshoal_text *of) {
+    static uint16_t found[65536];
+    static vialshoal_site_front fronts[65536];
+    vialshoal_unpacking unpacking;
+    uint64_t count, need;
+    IS(vialshoal_sites(text, found, 65536, &count) == 0);
+    for (uint64_t i = 0; i < count; i++) {
+        fronts[i].site = found[i];
+        IS(vialshoal_front(text, found[i], &fronts[i].seq) == 0);
+    }
+    IS(vialshoal_pack(of, fronts, count, file, sizeof file, &need) == 0);
+    for (uint64_t at = 0, length; at < need; at += 2 + length) {
+        length = file[at] + 256u * file[at + 1];
+        IS(vialshoal_unpack(text, file + at + 2, length, &unpacking) == 0 && unpacking.known + unpacking.waiting == 0);
+    }
+}
+
+/* Two texts that took in each other's operations show the same, whichever way these came, unless a number was used twice. */
+static void meet(vialshoal_text *one, vialshoal_text *other) {
+    vialshoal_text mine = copy_of(one), its = copy_of(other), third = copy_of(one);
+    uint64_t taken, back;
+    uint32_t number = vialshoal_merge(&mine, other, &taken);
+    IS(vialshoal_merge(&its, one, &back) == number && (number == 0 || number == VIALSHOAL_CONFLICT));
+    if (number == 0) {
+        show_the_same(&mine, &its);
+        catches_up(&third, other);
+        show_the_same(&mine, &third);
+    } else {
+        show_the_same(&mine, one);
+        show_the_same(&its, other);
+    }
+    IS(vialshoal_free(&mine) == 0 && vialshoal_free(&its) == 0 && vialshoal_free(&third) == 0);
+}
+
 /* The text as it was up to now is the text as it is. */
 static void looks_back(vialshoal_text *text) {
     static uint16_t found[65536];
@@ -211,21 +333,32 @@ static void looks_back(vialshoal_text *text) {
 
 static void takes(site *at, const uint8_t *message, size_t length) {
     vialshoal_taking taking;
+    state before = state_of(&at->text);
     if (is_done(vialshoal_take(&at->text, message, length, &taking))) {
         IS(taking.kind >= VIALSHOAL_TAKEN && taking.kind <= VIALSHOAL_WAITS && !taking.stopped);
+    } else {
+        is_as_before(&at->text, before);
     }
 }
 
 static void unpacks(site *at, const uint8_t *chunk, size_t length) {
     vialshoal_unpacking unpacking;
-    IS(!is_done(vialshoal_unpack(&at->text, chunk, length, &unpacking)) || unpacking.done == 0);
+    state before = state_of(&at->text);
+    if (is_done(vialshoal_unpack(&at->text, chunk, length, &unpacking))) {
+        IS(unpacking.done == 0);
+    } else if (unpacking.done == 0) {
+        is_as_before(&at->text, before);
+    }
 }
 
 /* Opens a site's file, in place of what a site has: that of another text, or of no text, is refused or let go. */
 static void loads(site *at, const uint8_t *from, size_t length) {
     vialshoal_text text = {0}, probe = {0};
     uint64_t taken;
-    if (!is_done(vialshoal_load(&text, from, length))) return;
+    if (!is_done(vialshoal_load(&text, from, length))) {
+        IS(text.at == NULL);
+        return;
+    }
     IS(vialshoal_new(&probe, 1, 9) == 0);
     if (vialshoal_merge(&probe, &text, &taken) == 0) {
         IS(vialshoal_free(&at->text) == 0);
@@ -318,26 +451,36 @@ static void edits_names(site *at, bytes *in, bool restores) {
         names[i].offset = number_of(in);
         names[i].length = number_of(in);
     }
-    is_done((restores ? vialshoal_restore_names : vialshoal_delete_names)(&at->text, names, count, &sent));
+    state before = state_of(&at->text);
+    uint32_t number = (restores ? vialshoal_restore_names : vialshoal_delete_names)(&at->text, names, count, &sent);
+    is_edited(&at->text, before, number, sent);
 }
 
 static void edits(site *at, bytes *in) {
     uint64_t length = length_of(&at->text), beg = number_of(in) % (length + 2), end = number_of(in) % (length + 2);
-    uint32_t sent, what = byte_of(in);
+    uint32_t sent, number, what = byte_of(in);
     bytes some = span_of(in), font = {in->at, in->left < 9 ? in->left : 9};
+    uint8_t colour = (uint8_t)(what >> 4), selected = (uint8_t)(what >> 5);
+    vialshoal_text *text = &at->text;
     /* (copies of copies would soon be all that is done) */
     if (length > LONG) return;
+    state before = state_of(text);
     switch (what % 6) {
-    case 0: is_done(vialshoal_insert(&at->text, beg, some.at, some.left, &sent)); break;
-    case 1: is_done(vialshoal_delete(&at->text, beg, end, &sent)); break;
-    case 2: is_done(vialshoal_restore(&at->text, &sent)); break;
-    case 3: is_done(vialshoal_recall(&at->text, beg, &sent)); break;
-    case 4:
-        is_done(vialshoal_insert_in_looks(&at->text, beg, some.at, some.left, font.at, font.left, (uint8_t)(what >> 4), -3, &sent));
-        break;
-    default:
-        is_done(vialshoal_change_looks(&at->text, beg, end, (uint8_t)(what >> 5), font.at, font.left, (uint8_t)(what >> 4), 3, &sent));
+    case 0: number = vialshoal_insert(text, beg, some.at, some.left, &sent); break;
+    case 1: number = vialshoal_delete(text, beg, end, &sent); break;
+    case 2: number = vialshoal_restore(text, &sent); break;
+    case 3: number = vialshoal_recall(text, beg, &sent); break;
+    case 4: number = vialshoal_insert_in_looks(text, beg, some.at, some.left, font.at, font.left, colour, -3, &sent); break;
+    default: number = vialshoal_change_looks(text, beg, end, selected, font.at, font.left, colour, 3, &sent);
     }
+    is_edited(text, before, number, sent);
+}
+
+static void merges(site *at, site *other) {
+    uint64_t taken;
+    state before = state_of(&at->text), its = state_of(&other->text);
+    if (!is_done(vialshoal_merge(&at->text, &other->text, &taken))) is_as_before(&at->text, before);
+    is_as_before(&other->text, its);
 }
 
 /* One call or a few; test/seeds.py knows their numbers. */
@@ -346,7 +489,6 @@ static void plays(bytes *in) {
     site *at = &sites[whose % SITES], *other = &sites[(whose + 1 + (whose >> 4) % (SITES - 1)) % SITES];
     vialshoal_settling settling;
     uint32_t count;
-    uint64_t taken;
     bytes some = {NULL, 0};
     if (what % 16 < 3) some = span_of(in);
     switch (what % 16) {
@@ -355,7 +497,7 @@ static void plays(bytes *in) {
     case 2: loads(at, some.at, some.left); break;
     case 3: hands_over(at, other, in); break;
     case 4: packs(at, other, in); break;
-    case 5: is_done(vialshoal_merge(&at->text, &other->text, &taken)); break;
+    case 5: merges(at, other); break;
     case 6: IS(vialshoal_settle(&at->text, &settling) == 0 && !settling.stopped); break;
     case 7: IS(vialshoal_forget(&at->text, &count) == 0 && vialshoal_waiting(&at->text, &count) == 0 && count == 0); break;
     case 8: past(at, in); break;
@@ -385,9 +527,11 @@ int LLVMFuzzerTestOneInput(const uint8_t *data, size_t length) {
         comes_back(text, vialshoal_store);
         comes_back(text, vialshoal_store_packed);
         reaches_another(text);
+        reaches_another_in_any_order(text, length * SITES + (uint64_t)i);
         looks_back(text);
-        IS(vialshoal_free(text) == 0);
+        meet(text, &sites[(i + 1) % SITES].text);
     }
+    for (int i = 0; i < SITES; i++) IS(vialshoal_free(&sites[i].text) == 0);
     return 0;
 }
 

@@ -11,6 +11,7 @@ class Buffer extends Bytes {
 
     static from(data, encoding = 'utf8') {
         if (encoding === 'utf8') return Bytes.from(data);
+        if (encoding === 'latin1') return Bytes.from([...data].map((letter) => letter.charCodeAt(0)));
         return Bytes.from(data.match(/../g).map((digits) => parseInt(digits, 16)));
     }
 }

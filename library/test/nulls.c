@@ -48,6 +48,7 @@ static void asks(vialshoal_text *text, uint32_t number) {
     IS(vialshoal_since(text, NULL, 0, &at, NULL, 0, &need) == short_one && (need > 0) == (number == 0) && at == 0);
     IS(vialshoal_pack(text, NULL, 0, NULL, 0, &need) == short_one && (need > 0) == (number == 0));
     IS(vialshoal_changes(text, NULL, 0, &need) == short_one);
+    IS(vialshoal_hand_out(text, NULL, 0, &need) == short_one && (need > 0) == (number == 0));
 }
 
 static void shows(vialshoal_text *text, uint32_t number) {

@@ -8,6 +8,7 @@ import re
 import subprocess
 import unittest
 from pathlib import Path
+from typing import ClassVar
 
 from vialshoal import _library
 
@@ -80,12 +81,33 @@ class Numbers(unittest.TestCase):
 
 
 class Calls(unittest.TestCase):
+    calls: ClassVar = dict(re.findall(r"^uint32_t vialshoal_(\w+)\(([^;]*)\);", HEADER, re.MULTILINE))
+
+    def those_with(self, word: str) -> set[str]:
+        return {name for name, taken in self.calls.items() if word in taken}
+
     def test_each_that_takes_a_length_lets_null_through(self) -> None:
-        calls = [name for name, taken in re.findall(r"^uint32_t vialshoal_(\w+)\(([^;]*)\);", HEADER, re.MULTILINE) if "size_t" in taken]
+        calls = self.those_with("size_t")
         self.assertGreater(len(calls), 20)
-        self.assertEqual(re.findall(r"^OF_THE_CRATE\((\w+)\);", read("library/c/null.c"), re.MULTILINE), calls)
         tested = set(re.findall(r"vialshoal_(\w+)\([^;]*NULL, 0[,)]", read("library/test/nulls.c")))
-        self.assertEqual(set(calls) - tested, set())
+        self.assertEqual(calls - tested, set())
+
+    def test_each_that_is_in_front_of_the_crate_has_a_name_of_its_own(self) -> None:
+        changes, reads = (set(re.findall(r"^OF_THE_CRATE\((\w+)\);", read(f"library/c/{file}.c"), re.MULTILINE))
+                          for file in ("null", "reads"))
+        self.assertEqual(reads, self.those_that_read())
+        self.assertEqual(changes, self.those_with("size_t") - reads - {"hand_out"})
+        renamed = set(re.findall(r"^vialshoal_(\w+) vialshoal_c_\1$", read("library/c/symbols"), re.MULTILINE))
+        self.assertEqual(renamed, changes | reads)
+
+    def those_that_read(self) -> set[str]:
+        reads = self.those_with("const vialshoal_text *") | self.those_with("const vialshoal_past_text *")
+        return reads - self.those_with("vialshoal_file *")
+
+    def test_each_that_reads_is_made_by_several_threads_at_once(self) -> None:
+        reads = self.those_that_read()
+        job = read("library/test/threads.c").partition("static void *reads(")[2].partition("\n}\n")[0]
+        self.assertEqual(reads - set(re.findall(r"vialshoal_(\w+)\(", job)), set())
 
 
 class Versions(unittest.TestCase):

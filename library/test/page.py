@@ -32,7 +32,7 @@ WORDS = ["--headless=new", "--no-sandbox", "--disable-gpu", "--disable-dev-shm-u
 PATIENCE = 120
 MOST_SHOWN = 2_000
 # What runs in pages too, of library/node/tests.
-TESTS = ("text", "delta", "versions", "undo", "presence", "backlog")
+TESTS = ("text", "delta", "versions", "undo", "presence", "backlog", "merging")
 IN_PAGE = "const [name, done] = arguments; import('/test/said.mjs').then((it) => it.said(name)).then(done, (why) => done(String(why)))"
 IN_WORKER = """const [name, done] = arguments, worker = new Worker('/test/page_worker.mjs', { type: 'module' });
 worker.onmessage = ({ data }) => data === 'listening' ? worker.postMessage(name) : done(data);
@@ -151,7 +151,8 @@ class Page(Browser):
 
 def counted(ran: unittest.TestResult) -> int:
     """Says how many tests passed; the status."""
-    failed = len(ran.failures) + len(ran.errors)
+    # (a test may fail in some of its parts)
+    failed = len({getattr(test, "test_case", test) for test, _ in (*ran.failures, *ran.errors)})
     print(f"{ran.testsRun - failed} passed, {failed} failed")
     return 1 if failed else 0
 

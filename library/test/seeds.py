@@ -1,5 +1,5 @@
-"""Writes what fuzz.c begins with into a folder, from the tests of the repository: the messages and chunks that scripts take in, the files that
-they reopen; and edits, drawn at random, that sites hand to one another.
+"""Writes what fuzz.c begins with into a folder, from the tests of the repository: the messages and chunks that scripts take in, the files
+that they reopen; and edits, drawn at random, that sites hand to one another.
 
   python3 library/test/seeds.py FOLDER
 """

@@ -1,10 +1,12 @@
 /* Calls the library from eight threads: each with a text of its own; each with a site of one text, by messages; all with one text behind a
- * mutex; and a text that goes from thread to thread. It is run under helgrind and DRD, which see what two threads touch without one waiting
- * for the other. */
+ * mutex; all that read one text, through handles that can't be written; and a text that goes from thread to thread. It is run under
+ * helgrind and DRD, which see what two threads touch without one waiting for the other. */
+#define _DEFAULT_SOURCE
 #include <pthread.h>
 #include <stdio.h>
 #include <stdlib.h>
 #include <string.h>
+#include <sys/mman.h>
 
 #include "../vialshoal.h"
 
@@ -40,7 +42,7 @@ static void hand_over(vialshoal_text *from, vialshoal_text *to) {
     IS(vialshoal_let_go(from) == 0);
 }
 
-static void show_the_same(vialshoal_text *one, vialshoal_text *other) {
+static void show_the_same(const vialshoal_text *one, const vialshoal_text *other) {
     uint64_t length, its, need;
     IS(vialshoal_length(one, &length) == 0 && vialshoal_length(other, &its) == 0 && length == its);
     uint8_t *shown = malloc(2 * length + 1);
@@ -165,7 +167,39 @@ static void meet(void) {
 /* -- one that is shared -- */
 
 static pthread_mutex_t turn = PTHREAD_MUTEX_INITIALIZER;
+static pthread_cond_t took = PTHREAD_COND_INITIALIZER;
 static vialshoal_text shared, reader;
+
+/* Takes what another text handed out. Where too much waits for what another thread has in its hands, that one takes it first. */
+static void takes(vialshoal_text *text, const uint8_t *handed_out, uint64_t length) {
+    vialshoal_taking taking;
+    for (uint64_t at = 0, one; at < length; at += 2 + one) {
+        uint32_t answer;
+        one = handed_out[at] + 256u * handed_out[at + 1];
+        while ((answer = vialshoal_take(text, handed_out + at + 2, one, &taking)) == VIALSHOAL_ROOM_FULL) {
+            IS(pthread_cond_wait(&took, &turn) == 0);
+        }
+        IS(answer == 0 && taking.kind != VIALSHOAL_REPEAT && pthread_cond_broadcast(&took) == 0);
+    }
+}
+
+/* Edits the shared text in one turn, hands out in another one what it or others made by then, and takes that elsewhere in a third. */
+static void *hands_out(void *site) {
+    uint8_t room[THREADS * 64];
+    uint64_t need;
+    uint32_t sent;
+    (void)site;
+    for (int i = 0; i < edits; i++) {
+        IS(pthread_mutex_lock(&turn) == 0);
+        IS(vialshoal_insert(&shared, 0, BYTES("abcd"), 4, &sent) == 0 && sent == 1);
+        IS(pthread_mutex_unlock(&turn) == 0 && pthread_mutex_lock(&turn) == 0);
+        IS(vialshoal_hand_out(&shared, room, sizeof room, &need) == 0);
+        IS(pthread_mutex_unlock(&turn) == 0 && pthread_mutex_lock(&turn) == 0);
+        takes(&reader, room, need);
+        IS(pthread_mutex_unlock(&turn) == 0);
+    }
+    return NULL;
+}
 
 /* Edits the shared text, and hands out what an edit made in the same turn. */
 static void *takes_turns(void *site) {
@@ -192,6 +226,68 @@ static void *takes_turns(void *site) {
         }
     }
     return NULL;
+}
+
+/* -- one that all read -- */
+
+typedef struct {
+    vialshoal_text text;
+    vialshoal_past_text past;
+} handles;
+
+/* Asks a text and what it was all that they can be asked. */
+static void *reads(void *of) {
+    const handles *from = *(handles **)of;
+    const vialshoal_text *text = &from->text;
+    const vialshoal_past_text *past = &from->past;
+    static const vialshoal_site_front none = {1, 0};
+    vialshoal_text other = {0};
+    vialshoal_past_text again = {0};
+    vialshoal_looks_run run;
+    vialshoal_name name;
+    vialshoal_place place;
+    uint8_t *room = malloc(1 << 20), font[31];
+    uint64_t length, was, need, messages;
+    uint32_t count, front;
+    IS(room != NULL);
+    for (int i = 0; i < edits / 8 + 1; i++) {
+        uint64_t index = 0;
+        IS(vialshoal_length(text, &length) == 0 && vialshoal_bytes(text, 0, length, room, length, &need) == 0);
+        IS(vialshoal_names(text, length / 2, length / 2 + 1, &name, 1, &need) == 0);
+        IS(vialshoal_find(text, name.site, name.offset, &place) == 0 && place.pos == length / 2 + 1);
+        IS(vialshoal_looks(text, 0, &run, font, sizeof font, &need) == 0 && run.end == length);
+        IS(vialshoal_store(text, room, 1 << 20, &need) == 0 && vialshoal_save(text, room, 1 << 20, &need) == 0);
+        IS(vialshoal_store_packed(text, room, 1 << 20, &need) == 0 && vialshoal_load(&other, room, need) == 0);
+        show_the_same(text, &other);
+        IS(vialshoal_free(&other) == 0 && vialshoal_new(&other, 1, 9) == 0);
+        IS(vialshoal_merge(&other, text, &need) == 0 && need == (uint64_t)THREADS * edits);
+        IS(vialshoal_free(&other) == 0 && vialshoal_past(text, &none, 1, &again) == 0 && vialshoal_past_free(&again) == 0);
+        IS(vialshoal_waiting(text, &count) == 0 && vialshoal_messages(text, &messages) == 0 && count + messages == 1);
+        IS(vialshoal_message(text, 0, room, 1 << 20, &need) == 0 && vialshoal_front(text, 1, &front) == 0);
+        IS(vialshoal_sites(text, (uint16_t *)room, 9, &need) == 0 && need == 1 && front == (uint32_t)(THREADS * edits));
+        IS(vialshoal_since(text, &none, 1, &index, room, 1 << 20, &need) == 0 && index == 1);
+        IS(vialshoal_pack(text, &none, 1, room, 1 << 20, &need) == 0);
+        IS(vialshoal_past_length(past, &was) == 0 && was == 4 && vialshoal_past_bytes(past, 0, was, room, was, &need) == 0);
+        IS(vialshoal_past_names(past, 0, 1, &name, 1, &need) == 0 && vialshoal_past_find(past, name.site, name.offset, &place) == 0);
+        IS(vialshoal_past_looks(past, 0, &run, font, sizeof font, &need) == 0 && run.end == was);
+    }
+    free(room);
+    return NULL;
+}
+
+static void is_read_at_once(void) {
+    static const vialshoal_site_front front = {1, 1};
+    handles *all[THREADS], *of = mmap(NULL, sizeof *of, PROT_READ | PROT_WRITE, MAP_PRIVATE | MAP_ANONYMOUS, -1, 0);
+    uint32_t sent;
+    IS(of != MAP_FAILED && vialshoal_new(&of->text, 1, 1) == 0);
+    for (int i = 0; i < THREADS * edits; i++) {
+        IS(vialshoal_let_go(&of->text) == 0 && vialshoal_insert(&of->text, 0, BYTES("abcd"), 4, &sent) == 0);
+    }
+    IS(vialshoal_past(&of->text, &front, 1, &of->past) == 0 && mprotect(of, sizeof *of, PROT_READ) == 0);
+    for (int i = 0; i < THREADS; i++) all[i] = of;
+    side_by_side(reads, all, sizeof all[0]);
+    IS(mprotect(of, sizeof *of, PROT_READ | PROT_WRITE) == 0);
+    IS(vialshoal_free(&of->text) == 0 && vialshoal_past_free(&of->past) == 0 && munmap(of, sizeof *of) == 0);
 }
 
 /* -- one that goes from thread to thread -- */
@@ -226,7 +322,10 @@ int main(int count, char **words) {
     IS(vialshoal_new(&shared, 1, 1) == 0 && vialshoal_new(&reader, 1, 2) == 0);
     side_by_side(takes_turns, sites, sizeof sites[0]);
     IS(vialshoal_front(&reader, 1, &front) == 0 && front == (uint32_t)(THREADS * edits));
+    side_by_side(hands_out, sites, sizeof sites[0]);
+    IS(vialshoal_front(&reader, 1, &front) == 0 && front == (uint32_t)(2 * THREADS * edits));
     show_the_same(&shared, &reader);
+    is_read_at_once();
     IS(vialshoal_free(&shared) == 0 && vialshoal_free(&reader) == 0);
     for (int i = 0; i < 3; i++) side_by_side(stages[i], texts, sizeof texts[0]);
     puts("threads: all is so");

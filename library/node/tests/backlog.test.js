@@ -52,6 +52,30 @@ assert.throws(() => new Text(1, 3).unpack(chunks[0]), { code: 'ROOM_FULL', done:
 assert.deepEqual(chunks.map((chunk) => backlog.take(chunk).taken), [...Array(chunks.length - 1).fill(0), 3000]);
 assert.ok(late.bytes().equals(long.bytes()));
 
+// Of a chunk all is taken in that is ready, whatever stands before it.
+const [ann, bob, cid] = [1, 2, 3].map((site) => new Text(1, site));
+const [first] = ann.insert(0, 'a');
+cid.take(first);
+bob.insert(0, 'bob');
+const [behind] = bob.insert(3, '!');
+for (let at = 1; at <= 100; at += 1) cid.insert(at, 'c');
+ann.merge(cid);
+ann.merge(bob);
+const [mixed, ...none] = ann.pack([[1, 1]]), half = new Text(1, 4), halves = new Backlog(half);
+assert.deepEqual([none, halves.take(behind).kept], [[], 1]);
+assert.deepEqual([halves.take(mixed), `${half}`], [{ taken: 2, kept: 1, refused: [] }, 'bob!']);
+assert.deepEqual([halves.take(first), `${half}`], [{ taken: 101, kept: 0, refused: [] }, `${ann}`]);
+
+// What such a chunk brings makes ready what was kept.
+const [dan, eve, fay, part] = [5, 6, 7, 8].map((site) => new Text(1, site)), parts = new Backlog(part);
+eve.take(dan.insert(0, 'd')[0]);
+const [cut] = eve.delete(0, 1), [lost] = fay.insert(0, 'f');
+dan.take(lost);
+for (let at = dan.find({ site: 7, offset: 0 }).pos, end = at + 100; at < end; at += 1) dan.insert(at, 'x');
+assert.equal(parts.take(cut).kept, 1);
+assert.deepEqual(parts.take(dan.pack([[7, 1]])[0]), { taken: 2, kept: 1, refused: [] });
+assert.deepEqual(parts.take(lost), { taken: 101, kept: 0, refused: [] });
+
 // What is refused is thrown, or told where it was kept before; what is too much isn't kept.
 assert.throws(() => backlog.take(Buffer.from('none')), Refused);
 assert.throws(() => backlog.take('none'), TypeError);

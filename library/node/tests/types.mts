@@ -1,6 +1,6 @@
 // Calls as users write them, for the compiler alone: the types of index.d.ts.
 import {
-    Backlog, Damaged, FrontsDiffer, Misused, Past, Presence, Refused, Text, UndoManager, type Anchor, type Delta, type Edit,
+    Backlog, Damaged, FrontsDiffer, Misused, Past, Presence, Refused, Text, UndoManager, mergeChunks, type Anchor, type Delta, type Edit,
 } from '../index.js';
 import { CodeMirrorBinding, type Cursor } from '../codemirror.js';
 import { IndexedDBStore } from '../indexeddb.js';
@@ -32,7 +32,7 @@ export function shared(text: Text, sent: (bytes: Uint8Array) => void): number {
     sent(presence.set({ site: text.site, cursor: { anchor: text.anchor(0), head: text.anchor(1, 1) } }));
     const places = [...presence.states().values()].map(({ cursor }) => text.position(cursor.anchor));
     try {
-        text.copy(2, { at: text.fronts() }).pack(text.state()).forEach((chunk) => backlog.take(chunk));
+        mergeChunks(text.copy(2, { at: text.fronts() }).pack(text.state()), [[1, 1]]).forEach((chunk) => backlog.take(chunk));
     } catch (why) {
         if (why instanceof FrontsDiffer) return why.seq;
     }

@@ -196,10 +196,27 @@ assert.deepStrictEqual(fresh.changes(), [{ kind: 'insert', beg: 1, end: 2 }, { k
 // What was put in last isn't what others put in, nor what was refused, nor what its bytes became.
 const other = new Text(1, 2), bytes = Buffer.from('uvw');
 for (const before of [() => text.insert(0, ''), () => text.insert(1, 'uvw'), () => text.insert(0, bytes),
-    () => assert.throws(() => text.insert(0, 'u'.repeat(2 ** 24 + 1))), () => { text.insert(0, 'uvw'); text.delete(0, 2); }]) {
+    () => assert.throws(() => text.insert(0, 'u'.repeat(2 ** 24 + 1))), () => { text.insert(0, 'uvw'); text.delete(0, 2); },
+    () => { text.insert(0, 'uvw'); agrees(text); }]) {
     before();
     bytes.fill(0x80);
     text.take(other.insert(0, 'p\u00e9')[0]);
     agrees(text);
+}
+// An edit may change more stretches than it tells of at once, and others follow before a position is asked for.
+const many = new Text(1, 1, UTF_16);
+many.insert(0, 'a\u00e9'.repeat(40));
+const letters = Array.from({ length: 40 }, (_, at) => many.nameRanges(2 * at, 2 * at + 1)[0]);
+for (const edit of ['deleteNames', 'restoreNames', 'deleteNames']) {
+    many[edit](letters);
+    many.restoreNames(letters.slice(0, 2));
+    many.deleteNames(letters.slice(1, 2));
+    agrees(many);
+    many.insert(many.length - 1, 'x');
+    agrees(many);
+}
+many.close();
+for (const call of [() => many.length, () => many.slice(0, 0), () => many.insert(1000, 'a'), () => many.insert(0, 'a')]) {
+    assert.throws(call, { code: 'NOT_OPEN' });
 }
 console.log('UTF-16 units: all is so');

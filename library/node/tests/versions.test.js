@@ -71,6 +71,7 @@ for (const units of ['bytes', 'utf-16']) {
 
 const text = new Text(1, 1, { units: 'utf-16' });
 assert.deepEqual([text.anchor(0), text.anchor(0, 1)], [{ site: 0, offset: 0, side: -1 }, { site: 0, offset: 0, side: 1 }]);
+for (const side of [-1, 1]) assert.throws(() => new Text(1, 1).anchor(1, side), { code: 'OUT_OF_TEXT' });
 text.insert(0, 'a\u{1f600}b');
 assert.deepEqual([text.anchor(0), text.anchor(4, 1), text.anchor(3), text.anchor(1, 1)],
     [{ site: 0, offset: 0, side: -1 }, { site: 0, offset: 0, side: 1 }, { site: 1, offset: 4, side: -1 }, { site: 1, offset: 1, side: 1 }]);

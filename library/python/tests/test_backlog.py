@@ -74,6 +74,22 @@ class AnyOrder(InAFolder):
                 backlog.take(chunk)
             self.assertEqual((b.fronts(), len(backlog)), (a.fronts(), 0))
 
+    def test_of_a_chunk_all_is_taken_that_is_ready(self) -> None:
+        with Text(1, site=1) as ann, Text(1, site=2) as bob, Text(1, site=3) as cid, Text(1, site=4) as text:
+            [first] = ann.insert(0, b"a")
+            cid.take(first)
+            bob.insert(0, b"bob")
+            [behind] = bob.insert(3, b"!")
+            for at in range(1, 101):
+                cid.insert(at, b"c")
+            ann.merge(cid)
+            ann.merge(bob)
+            backlog = Backlog(text)
+            backlog.take(behind)
+            [chunk] = ann.pack({1: 1})
+            self.assertEqual((backlog.take(chunk), bytes(text)), (Received(2, 1, ()), b"bob!"))
+            self.assertEqual((backlog.take(first), bytes(text)), (Received(101, 0, ()), bytes(ann)))
+
     def test_there_is_room_for_so_much(self) -> None:
         with Text(1, site=1) as a, Text(1, site=2) as b:
             for _ in range(70):

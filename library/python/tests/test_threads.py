@@ -53,6 +53,17 @@ def often_switching() -> Iterator[None]:
         sys.setswitchinterval(interval)
 
 
+@contextmanager
+def switching_never() -> Iterator[None]:
+    """Has the interpreter stay with a thread until that waits for something, or lets others run by itself."""
+    interval = sys.getswitchinterval()
+    sys.setswitchinterval(1e6)
+    try:
+        yield
+    finally:
+        sys.setswitchinterval(interval)
+
+
 def seq_of(message: bytes) -> int:
     return int.from_bytes(message[8:12], "big")
 
@@ -157,23 +168,36 @@ class TwoTexts(unittest.TestCase):
             self.assertEqual((bytes(a), a.fronts()), (bytes(b), {1: 200, 2: 200}))
 
     def test_others_run_while_a_call_takes_long(self) -> None:
-        with Text(1, site=1) as text, Text(1, site=2) as other:
+        with Text(1, site=1) as text, switching_never():
             for _ in range(40_000):
                 text.insert(0, b"x")
-            ticks, ended = list[float](), threading.Event()
+            ticks, ended = list[None](), threading.Event()
 
             def ticking() -> None:
                 while not ended.wait(0.001):
-                    ticks.append(time.monotonic())
+                    ticks.append(None)
+
+            def merges() -> None:
+                with Text(1, site=2) as other:
+                    other.merge(text)
 
             thread = threading.Thread(target=ticking)
             thread.start()
-            spans = [(time.monotonic(), other.merge(text), time.monotonic()), (time.monotonic(), text.pack(), time.monotonic())]
-            ended.set()
-            thread.join()
-            for begin, _, end in spans:
-                tenth = (end - begin) / 10
-                self.assertTrue(any(begin + tenth < tick < end - tenth for tick in ticks), "nothing else ran")
+            calls: list[Callable[[], object]] = [merges, text.pack]
+            try:
+                for takes_long in calls:
+                    end = time.monotonic() + PATIENCE
+                    # (the other thread may not get a processor in time)
+                    while not self.ticks_during(takes_long, ticks):
+                        self.assertLess(time.monotonic(), end, "nothing else ran")
+            finally:
+                ended.set()
+                thread.join()
+
+    def ticks_during(self, call: Callable[[], object], ticks: list[None]) -> bool:
+        before = len(ticks)
+        call()
+        return len(ticks) > before
 
 
 if __name__ == "__main__":

@@ -37,15 +37,19 @@ A text is bytes, and so positions count bytes. A `Text[str]` shows them as UTF-8
 What another site made may be no UTF-8: a byte that is of no character is one code point, shown as Python's handler
 "surrogateescape" does, and the same byte again where it is put in.
 """
-from ._answers import (Change, ChangeKind, Damaged, FrontsDiffer, Looks, Misused, Name, NameRange, Place, Refused, Replacement, Run,
+from ._answers import (Anchor, Change, ChangeKind, Damaged, FrontsDiffer, Looks, Misused, Name, NameRange, Place, Refused, Replacement, Run,
                        Settling, Taking, TakingKind, Unpacking)
 from ._backlog import Backlog, Received
 from ._deltas import Delete, Delta, Insert, Retain
+from ._merging import merge_chunks
 from ._shown import Shown, Units
 from ._text import Past, Text
+from ._undo import Undone, UndoManager
+from .presence import Presence
 from .site_numbers import SiteNumbers
 
 __version__ = "0.1.0"
-__all__ = ["Backlog", "Change", "ChangeKind", "Damaged", "Delete", "Delta", "FrontsDiffer", "Insert", "Looks", "Misused", "Name",
-           "NameRange", "Past", "Place", "Received", "Refused", "Replacement", "Retain", "Run", "Settling", "Shown", "SiteNumbers",
-           "Taking", "TakingKind", "Text", "Units", "Unpacking"]
+__all__ = ["Anchor", "Backlog", "Change", "ChangeKind", "Damaged", "Delete", "Delta", "FrontsDiffer", "Insert", "Looks",
+           "Misused", "Name", "NameRange", "Past", "Place", "Presence", "Received", "Refused", "Replacement", "Retain", "Run",
+           "Settling", "Shown", "SiteNumbers", "Taking", "TakingKind", "Text", "UndoManager", "Undone", "Units", "Unpacking",
+           "merge_chunks"]

@@ -3,7 +3,7 @@ from __future__ import annotations
 
 import enum
 from dataclasses import dataclass
-from typing import Optional
+from typing import Literal, Optional
 
 from . import _library as c
 
@@ -107,6 +107,20 @@ class Place:
 
     pos: int
     is_shown: bool
+
+
+# Before a place, or after it.
+Side = Literal[-1, 1]
+
+
+@dataclass(frozen=True)
+class Anchor:
+    """A place in a text that stays with the character before it (side -1) or after it (1), wherever that goes; of site 0 it is the text's
+    begin or end."""
+
+    site: int
+    offset: int
+    side: Side
 
 
 class ChangeKind(enum.Enum):

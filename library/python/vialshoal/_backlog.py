@@ -8,6 +8,7 @@ from typing import Any
 from . import _library as c
 from ._answers import FrontsDiffer, Refused
 from ._given import Buffer, data
+from ._merging import parts_of
 from ._text import Text
 
 _CHUNK = b"OTC1"
@@ -51,7 +52,7 @@ class Backlog:
         self._size = 0
 
     def __len__(self) -> int:
-        """How many messages and chunks are kept."""
+        """How many messages and chunks are kept; a chunk of some sites may be one of each."""
         return len(self._kept)
 
     def take(self, given: Buffer) -> Received:
@@ -60,14 +61,22 @@ class Backlog:
         got, refused, taken = data(given), list[Refused](), 0
         with self._text.batch():
             before = sum(self._text.fronts().values())
-            if not self._is_taken(got):
-                self._keep(got)
+            self._hand(got)
             now = sum(self._text.fronts().values())
             while now > before + taken:
                 taken = now - before
                 self._retry(refused)
                 now = sum(self._text.fronts().values())
             return Received(taken, len(self), tuple(refused))
+
+    def _hand(self, given: bytes) -> None:
+        """Has the text take what is ready, of each site by itself where more than 64 aren't, and keeps the rest."""
+        if self._is_taken(given):
+            return
+        parts = parts_of(given) if given.startswith(_CHUNK) else [given]
+        for part in parts:
+            if part == given or not self._is_taken(part):
+                self._keep(part)
 
     def _is_taken(self, given: bytes) -> bool:
         try:

@@ -13,6 +13,7 @@ from ._answers import Change, ChangeKind, FrontsDiffer, Misused, Refused, Replac
 from ._composing import Triple
 from ._deltas import Delta, Deltas, Listener
 from ._journal import Journal
+from ._names import Effect, effect_of_all
 from ._replica import Replica
 from ._shown import Units, alone
 
@@ -204,6 +205,12 @@ class Changing(Replica[AnyStr]):
                     self._originates(None)
                     chunks += self._handed_out_past(before)
 
+    @property
+    @alone
+    def is_in_batch(self) -> bool:
+        """Whether the thread that asks is in a batch."""
+        return self._batches > 0
+
     def _originates(self, origin: object) -> None:
         if self._deltas.are_wanted:
             self._gather()
@@ -231,7 +238,14 @@ class Changing(Replica[AnyStr]):
         return self._shown(self._range(self._byte(beg), self._byte(end)))
 
     def _gather(self) -> None:
-        self._deltas.add(self._told(), self._read)
+        self._deltas.add(self._told(), self._read, self._effect())
+
+    def _effect(self) -> Optional[Effect]:
+        """Which names the site itself showed and hid since the last delta, where an undo manager asks for that."""
+        made, self._deltas.made = self._deltas.made, self._front(self._site)
+        if not self._deltas.managers or not self._deltas.is_own:
+            return None
+        return effect_of_all(self._messages_past({**self._fronts(), self._site: made}))
 
     def _want_deltas(self) -> None:
         if not self._is_noted:
@@ -260,6 +274,21 @@ class Changing(Replica[AnyStr]):
             with self._lock, suppress(ValueError):
                 self._deltas.listeners.remove(listener)
         return end
+
+    @alone
+    def _feed(self, feed: Callable[[list[Delta[AnyStr]]], object], listener: Listener, is_manager: bool) -> Callable[[], None]:
+        """Subscribes a listener, and has each delta be given to a feed before that, while the text is locked. Answers what ends both."""
+        end = self.subscribe(listener)
+        self._deltas.feeds.append(feed)
+        self._deltas.managers += is_manager
+
+        def end_both() -> None:
+            end()
+            with self._lock:
+                if feed in self._deltas.feeds:
+                    self._deltas.feeds.remove(feed)
+                    self._deltas.managers -= is_manager
+        return end_both
 
     @alone
     def end_noting(self, shown: int = 0) -> None:

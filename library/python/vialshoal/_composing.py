@@ -34,7 +34,7 @@ def _steps(kind: int, beg: int, end: int) -> Steps:
     return [*[(Step.KEEP, beg)] * (beg > 0), (step, end - beg)]
 
 
-def _add(steps: Steps, step: Step, length: int) -> None:
+def add(steps: Steps, step: Step, length: int) -> None:
     if steps and steps[-1][0] is step:
         length += steps.pop()[1]
     steps.append((step, length))
@@ -46,10 +46,10 @@ def _after(first: Steps, then: Steps) -> Steps:
     made: Steps = []
     while here and there:
         if here[-1][0] is Step.CUT:
-            _add(made, *here.pop())
+            add(made, *here.pop())
             continue
         if there[-1][0] is Step.PUT:
-            _add(made, *there.pop())
+            add(made, *there.pop())
             continue
         (did, long), (does, wide) = here.pop(), there.pop()
         common = min(long, wide)
@@ -58,12 +58,24 @@ def _after(first: Steps, then: Steps) -> Steps:
         if common < wide:
             there.append((does, wide - common))
         if does is Step.KEEP or did is Step.PUT and does is Step.DRESS:
-            _add(made, did, common)
+            add(made, did, common)
         elif did is not Step.PUT:
-            _add(made, does, common)
+            add(made, does, common)
     for step, length in here[::-1] + there[::-1]:
-        _add(made, step, length)
+        add(made, step, length)
     return made
+
+
+def changes_of(steps: Steps) -> list[Triple]:
+    """The changes that are done by steps."""
+    kinds = {Step.DRESS: REPLACE, Step.CUT: DELETE, Step.PUT: INSERT}
+    found, beg = [], 0
+    for step, length in steps:
+        if step in kinds and length:
+            found.append((kinds[step], beg, beg + length))
+        if step is not Step.CUT:
+            beg += length
+    return found
 
 
 def composed(changes: Iterable[Triple]) -> Steps:

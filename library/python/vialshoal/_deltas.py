@@ -6,9 +6,10 @@ import threading
 from collections import deque
 from collections.abc import Callable, Iterable
 from dataclasses import dataclass, field
-from typing import Any, AnyStr, Generic, Union
+from typing import Any, AnyStr, Generic, Optional, Union
 
-from ._composing import Step, Triple, composed
+from ._composing import Step, Steps, Triple, composed
+from ._names import Effect
 
 
 @dataclass(frozen=True)
@@ -33,14 +34,19 @@ class Delete:
     length: int
 
 
+DeltaStep = Union[Retain, Insert[AnyStr], Delete]
+
+
 @dataclass(frozen=True)
 class Delta(Generic[AnyStr]):
     """What was done to a text from its begin on, by its own site or by others, with the origin that `batch` was given; what comes
     behind the last step stays."""
 
     is_own: bool
-    steps: tuple[Union[Retain, Insert[AnyStr], Delete], ...]
+    steps: tuple[DeltaStep[AnyStr], ...]
     origin: object = field(default=None, repr=False, compare=False)
+    # Which names it showed and hid, where an undo manager asks for that.
+    effect: Optional[Effect] = field(default=None, repr=False, compare=False)
 
     def applied(self, shown: AnyStr) -> AnyStr:
         """What it makes of what was shown."""
@@ -60,11 +66,11 @@ class Delta(Generic[AnyStr]):
 Listener = Callable[[Delta[Any]], object]
 
 
-def delta_of(is_own: bool, origin: object, changes: Iterable[Triple], read: Callable[[int, int], AnyStr]) -> Delta[AnyStr]:
-    """What changes did, where `read` reads a range of the text as it is after them."""
-    steps: list[Union[Retain, Insert[AnyStr], Delete]] = []
+def steps_of(done: Steps, read: Callable[[int, int], AnyStr]) -> tuple[DeltaStep[AnyStr], ...]:
+    """What steps do, where `read` reads a range of the text as it is after them."""
+    steps: list[DeltaStep[AnyStr]] = []
     at = cut = put = 0
-    for step, length in [*composed(changes), (Step.KEEP, 0)]:
+    for step, length in [*done, (Step.KEEP, 0)]:
         if step is Step.CUT:
             cut += length
         elif step is Step.PUT:
@@ -75,7 +81,7 @@ def delta_of(is_own: bool, origin: object, changes: Iterable[Triple], read: Call
             at, cut, put = at + put + length, 0, 0
     if steps and isinstance(steps[-1], Retain) and not steps[-1].is_dressed:
         steps.pop()
-    return Delta(is_own, tuple(steps), origin)
+    return tuple(steps)
 
 
 class Deltas(Generic[AnyStr]):
@@ -86,17 +92,20 @@ class Deltas(Generic[AnyStr]):
         # Whether anybody asked for deltas, and whose the changes are that aren't in one yet, of which origin.
         self.are_wanted = self.is_own = False
         self.origin: object = None
+        # How many undo managers there are, and how many operations the site had made as the last delta ended.
+        self.managers = self.made = 0
         self.listeners: list[Listener] = []
-        # What has each delta while the text is locked, before anybody is told: it is for bindings, whose texts are shown elsewhere.
-        self.feeds: list[deque[Delta[AnyStr]]] = []
+        # What is given each delta while the text is locked, before anybody is told: for bindings, whose texts are shown elsewhere, and
+        # for undo managers.
+        self.feeds: list[Callable[[list[Delta[AnyStr]]], object]] = []
         self._untold: list[Delta[AnyStr]] = []
         self.queue: deque[tuple[Delta[AnyStr], list[Listener]]] = deque()
         self._turn = threading.Lock()
 
-    def add(self, changes: Iterable[Triple], read: Callable[[int, int], AnyStr]) -> None:
-        delta = delta_of(self.is_own, self.origin, changes, read)
-        if delta.steps:
-            self._untold.append(delta)
+    def add(self, changes: Iterable[Triple], read: Callable[[int, int], AnyStr], effect: Optional[Effect]) -> None:
+        steps = steps_of(composed(changes), read)
+        if steps:
+            self._untold.append(Delta(self.is_own, steps, self.origin, effect))
 
     def take(self) -> list[Delta[AnyStr]]:
         untold, self._untold = self._untold, []
@@ -108,7 +117,7 @@ class Deltas(Generic[AnyStr]):
             deltas = self.take()
             self.queue.extend((delta, [*self.listeners]) for delta in deltas)
             for feed in self.feeds:
-                feed.extend(deltas)
+                feed(deltas)
 
     def tell(self) -> None:
         """Tells the listeners, one delta after the other; another thread, or a call of this one, may be about it."""

@@ -7,7 +7,7 @@ from collections.abc import Iterable, Mapping
 from typing import TypeVar, Union
 
 from . import _library as c
-from ._answers import Misused, NameRange
+from ._answers import Misused, NameRange, Side
 
 Buffer = Union[bytes, bytearray, memoryview]
 T = TypeVar("T")
@@ -29,6 +29,12 @@ def number(given: int, most: int, least: int = 0) -> int:
 
 def offset(given: int) -> int:
     return number(given, 127, -128)
+
+
+def side(given: Side) -> Side:
+    if given not in (-1, 1):
+        raise TypeError(f"a side is -1 or 1, not {given!r}")
+    return given
 
 
 def data(given: Buffer) -> bytes:

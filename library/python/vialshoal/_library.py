@@ -8,8 +8,10 @@ from collections.abc import Callable, Iterator
 from pathlib import Path
 from typing import NamedTuple, Union, cast
 
+MALFORMED = 1
 WRONG_TEXT = 2
 CONFLICT = 3
+BAD_OFFSET = 4
 ROOM_FULL = 6
 OUT_OF_MEMORY = 7
 BEHIND = 8

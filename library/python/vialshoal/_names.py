@@ -2,7 +2,9 @@
 from __future__ import annotations
 
 import struct
+from bisect import bisect_right
 from collections.abc import Iterable, Iterator
+from itertools import islice
 from typing import NamedTuple
 
 from ._answers import NameRange
@@ -26,23 +28,25 @@ def united(ranges: Iterable[NameRange]) -> list[NameRange]:
     return found
 
 
+def parts(it: NameRange, of: list[NameRange]) -> Iterator[tuple[NameRange, bool]]:
+    """The parts of a range, in order, each with whether its names are of a set."""
+    at, end = it.offset, it.offset + it.length
+    first = bisect_right(of, (it.site, at), key=lambda one: (one.site, one.offset + one.length))
+    for one in islice(of, first, None):
+        if (one.site, one.offset) >= (it.site, end):
+            break
+        beg, last = max(one.offset, at), min(one.offset + one.length, end)
+        if beg > at:
+            yield NameRange(it.site, at, beg - at), False
+        yield NameRange(it.site, beg, last - beg), True
+        at = last
+    if at < end:
+        yield NameRange(it.site, at, end - at), False
+
+
 def without(ranges: Iterable[NameRange], other: list[NameRange]) -> list[NameRange]:
     """The names of one set that aren't of another."""
-    found = []
-    holes = iter([*other, NameRange(1 << 16, 0, 0)])
-    hole = next(holes)
-    for it in ranges:
-        at, end = it.offset, it.offset + it.length
-        while (hole.site, hole.offset + hole.length) <= (it.site, at):
-            hole = next(holes)
-        while (hole.site, hole.offset) < (it.site, end):
-            found.append(NameRange(it.site, at, max(hole.offset - at, 0)))
-            at = max(at, hole.offset + hole.length)
-            if at >= end:
-                break
-            hole = next(holes)
-        found.append(NameRange(it.site, at, max(end - at, 0)))
-    return [it for it in found if it.length]
+    return [part for it in ranges for part, is_of_other in parts(it, other) if not is_of_other]
 
 
 class Effect(NamedTuple):

@@ -2,9 +2,9 @@
 from __future__ import annotations
 
 import ctypes
-from collections.abc import Callable, Mapping
-from ctypes import byref, c_uint32
-from typing import AnyStr
+from collections.abc import Callable, Iterator, Mapping
+from ctypes import byref, c_uint32, c_uint64
+from typing import AnyStr, Optional
 
 from . import _given as given
 from . import _library as c
@@ -68,6 +68,19 @@ class Replica(Shown[AnyStr]):
 
     def _let_go(self) -> None:
         done(c.calls.vialshoal_let_go(self._handle))
+
+    def _next_message(self, fronts: ctypes.Array[c.CSiteFront], index: c_uint64) -> Optional[bytes]:
+        """The next message of what was taken in past some fronts."""
+        number = c.calls.vialshoal_since(self._handle, fronts, len(fronts), byref(index), self._room, MESSAGE, byref(self._long))
+        if number == c.NO_MESSAGE:
+            return None
+        done(number)
+        return c.begin_of(self._room, self._long.value)
+
+    def _messages_past(self, fronts: Mapping[int, int]) -> Iterator[bytes]:
+        asked, index = given.fronts(fronts), c_uint64()
+        while (message := self._next_message(asked, index)) is not None:
+            yield message
 
     # -- how far sites are
 

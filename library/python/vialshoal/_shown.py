@@ -7,12 +7,13 @@ import threading
 from collections.abc import Callable, Iterator
 from ctypes import byref, c_uint64
 from functools import wraps
+from itertools import groupby
 from types import TracebackType
 from typing import Any, AnyStr, ClassVar, Concatenate, Generic, Literal, NoReturn, Optional, ParamSpec, TypeVar, Union, cast, overload
 
 from . import _given as given
 from . import _library as c
-from ._answers import Misused, Name, Place, Run, done
+from ._answers import Anchor, Misused, Name, NameRange, Place, Run, Side, done
 from ._code_points import CodePoints, begins, decoded
 
 # What positions and lengths count.
@@ -200,6 +201,16 @@ class Shown(Generic[AnyStr]):
         return [names[at] for at in begins(self._range(first, last))]
 
     @alone
+    def name_ranges(self, beg: int, end: int) -> list[NameRange]:
+        """The names of all bytes of a range, in stretches, as `Text.delete_names` takes them."""
+        found = []
+        names = self._names(self._byte(beg), self._byte(end))
+        for (site, before), neighbours in groupby(enumerate(names), lambda it: (it[1].site, it[1].offset - it[0])):
+            [(first, _), *more] = neighbours
+            found.append(NameRange(site, before + first, 1 + len(more)))
+        return found
+
+    @alone
     def place(self, name: Name) -> Place:
         """Where the character of a name is."""
         given.instance(name, Name)
@@ -207,3 +218,25 @@ class Shown(Generic[AnyStr]):
         done(self._reads.find(self._handle, given.number(name.site, given.MOST_SITE), given.number(name.offset, given.MOST),
                               byref(place)))
         return Place(self._pos(place.pos), place.is_shown)
+
+    @alone
+    def anchor(self, pos: int, side: Side = -1) -> Anchor:
+        """A place that stays, and where it is now (`position`)."""
+        given.side(side)
+        byte, length = self._byte(pos), self._length()
+        if byte > length:
+            raise Misused(c.OUT_OF_TEXT)
+        at = byte - (side < 0)
+        if at in (-1, length):
+            return Anchor(0, 0, side)
+        [name] = self._names(at, at + 1)
+        return Anchor(name.site, name.offset, side)
+
+    @alone
+    def position(self, anchor: Anchor) -> int:
+        """Where an anchor is now."""
+        side = given.side(given.instance(anchor, Anchor).side)
+        if anchor.site == 0:
+            return 0 if side < 0 else len(self)
+        place = self.place(Name(anchor.site, anchor.offset))
+        return place.pos - (side > 0 and place.is_shown)

@@ -13,10 +13,12 @@ from ._answers import Damaged, FrontsDiffer, Looks, NameRange, Refused, Settling
 from ._changing import Changing, edits, takes
 from ._code_points import encoded
 from ._composing import INSERT
+from ._deltas import Delta
 from ._given import Buffer
 from ._journal import Journal, Kept
-from ._shown import MESSAGE, Shown, Units, alone
+from ._shown import Shown, Units, alone
 from ._states import Digests, Fronts, SiteState, spelled, states_in
+from ._versions import between
 
 
 Path = Union[str, "os.PathLike[str]"]
@@ -340,13 +342,6 @@ class Text(Changing[AnyStr]):
         self._keep()
         return self._next_message(fronts, index)
 
-    def _next_message(self, fronts: ctypes.Array[c.CSiteFront], index: c_uint64) -> Optional[bytes]:
-        number = c.calls.vialshoal_since(self._handle, fronts, len(fronts), byref(index), self._room, MESSAGE, byref(self._long))
-        if number == c.NO_MESSAGE:
-            return None
-        done(number)
-        return c.begin_of(self._room, self._long.value)
-
     @alone
     def pack(self, fronts: Fronts = {}) -> list[bytes]:
         """What was taken in past these fronts, in chunks of 16,000 bytes at most, none where that is nothing: to unpack all,
@@ -358,6 +353,11 @@ class Text(Changing[AnyStr]):
     def past(self, fronts: Fronts) -> Past[AnyStr]:
         """The text as it was, up to these fronts."""
         return Past(self, fronts)
+
+    def diff(self, start: Fronts, end: Optional[Fronts] = None) -> Delta[AnyStr]:
+        """What makes the text as it was up to some fronts what it was up to others, or is now."""
+        with self.past(start) as was, self.past(self.fronts() if end is None else end) as now:
+            return Delta(False, between(was, now))
 
 
 class Past(Shown[AnyStr]):

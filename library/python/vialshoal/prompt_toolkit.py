@@ -4,12 +4,12 @@ typed there alone.
 The buffer is used by the thread of its application; the text may be changed by any."""
 from __future__ import annotations
 
+import math
 import re
 import threading
 from asyncio import AbstractEventLoop
 from collections import deque
 from collections.abc import Callable, Sequence
-from contextlib import suppress
 from typing import Any, Optional
 
 from prompt_toolkit.application.current import get_app_or_none
@@ -18,9 +18,8 @@ from prompt_toolkit.document import Document
 
 from ._answers import Refused
 from ._deltas import Delete, Delta, Insert
-from ._names import effect_of_all
 from ._text import Text
-from ._undo import Undo
+from ._undo import Undone, UndoManager
 
 # What no UTF-8 has, but for what stands for a byte that is of no character.
 _HALF = re.compile("[\ud800-\udc7f\udd00-\udfff]")
@@ -78,6 +77,10 @@ def _parts(beg: int, end: int, delta: Delta[str]) -> list[tuple[int, int]]:
     return [(first, last) for first, last in found if first < last]
 
 
+def _sent(undone: Optional[Undone]) -> Optional[list[bytes]]:
+    return None if undone is None else undone.chunks
+
+
 class BufferBinding:
     """A text and a buffer, until it is closed. `send` is called with the chunks of what was typed, taken back or done again, and
     `on_error` with what refuses that, or can't keep it, which is raised otherwise; the buffer shows what the text has then. `loop` is the
@@ -89,15 +92,15 @@ class BufferBinding:
             raise TypeError('a buffer counts code points: the text is to have units="code points"')
         self._text, self._buffer, self._send, self._on_error = text, buffer, send, on_error
         self._thread, self._loop = threading.get_ident(), loop
-        self._undo = Undo(text)
         self._is_showing = False
         self._shown = ""
         # What the buffer doesn't show yet.
         self._feed: deque[Delta[str]] = deque()
-        self._end = text.subscribe(self._heard)
         with text._lock:
-            text._deltas.feeds.append(self._feed)
+            self._end = text._feed(self._feed.extend, self._heard, is_manager=False)
             self._shown = text[:]
+        # (keys part what is taken back, and time doesn't)
+        self._undo = UndoManager(text, origins=[self], capture_time=math.inf)
         self._show(self._shown, 0)
         buffer.on_text_changed += self._typed
         # (what keys call, each before it edits, or to take edits back; and sessions, before they ask and after that)
@@ -109,8 +112,7 @@ class BufferBinding:
     def close(self) -> None:
         """Leaves the buffer as it is, and the text."""
         self._end()
-        with suppress(ValueError):
-            self._text._deltas.feeds.remove(self._feed)
+        self._undo.close()
         self._buffer.on_text_changed -= self._typed
         for name in self._instead:
             delattr(self._buffer, name)
@@ -119,7 +121,7 @@ class BufferBinding:
     # -- what is typed
 
     def _part(self, clear_redo_stack: bool = True) -> None:
-        self._undo.part()
+        self._undo.stop_capturing()
 
     def _reset(self, *words: Any, **named: Any) -> None:
         type(self._buffer).reset(self._buffer, *words, **named)
@@ -158,12 +160,10 @@ class BufferBinding:
             ranges = _left_of(beg, end, deltas)
             for delta in deltas:
                 beg = _moved(beg, delta)
-            before = self._text.fronts()
             for first, last in reversed(ranges):
                 self._text.delete(first, last)
             if put:
                 self._text.insert(beg, put)
-            self._undo.add(effect_of_all(self._text.since(before)))
         is_same = not deltas and not _BYTE.search(put) and put == self._shown[beg:beg + len(put)]
         self.refresh(anew=not is_same, cursor=None if is_same else beg + cursor)
         return chunks
@@ -217,8 +217,8 @@ class BufferBinding:
 
     def undo(self) -> None:
         """Takes back what was typed last that still does something."""
-        self._does(self._undo.undo)
+        self._does(lambda: _sent(self._undo.undo()))
 
     def redo(self) -> None:
         """Does again what was taken back last."""
-        self._does(self._undo.redo)
+        self._does(lambda: _sent(self._undo.redo()))
