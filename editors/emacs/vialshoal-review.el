@@ -523,8 +523,8 @@ With a prefix argument it is written in a buffer."
 ;;;###autoload
 (defun vialshoal-accept (thread)
   "Accept THREAD, the suggestion at point.
-Where its text has changed since, both are shown, and you are asked.
-`vialshoal-undo' takes it back."
+Where its text has changed since, both are shown, and
+`vialshoal-accept-anyway' accepts it.  `vialshoal-undo' takes it back."
   (interactive (list (vialshoal-review--open-suggestion)))
   (vialshoal-review--accept thread))
 
@@ -534,34 +534,71 @@ Where its text has changed since, both are shown, and you are asked.
     (apply #'vialshoal-review--ask
            (lambda (line)
              (if (equal (plist-get line :error) "changed")
-                 ;; Not within the filter, which may run while the user types.
-                 (run-at-time 0 nil #'vialshoal-review--accept-anyway
-                              note thread line)
+                 (vialshoal-review--show-what-changed note thread line)
                (funcall (vialshoal--unless-done "It was accepted already")
                         line)))
            :do "accept" :to (plist-get thread :id) more)))
 
-(defun vialshoal-review--accept-anyway (note thread line)
-  "Ask the user whether THREAD of NOTE is accepted although the text changed.
-LINE, the answer to `accept', has what it was and is now."
+(defvar-local vialshoal-review--changed nil
+  "The suggestion whose text has changed, as this buffer shows.")
+
+(defvar vialshoal-accept-mode-map
+  (let ((map (make-sparse-keymap)))
+    (define-key map "a" #'vialshoal-accept-anyway)
+    map)
+  "The keys of `vialshoal-accept-mode'.")
+
+(define-derived-mode vialshoal-accept-mode special-mode "Note-Accept"
+  "A suggestion whose text has changed since it was made.
+\\{vialshoal-accept-mode-map}"
+  (setq-local local-enable-local-variables nil))
+
+(defun vialshoal-review--name-of-changed (thread)
+  "Return the name of the buffer about how the text of THREAD changed."
+  (format "*accept %s*" (plist-get thread :id)))
+
+(defun vialshoal-review--show-what-changed (note thread line)
+  "Show how the text of THREAD of NOTE changed, by LINE, an answer.
+The user may be typing, so nothing is asked, and no other window selected."
   (when (buffer-live-p note)
-    (save-window-excursion
-      (let ((shown (get-buffer-create "*accept*")))
-        (with-current-buffer shown
+    (let ((shown (get-buffer-create (vialshoal-review--name-of-changed
+                                     thread))))
+      (with-current-buffer shown
+        (vialshoal-accept-mode)
+        (setq vialshoal-review--note note
+              vialshoal-review--changed thread)
+        (let ((inhibit-read-only t))
           (erase-buffer)
           (pcase-dolist (`(,what ,words) '((:was "It was:")
                                            (:now "It is now:")
                                            (:new "Suggested is:")))
             (insert words "\n" (vialshoal-review--shown (plist-get line what))
                     "\n\n"))
-          (special-mode))
-        (unwind-protect
-            (progn
-              (display-buffer shown)
-              (when (y-or-n-p "The text has changed since.  Accept it anyway? ")
-                (with-current-buffer note
-                  (vialshoal-review--accept thread :anyway t))))
-          (kill-buffer shown))))))
+          (insert (substitute-command-keys
+                   "\\[vialshoal-accept-anyway] accepts it, \\[quit-window] \
+leaves it open.\n")))
+        (goto-char (point-min)))
+      (display-buffer shown '(nil (inhibit-same-window . t)
+                                  (inhibit-switch-frame . t)))
+      (with-current-buffer note
+        (vialshoal--say (concat (plist-get line :words) "  Accept it anyway: "
+                                "M-x vialshoal-accept-anyway"))))))
+
+;;;###autoload
+(defun vialshoal-accept-anyway (thread)
+  "Accept THREAD, the suggestion at point, although its text has changed.
+`vialshoal-accept' has shown how."
+  (interactive (list (or vialshoal-review--changed
+                         (vialshoal-review--open-suggestion))))
+  (let ((note (vialshoal-review--here))
+        (shown (get-buffer (vialshoal-review--name-of-changed thread))))
+    (unless shown
+      (user-error "First M-x vialshoal-accept"))
+    (if-let ((window (get-buffer-window shown t)))
+        (quit-window t window)
+      (kill-buffer shown))
+    (with-current-buffer note
+      (vialshoal-review--accept thread :anyway t))))
 
 ;;;###autoload
 (defun vialshoal-revise (record &optional body)

@@ -1634,7 +1634,8 @@ STRETCH, a property list, says where, as the text is here."
                '(("vialshoal-review"
                   vialshoal-remark vialshoal-suggest vialshoal-reply
                   vialshoal-resolve vialshoal-reopen vialshoal-reject
-                  vialshoal-accept vialshoal-revise vialshoal-withdraw
+                  vialshoal-accept vialshoal-accept-anyway
+                  vialshoal-revise vialshoal-withdraw
                   vialshoal-show-remark vialshoal-next-remark
                   vialshoal-previous-remark)
                  ("vialshoal-remarks" vialshoal-remarks)

@@ -12,7 +12,7 @@ class InText:
     """A text, of which all is let through that can be, as it is now."""
 
     def __init__(self, judge: MessageJudge, twigs: Twigs, text: int):
-        self._sayings, self._twigs, self._one = judge.sayings, twigs, judge.texts.get(text)
+        self._sayings, self._twigs, self._texts, self._text = judge.sayings, twigs, judge.texts, text
         # How many messages of each twig are a message that is named or before it, by that, and the message of a line below them.
         self._below: dict[bytes, tuple[dict[int, int], int | None]] = {}
 
@@ -55,8 +55,9 @@ class InText:
         sayings = self._sayings
         for twig, number in self._twigs.down(sayings.number(last)):
             if twig is None:
-                line = self._line(sayings.client(number).site)
-                return line.branch.numbers[seq - 1] if line and 0 < seq <= sayings.seq(number) else None
+                # What follows a message of another text is in no line, but may be spoken of.
+                _, site, text = sayings.client(number)
+                return self._texts[text].lines[site].branch.numbers[seq - 1] if 0 < seq <= sayings.seq(number) else None
             if twig.first <= seq < twig.first + number:
                 return twig.numbers[seq - twig.first]
         return None
@@ -78,4 +79,5 @@ class InText:
         return self._below[last]
 
     def _line(self, site: int) -> MessageChain | None:
-        return self._one.lines.get(site) if self._one else None
+        one = self._texts.get(self._text)
+        return one.lines.get(site) if one else None

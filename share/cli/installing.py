@@ -20,10 +20,11 @@ from share.text.errors import Trouble
 PREFIX = "/usr/local"
 LIB, CURRENT, MANIFEST, NEW = "lib", "vialshoal", "installed", "new"
 TREE = re.compile(r"vialshoal-[0-9a-f]{8}")
-ROOMS = ("text", "format", "admission", "review", "log", "program", "store", "sync", "engine", "editors", "cli")
+ROOMS = ("text", "format", "admission", "review", "log", "relay", "program", "store", "sync", "engine", "editors", "cli")
 PARTS = ("bin/note", "bin/built", "share/*.py", *(f"share/{room}/**/*.py" for room in ROOMS), "share/editors/web/*.*",
+         "share/relay/site/*.*",
          "share/completions/*", "share/systemd/*", "editors/emacs/*.el", "editors/neovim/plugin/*.lua",
-         "editors/neovim/lua/vialshoal/*.lua", "editors/neovim/doc/*", "docs/SHARING.md", "docs/ENGINE.md", "docs/man/*.1")
+         "editors/neovim/lua/vialshoal/*.lua", "editors/neovim/doc/*", "docs/SHARING.md", "docs/ENGINE.md", "docs/RELAY.md", "docs/man/*.1")
 PROGRAM = str(BUILT.relative_to(TOP))
 PROGRAM_BUILT_FROM = str(BUILT.with_name(BUILT_FROM).relative_to(TOP))
 # What is looked for elsewhere, and where it is in the folder.
@@ -45,7 +46,8 @@ LINKS = {
 }
 # What has to be a file of its own there, told by how it begins: systemd goes on with the file that a link leads to, which the next version
 # takes away.
-COPIES = {"lib/systemd/user/vialshoal-sync.service": "share/systemd/vialshoal-sync.service"}
+COPIES = {"lib/systemd/user/vialshoal-sync.service": "share/systemd/vialshoal-sync.service",
+          "lib/systemd/system/vialshoal-relay.service": "share/systemd/vialshoal-relay.service"}
 BEGIN_OF_COPY = b"# Of Vialshoal: "
 PLACES = (*LINKS, *COPIES)
 RUN = ("bin/note", "bin/built", PROGRAM)
@@ -54,7 +56,7 @@ Manifest = dict[str, list[str]]
 INSTALLING_VERBS = ("install", "uninstall")
 ABOUT = {
     "install": "Installs note and site_cli, the Emacs package, the Neovim plug-in, the manual's pages, what shells complete "
-               "and a service that syncs notes, in place of what was installed before. What is there of others is refused.",
+               "and services that sync notes and relay them, in place of what was installed before. What is there of others is refused.",
     "uninstall": "Takes away what install has put there, and nothing else.",
 }
 DESTDIR_AND_STATUSES = ("A packager sets DESTDIR, the folder below which the files are to be. "

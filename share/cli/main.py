@@ -6,7 +6,7 @@ import signal
 import subprocess
 import sys
 
-from share.cli import installing, scripts, verbs
+from share.cli import installing, relaying, scripts, verbs
 from share.cli.output import report
 from share.cli.script_words import ALONE, SCRIPT_VERBS
 from share.cli.words import parsed
@@ -48,6 +48,8 @@ def done(words: list[str]) -> int:
         return subprocess.run([*command(), "--version"], check=False).returncode
     if words and words[0] in installing.INSTALLING_VERBS:
         return installing.run(words)
+    if words and words[0] == relaying.RELAY_VERB:
+        return relaying.run_relay(words)
     return verbs.run_note_verb(parsed(words))
 
 

@@ -9,7 +9,10 @@ from share.cli.output import print_bytes, print_json, print_text, quoted, report
 from share.cli.script_words import WHICH_TEXTS
 from share.engine import server
 from share.format.history import Messages
+from share.format.link import is_relay
 from share.format.operation import INSERT, TEXT
+from share.format.second.key_link import KeyLink, link_of
+from share.format.second.saved import saved_note
 from share.log.folder import stands_still
 from share.log.sqlite_file import WRITTEN_AHEAD, beside
 from share.program import replay, retyping
@@ -45,15 +48,28 @@ def export(given: argparse.Namespace) -> int:
     if given.format == "critic" or given.remarks:
         if given.of_text != TEXT or given.format == "text":
             raise Trouble("Remarks and suggestions are about a note's text 1, and are written as html or as critic.")
-    there = _what_there_is(given)
-    data, missing = (critic_files.exported if given.format == "critic" else _exported)(given, there)
+    data, missing = _exported_whole(given) if given.format == "note" else _exported_text(given)
     if given.file == "-":
         print_bytes(data)
     elif not given.replace and atomic.exists(given.file):
         raise Trouble(f"{given.file} exists. --replace replaces it.")
     else:
-        atomic.save(given.file, data)
+        atomic.save(given.file, data, is_private=given.format == "note")
     return report_missing(missing)
+
+
+def _exported_text(given: argparse.Namespace) -> tuple[bytes, list[str]]:
+    there = _what_there_is(given)
+    return (critic_files.exported if given.format == "critic" else _exported)(given, there)
+
+
+def _exported_whole(given: argparse.Namespace) -> tuple[bytes, list[str]]:
+    """All of a note as one file, and what is missing in it."""
+    found = read_only.found_in(notes.existing(given.name))
+    link = link_of(notes.link_to(given.name))
+    if not isinstance(link, KeyLink) or not is_relay(link.url):
+        raise Trouble(f"The note {given.name} isn't at a relay. bin/note renew {given.name} --log https://HOST copies it into one that is.")
+    return saved_note(link, [one.raw for one in found.entries]), found.faults
 
 
 def _exported(given: argparse.Namespace, there: Judged) -> tuple[bytes, list[str]]:

@@ -84,8 +84,9 @@ def _add_import_and_export(verb: Callable[..., argparse.ArgumentParser]) -> None
     more.add_argument("--format", choices=("text", "critic"), default="text",
                       help="critic makes the file's suggestions and remarks, as far as they aren't there; its text has to be the note's")
     export = verb("export", "writes a note's text as a file", "FILE", more="- is standard output.\n" + CRITIC)
-    export.add_argument("--format", choices=("text", "html", "critic"), default="text",
-                        help="html has the looks, too; critic the remarks and suggestions")
+    export.add_argument("--format", choices=("text", "html", "critic", "note"), default="text",
+                        help="html has the looks, too; critic the remarks and suggestions; note all of a relay's note, with its link, as "
+                        "its page and recover read it")
     export.add_argument("--remarks", action="store_true", help="html: with the remarks and suggestions in the margin")
     export.add_argument("--all", action="store_true", help="also those that are settled")
     export.add_argument("--replace", action="store_true", help="replace a file that is there")

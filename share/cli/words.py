@@ -1,13 +1,15 @@
 """The words of bin/note's command line."""
 import argparse
 
-from share.cli import installing, script_words
+from share.cli import installing, relaying, script_words
+from share.format.link import NO_ARGUMENT, is_link
 from share.text.errors import Trouble
 
 USAGE = """\
 Opens a shared note in the terminal. Whoever has opened the same note edits it at once.
 
-  bin/note NAME                   opens a note; one that isn't here is made, or joined by its link
+  bin/note NAME                   opens a note; one that isn't here is made, or joined by its link, also a page's address,
+                                  which is pasted where it is asked for
   bin/note NAME --print           prints it
   bin/note web NAME               opens it in the browser, or prints the file that a browser opens it by
   bin/note engine NAME            speaks JSON, for editors; docs/ENGINE.md has the protocol
@@ -17,6 +19,7 @@ Opens a shared note in the terminal. Whoever has opened the same note edits it a
   bin/note recover FOLDER ..      brings notes back from what is left of people's data folders
   bin/note recover --lost NAME    shows what was left out of a note for good, and types it again
   bin/note open NAME              opens a note that has the name of one of these
+  bin/note relay                  carries others' notes, which it can't read; --help tells more
   bin/note install, uninstall     puts all this under a prefix, or takes it away; --help tells more
 
 for scripts, each with --help:
@@ -56,12 +59,13 @@ keys:
 FILES_AND_STATUSES = """\
 A note is a file in the data folder: VIALSHOAL_DATA, else $XDG_DATA_HOME/vialshoal, else
 ~/.local/share/vialshoal. All of it is there, so it can be read and edited without any log. To share it, --log
-names a log as the note is made: redis://HOST:PORT, rediss://HOST:PORT with TLS, unix:///PATH, or the path of a
-file for two accounts of one machine. A note on a server is sealed: give the others its link, by a way on which
-nobody else reads it.
+names a log as the note is made: https://HOST of a relay, redis://HOST:PORT, rediss://HOST:PORT with TLS,
+unix:///PATH, or the path of a file for two accounts of one machine. A note on a server is sealed: give the others
+its link, by a way on which nobody else reads it.
 
 A link is read from VIALSHOAL_LINK, from the file that --link-file names, or asked for; a server's password from
-VIALSHOAL_PASSWORD or the file that --password-file names. A server needs Debian's python3-nacl.
+VIALSHOAL_PASSWORD or the file that --password-file names. A server needs Debian's python3-nacl,
+a relay python3-aiohttp and python3-cryptography.
 VIALSHOAL_NAME is what others see at your cursor, without it your account's name. VIALSHOAL_PAUSE is how many
 seconds of silence end an edit that Ctrl-Z takes back, without it 1, and a suggestion as you type it, without it 4.
 VIALSHOAL_PROGRAM names another program than bin/built; VIALSHOAL_BUILD, which is proved, tried or rust, one of its
@@ -72,7 +76,7 @@ in what it printed, which standard error says. docs/SHARING.md says more.
 """
 NOTE_VERBS = ("open", "web", "engine", "link", "renew", "recover")
 # Each has words of its own.
-OTHER_VERBS = (*script_words.SCRIPT_VERBS, *installing.INSTALLING_VERBS)
+OTHER_VERBS = (*script_words.SCRIPT_VERBS, *installing.INSTALLING_VERBS, relaying.RELAY_VERB)
 
 
 def parsed(words: list[str]) -> argparse.Namespace:
@@ -99,6 +103,8 @@ def parsed(words: list[str]) -> argparse.Namespace:
     parser.add_argument("--password-file", metavar="FILE", help="a file that has the server's password")
     given = parser.parse_intermixed_args(words)
     given.verb, given.names = _verb(given.names)
+    if any(map(is_link, given.names)):
+        raise Trouble(NO_ARGUMENT)
     if len(given.names) != 1 and (given.verb != "recover" or given.lost):
         parser.error("one NAME is needed")
     return given

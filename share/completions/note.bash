@@ -29,6 +29,10 @@ _note_options() {
         delete) echo '--help --json --yes' ;;
         sync) echo '--help --json --every --password-file' ;;
         install | uninstall) echo '--help --prefix' ;;
+        relay)
+            echo '--help --listen --url --log --password-file --certificate --key --origin --forwarded --note-bytes --entries-a-second'
+            echo '--new-notes-an-hour --connections --digests --write-page'
+            ;;
         web) echo "--help $log --no-browser --new --form" ;;
         renew) echo "--help $log --fresh --without --yes --form" ;;
         recover) echo "--help $log --lost" ;;
@@ -40,22 +44,22 @@ _note_options() {
 
 _note() {
     local word=${COMP_WORDS[COMP_CWORD]} before=${COMP_WORDS[COMP_CWORD - 1]} verb='' offered=''
-    local verbs='accept append cat changed delete engine export history import install link list log open recover reject remark remarks'
+    local verbs='accept append cat changed delete engine export history import install link list log open recover reject relay remark remarks'
     verbs+=' rename renew reopen replace reply resolve revise search suggest sync uninstall web withdraw'
     [[ $COMP_CWORD -gt 1 ]] && verb=${COMP_WORDS[1]}
     COMPREPLY=()
     case $before in
-        --link-file | --password-file)
+        --link-file | --password-file | --certificate | --key)
             mapfile -t COMPREPLY < <(compgen -f -- "$word")
             return
             ;;
-        --prefix)
+        --prefix | --write-page)
             mapfile -t COMPREPLY < <(compgen -d -- "$word")
             return
             ;;
         --format)
             offered='text critic'
-            [[ $verb == export ]] && offered+=' html'
+            [[ $verb == export ]] && offered+=' html note'
             mapfile -t COMPREPLY < <(compgen -W "$offered" -- "$word")
             return
             ;;
@@ -64,11 +68,12 @@ _note() {
             return
             ;;
         --log | --at | --on | --author | --until | --without | --every | --form | --text) return ;;
+        --listen | --url | --origin | --note-bytes | --entries-a-second | --new-notes-an-hour | --connections) return ;;
         *)
             case $word,$verb in
                 -*) offered=$(_note_options "$verb") ;;
                 *,'') offered="$verbs $(_note_names "$word")" ;;
-                *,install | *,uninstall | *,list | *,search) ;;
+                *,install | *,uninstall | *,list | *,search | *,relay) ;;
                 *,rename | *,remark | *,suggest | *,reply | *,resolve | *,reopen | *,accept | *,reject | *,revise | *,withdraw)
                     [[ $COMP_CWORD -eq 2 ]] && offered=$(_note_names "$word")
                     ;;

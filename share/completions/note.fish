@@ -1,6 +1,6 @@
 # Completes what note is given in fish: verbs, options, and the names of the notes that are here.
 
-set -l verbs accept append cat changed delete engine export history import install link list log open recover reject remark remarks rename renew
+set -l verbs accept append cat changed delete engine export history import install link list log open recover reject relay remark remarks rename renew
 set -a verbs reopen replace reply resolve revise search suggest sync uninstall web withdraw
 # Those that name one note, and then no file.
 set -l once accept reject remark rename reopen reply resolve revise suggest withdraw
@@ -28,7 +28,7 @@ end
 
 complete -c note -f
 complete -c note -n '__note_has -eq 1' -a "$verbs"
-complete -c note -n "__note_has -eq 1; or not __note_verb install uninstall list search recover $once" -a '(__note_names)'
+complete -c note -n "__note_has -eq 1; or not __note_verb install uninstall list search recover relay $once" -a '(__note_names)'
 complete -c note -n "__note_verb $once; and __note_has -eq 2" -a '(__note_names)'
 complete -c note -n '__note_verb import export recover' -F
 complete -c note -l help
@@ -42,7 +42,7 @@ end
 complete -c note -n "__note_has -eq 1; or __note_verb $logged sync remarks" -l password-file -r -F
 complete -c note -n "__note_verb $scripts" -l json
 complete -c note -n '__note_has -eq 1; or __note_verb append import web open' -l new
-complete -c note -n '__note_verb export' -l format -x -a 'text html critic'
+complete -c note -n '__note_verb export' -l format -x -a 'text html critic note'
 complete -c note -n '__note_verb import' -l format -x -a 'text critic'
 complete -c note -n '__note_verb export' -l replace
 complete -c note -n '__note_verb export' -l remarks
@@ -57,6 +57,15 @@ complete -c note -n '__note_verb changed' -l since -xa looked
 complete -c note -n '__note_verb changed' -l until -x
 complete -c note -n '__note_verb sync' -l every -x
 complete -c note -n '__note_verb install uninstall' -l prefix -r
+complete -c note -n '__note_verb relay' -l forwarded
+complete -c note -n '__note_verb relay' -l digests
+complete -c note -n '__note_verb relay' -l write-page -r
+for option in listen url log origin note-bytes entries-a-second new-notes-an-hour connections
+    complete -c note -n '__note_verb relay' -l $option -x
+end
+for option in password-file certificate key
+    complete -c note -n '__note_verb relay' -l $option -r -F
+end
 complete -c note -n '__note_has -eq 1; or __note_verb web' -l no-browser
 complete -c note -n '__note_has -eq 1; or __note_verb open' -l print
 complete -c note -n '__note_has -eq 1; or __note_verb renew' -l fresh

@@ -92,7 +92,7 @@ class InPlace:
     def receive(self, seconds: float) -> bytes:
         """What came of it, and of others' edits."""
         self._engine.turn()
-        if not self._out and self._bell.waits(min(seconds, RECEIVE_SECONDS)):
+        if not (self._out or self._engine.has_more()) and self._bell.waits(min(seconds, RECEIVE_SECONDS)):
             self._bell.silence()
         data = bytes(self._out)
         self._out.clear()

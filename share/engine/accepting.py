@@ -3,6 +3,7 @@ of who accepts it."""
 from share.engine.arrivals import Arrivals
 from share.engine.by_name import ByName, see_all_done
 from share.engine.editor import Peer
+from share.engine.margin_writing import MarginWriting
 from share.engine.margins import Stood
 from share.engine.protocol import Wrong
 from share.engine.shared_text import SharedText
@@ -18,8 +19,9 @@ from share.text.rope import readable, swapped
 class Accepting:
     """The request `accept`. The engine's thread alone calls it."""
 
-    def __init__(self, session: Session, text: SharedText, arrivals: Arrivals, by_name: ByName):
-        self._session, self._text, self._arrivals, self._by_name = session, text, arrivals, by_name
+    def __init__(self, session: Session, text: SharedText, arrivals: Arrivals, by_name: ByName, writing: MarginWriting):
+        self._session, self._text, self._arrivals, self._by_name, self._writing = session, text, arrivals, by_name, writing
+        by_name.accepted = writing.accepted
 
     def accept(self, peer: Peer, shown: Stood, is_anyway: bool) -> Line:
         """Accepts a suggestion, which has this place now; or tells how the passage was changed since, but where it is asked for anyway."""
@@ -39,10 +41,11 @@ class Accepting:
         self._arrivals.check_typing()
         peer.coalescing.stop()
         peer.gap = None
-        step = Step(came=united(thread.new), went=united(thread.anchor.at))
+        step = Step(came=united(thread.new), went=united(thread.anchor.at), accepts=thread.first.name)
         changed = self._by_name.make(peer, step, redo=True, jumps=peer, sees=sees)
         if changed.does_something():
             peer.undoing.add(changed)
+            self._writing.accepted(peer, thread.first.name, True)
         return {"done": changed.does_something()}
 
     def _see_in_its_place(self, site: Site, shown: Stood) -> None:

@@ -15,7 +15,7 @@ from share.sync.session import Session
 from share.text.errors import Refused, Trouble
 from share.text.line import Line
 from share.text.looks import Looked, setting
-from share.text.names import united
+from share.text.names import Name, united
 
 SeesEdit = Callable[[Site, Edited], None]
 
@@ -32,6 +32,8 @@ class ByName:
 
     def __init__(self, session: Session, text: SharedText, arrivals: Arrivals, authors: Authors):
         self._session, self._text, self._arrivals, self._authors = session, text, arrivals, authors
+        # Is told whose acceptance of a suggestion was done again, or is taken back now.
+        self.accepted: Callable[[Peer, Name, bool], None] = lambda peer, name, redo: None
 
     def undo(self, peer: Peer, redo: bool, request: Line) -> Line:
         """Takes back an editor's last edit that changes something, or does it again; the last one within a stretch, where the
@@ -41,11 +43,23 @@ class ByName:
         peer.coalescing.stop()
         peer.gap = None
         while step := peer.undoing.next(redo, among):
+            if step.accepts and not redo and self._has_to_undo(step):
+                # Before the text says so: else others would see it settled, and not accepted, for a while.
+                self.accepted(peer, step.accepts, False)
+                if peer.undoing.next(redo, among) is not step:
+                    continue
             changed = self.make(peer, step, redo, None if among else peer)
             peer.undoing.done(redo, step, changed)
             if changed.does_something():
+                if step.accepts and redo:
+                    self.accepted(peer, step.accepts, True)
                 return {"done": True}
         return {"done": False}
+
+    def _has_to_undo(self, step: Step) -> bool:
+        """Whether something of what an edit brought is shown, or something of what it took away isn't."""
+        came, went = (sum(len(one.data) for some in self._session.site.where(names) for one in some) for names in (step.came, step.went))
+        return came > 0 or went < sum(one.length for one in step.went)
 
     def _within(self, peer: Peer, request: Line) -> set[int]:
         """The steps of undo within the stretch of a request."""
@@ -73,7 +87,7 @@ class ByName:
         """Takes an edit back, or does it; what that changed. The cursor of an editor may go there. Who sees what was done may raise
         Wrong, and then nothing of it was."""
         told: list[Told] = []
-        changed = Step()
+        changed = Step(accepts=step.accepts)
 
         def work(site: Site) -> Edited:
             edited = do(site, step, redo, told, changed)

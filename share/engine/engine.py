@@ -78,8 +78,6 @@ class Engine:
                 return
             self._has_asked = True
             answer = self._done(peer, request)
-        except Wrong as why:
-            answer = {"error": why.code, "words": str(why), **why.more}
         except Exception as fault:  # pylint: disable=broad-except
             # Whatever it is, the other requests go on.
             answer = protocol.failure(fault)

@@ -1,7 +1,8 @@
 """A note's margin as its editors are shown it: its threads, where each is in the text, and how many are open. It follows what comes into
 the margin and into the text; where a thread is, is looked for only where that is asked for."""
+from collections import deque
 from collections.abc import Iterable, Sequence
-from itertools import islice, starmap
+from itertools import islice
 from typing import NamedTuple
 
 from share.engine.any_shown import AnyShown
@@ -19,8 +20,9 @@ from share.sync.session import Session
 from share.text.change import Change
 from share.text.names import Name, Names, united
 
-# The most threads that are shown; and how many messages are handed to the second run of the program at once.
-MOST_THREADS, MOST_ORDERED_AT_ONCE = 100_000, 20_000
+# The most threads that are shown; how many messages are handed to the second run of the program at once; and how many messages and
+# threads are looked at before keys are.
+MOST_THREADS, MOST_ORDERED_AT_ONCE, MOST_IN_A_SLICE = 100_000, 20_000, 300
 
 
 class Stood(NamedTuple):
@@ -47,17 +49,21 @@ class FoundThread(NamedTuple):
 class ShownMargin:
     """The threads that are shown. The engine's thread alone calls it."""
 
+    _search: "_Search | None"
+
     def __init__(self, session: Session):
         self._session = session
         self.order = FullOrder()
         self.forget()
-        # Rises as the margin, or what is told of a thread, may be otherwise.
-        self.times = 0
+        # Rises as the margin, or what is told of a thread, may be otherwise, once all is looked at; whether it is to rise then.
+        self.times, self._is_news = 0, False
 
     def forget(self) -> None:
         """Begins anew, with nothing."""
         # Where threads were as all were looked at, and which are near; what came and went of their characters since.
         self._spots, self._nearby, self._touched = dict[Name, Spot](), Nearby(), list[Names]()
+        # Those that may be otherwise and are to be looked at; and where all are being looked for.
+        self._waiting, self._search = deque[Name](), None
         # What they are about; those that hold; what others lack for that.
         self._about, self._held, self._lacking = dict[Name, AboutText](), set[Name](), NameIndex[Name]()
         # All characters that they are about, and who is about some.
@@ -68,41 +74,59 @@ class ShownMargin:
         self._said_open, self._open = set[Name](), set[Name]()
         # Those that may hold now, and those that may be open now or not.
         self._due, self._counted = set[Name](), set[Name]()
+        # All in the order of their places, as long as nothing has changed since somebody asked.
+        self.ordered: list[FoundThread] | None = None
 
     def moved(self, change: Change, is_known: bool) -> None:
         """Follows a change of the text, of which it may be known that it is what came or went."""
-        self._nearby.moved(change, is_known)
+        self.ordered = None
+        for near in self._all_nearby():
+            near.moved(change, is_known)
+
+    def _all_nearby(self) -> list[Nearby]:
+        """What follows which threads are near."""
+        return [self._nearby, *([self._search.nearby] if self._search else [])]
 
     def look(self) -> None:
-        """Takes over what came into the margin and the text. Where that fails all is looked at anew the next time."""
+        """Takes over all that came into the margin and the text."""
+        while self.look_on():
+            pass
+
+    def look_on(self) -> bool:
+        """Takes over some of what came; whether there is more. Where that fails all is looked at anew the next time."""
         try:
-            self._look()
+            self._look_on()
+            return bool(self._waiting) or self._session.margin.has_more()
         except BaseException:
             self._session.margin.forget()
             raise
 
-    def _look(self) -> None:
+    def _look_on(self) -> None:
         margin = self._session.margin
-        changed, (messages, is_anew) = margin.read_on(), margin.of_text.more()
+        changed, (messages, is_anew) = margin.read_on(MOST_IN_A_SLICE), margin.of_text.more()
         if changed is None or is_anew:
             self.forget()
-            changed = {*margin.said.threads()}
-            self.times += 1
+            changed, self._is_news = {*margin.said.threads()}, True
         else:
-            self.times += bool(changed)
             runs = [run for run in messages.runs() if self._names.meets(run.names)] if self._spots else []
-            self.times += bool(runs)
+            self._is_news |= bool(changed or runs)
+            self.ordered = None if changed or runs or self._waiting else self.ordered
             for run in runs:
                 self._follow(run)
-        self._touch(sorted(changed, key=margin.said.key))
+        self._waiting.extend(sorted(changed, key=margin.said.key))
+        self._touch(self._waiting.popleft() for _ in range(min(MOST_IN_A_SLICE, len(self._waiting))))
         self._hold()
         self._count()
-        self._nearby.look(self._session.site)
+        for near in self._all_nearby():
+            near.look(self._session.site)
+        if self._is_news and not (self._waiting or margin.has_more()):
+            self.times, self._is_news = self.times + 1, False
 
     def _follow(self, run: Operation) -> None:
         """Notes what came or went of what threads are about."""
         self._touched += run.names
-        self._nearby.follow(run)
+        for near in self._all_nearby():
+            near.follow(run)
         self._replaced.follow(run)
         if run.data:
             self._due |= self._lacking.meeting(run.names)
@@ -138,7 +162,8 @@ class ShownMargin:
                 self._replaced.remove(name)
                 lacks = lacking(about.anchor, about.new, knows)
                 self._lacking.add([Names(*lacks, 1)] if lacks else [], name)
-            self._nearby.add(name)
+            for near in self._all_nearby():
+                near.add(name)
         self._counted |= self._due
         self._due = set()
 
@@ -178,6 +203,42 @@ class ShownMargin:
         """These threads, and where they are."""
         return [Stood(self._session.margin.said.thread(one.name), one.spot) for one in found]
 
+    def search_on(self) -> bool:
+        """Looks where some of all threads are, if all are to be looked for; whether there are more. Where that fails all is looked at anew
+        the next time."""
+        try:
+            if self._search is None and self._nearby.has_to_settle():
+                self._begin_search()
+            return self._search is not None and self._go_on_with(self._search)
+        except BaseException:
+            self._session.margin.forget()
+            raise
+
+    def _begin_search(self) -> None:
+        held = [name for name in self._spots if name in self._held]
+        self._search, self._touched, self.ordered = _Search(held), [], None
+        self._spots |= {name: Spot() for name in self._spots if name not in self._held}
+
+    def _go_on_with(self, search: "_Search") -> bool:
+        """Looks where some are; whether there are more."""
+        changes, site, self.ordered = search.nearby.changes, self._session.site, None
+        if changes is None:
+            self._search = None
+            return True
+        names = search.next()
+        abouts = {name: self._about[name] for name in names if name in self._held}
+        whereabouts = Whereabouts((some for about in abouts.values() for some in asked(about)), site)
+        found = {name: placed(about, whereabouts) for name, about in abouts.items()}
+        # A hidden character's place is told as it is now.
+        if not changes and self.lacks(spots := [one.spot for one in found.values()]) <= MOST_ORDERED_AT_ONCE:
+            _with_places(spots, site, self.order)
+        since = Followed(changes) if changes else None
+        search.put([_settled(name, abouts[name], one, whereabouts) for name, one in found.items()], whereabouts.shown(), since)
+        self._spots |= {name: one.spot if not since or since.moved_back(one.spot) else search.lost(name) for name, one in found.items()}
+        if not names:
+            self._nearby, self._search = search.settled(site), None
+        return bool(names)
+
     def within(self, begin: int, end: int) -> list[FoundThread]:
         """The threads that are shown within a stretch, in their order there; places of hidden characters are left out, where these may be
         within it."""
@@ -190,6 +251,12 @@ class ShownMargin:
         self._settle()
         key = self._session.margin.said.key
         return [FoundThread(name, key(name), spot) for name, spot in self._spots.items()]
+
+    def in_order(self) -> Sequence[FoundThread]:
+        """All threads in the order of their places; found once, however many parts of that are asked for before something changes."""
+        if self.ordered is None:
+            self.ordered = self.in_places(self.all())
+        return self.ordered
 
     def _settle(self) -> None:
         """Looks where all are now, those of which no character went or came by the changes of the text alone."""
@@ -212,12 +279,8 @@ class ShownMargin:
         if self.lacks(spots) <= MOST_ORDERED_AT_ONCE:
             _with_places(spots, site, self.order)
         self._spots |= {name: found[name].spot if name in found else Spot() for name in lost}
-
-        def settled(name: Name, one: Placed) -> Settled:
-            by, names = head(abouts[name].anchor), tuple(asked(abouts[name]))
-            return Settled(name, names, one, one.spot.begin is not None and (not by[0] or one.spot.hidden == by)
-                           or whereabouts.of(Names(*by, 1)) is not None)
-        self._nearby.settle(kept, starmap(settled, found.items()), whereabouts.shown(), site)
+        looked_at = (_settled(name, abouts[name], one, whereabouts) for name, one in found.items())
+        self._nearby.settle(kept, looked_at, whereabouts.shown(), site)
 
     def _located(self, names: Iterable[Name]) -> list[FoundThread]:
         """Where some are now, but for places of hidden characters."""
@@ -231,6 +294,40 @@ class ShownMargin:
     def close(self) -> None:
         """Ends the second run of the program, where there is one."""
         self.order.close()
+
+
+class _Search:
+    """Threads that are looked for some at a time, as of the moment in which that began; and what follows since which of them are near."""
+
+    def __init__(self, names: Iterable[Name]):
+        self._left, self._seen = iter(names), list[Names]()
+        self.nearby = Nearby()
+        self.nearby.begin()
+
+    def next(self) -> list[Name]:
+        """Some that weren't looked for; none once all were."""
+        return [*islice(self._left, MOST_IN_A_SLICE)]
+
+    def put(self, found: Iterable[Settled], seen: Iterable[Names], since: Followed | None) -> None:
+        """Takes over where some are now, after changes since it began, if there are any, and what of their characters is shown."""
+        self.nearby.put(found, since)
+        self._seen += seen
+
+    def lost(self, name: Name) -> Spot:
+        """Has one be looked for wherever it is, since it wasn't there as this began."""
+        self.nearby.anywhere.add(name)
+        return Spot()
+
+    def settled(self, site: Site) -> Nearby:
+        """What follows them, once all were looked for."""
+        self.nearby.end(self._seen, site)
+        return self.nearby
+
+
+def _settled(name: Name, about: AboutText, one: Placed, whereabouts: Whereabouts) -> Settled:
+    by, begin = head(about.anchor), one.spot.begin
+    sees_head = (one.spot.hidden == by and begin is not None or whereabouts.of(Names(*by, 1)) is not None) if by[0] else begin == 0
+    return Settled(name, tuple(asked(about)), one, sees_head)
 
 
 def threads_of(said: Margin, site: Site, knows: Knows) -> list[Stood]:

@@ -48,10 +48,15 @@ class Nearby:
         self._hidden = list[_Hidden]()
         # Those that are elsewhere than they are looked for where none of their characters is shown.
         self._heads = AnyShown()
+        # Whether changes are followed: from when threads are first looked at.
+        self._follows = False
+        # While they are being looked at: those that were partly hidden, and what came back and went since that began.
+        self._new, self._restored, self._went = _Hidden(NameIndex(), NameSet()), list[Names](), NameSet()
+        self._is_looking = False
 
     def moved(self, change: Change, is_known: bool) -> None:
         """Follows a change of the text, of which it may be known that it is what came or went."""
-        if self.changes is not None and self._around:
+        if self.changes is not None and self._follows:
             self.changes.append(change)
             if not is_known or len(self.changes) > MOST_FOLLOWED:
                 self.changes = None
@@ -61,6 +66,10 @@ class Nearby:
         if run.kind == RESTORE:
             for one in self._hidden:
                 self.anywhere |= one.threads.meeting(one.seen.lacks(run.mentions))
+        if self._is_looking and run.kind == RESTORE:
+            self._restored += run.mentions
+        elif self._is_looking:
+            self._went.add(run.mentions)
         self._heads.follow(run)
 
     def look(self, site: Site) -> None:
@@ -93,30 +102,48 @@ class Nearby:
             self._around, self._hidden, self._heads = {}, [], AnyShown()
         else:
             self._around = {name: kept.around(*one) for name, one in self._around.items()}
-        new, self.anywhere = _Hidden(NameIndex(), NameSet()), set()
-        is_needed = any([self._put(one, new) for one in looked_at])
-        self._hidden += [new] if is_needed else []
+        self.anywhere = set()
+        self.begin()
+        self.put(looked_at, None)
+        self.end(seen, site)
+
+    def begin(self) -> None:
+        """Begins to look at threads, and follows changes from now on."""
+        self._follows = self._is_looking = True
+        self._new, self._restored, self._went = _Hidden(NameIndex(), NameSet()), [], NameSet()
+
+    def put(self, looked_at: Iterable[Settled], since: Followed | None) -> None:
+        """Takes over where some are now, after changes since that began, if there are any."""
+        for one in looked_at:
+            self._put(one, since)
+
+    def end(self, seen: Sequence[Names], site: Site) -> None:
+        """All were looked at, of whose characters this was shown when they were."""
+        new, self._is_looking = self._new, False
+        self._hidden += [new] if new.threads else []
         for hidden in self._hidden:
-            hidden.seen.add(seen)
+            hidden.seen.add(self._went.lacks(seen))
+        self.anywhere |= new.threads.meeting(self._restored)
         self._spans = Spans((begin, end, name) for name, (begin, end) in self._around.items())
         self._heads.look(site)
 
-    def _put(self, one: Settled, new: _Hidden) -> bool:
-        """Takes over where one is; whether it is among those now of which a part is hidden as they are first looked at."""
+    def _put(self, one: Settled, since: Followed | None) -> None:
+        """Takes over where one is."""
         placed, spot = one.placed, one.placed.spot
         found = [*([placed.all] if placed.all else []), *([(spot.begin, spot.end)] if spot.begin is not None else [])]
         if not found:
             if spot.hidden:
                 self.anywhere.add(one.name)
-            return False
+            return
         is_first, around = one.name not in self._around, [(begin - 1, end + 1) for begin, end in found]
+        if since:
+            around = [since.around_then(*each) for each in around]
         around += [] if is_first else [self._around[one.name]]
         self._around[one.name] = min(begin for begin, _ in around), max(end for _, end in around)
         is_partial = is_first and not placed.is_whole
         if is_partial:
-            new.threads.add(one.names, one.name)
+            self._new.threads.add(one.names, one.name)
         if one.sees_head:
             self._heads.remove(one.name)
-        elif is_partial:
+        elif is_first:
             self._heads.add(one.name, one.names)
-        return is_partial

@@ -28,7 +28,9 @@ class Wrong(Exception):
 
 
 def failure(fault: Exception) -> Line:
-    """The error of what nobody thought of."""
+    """The error of a request that isn't done, for a reason that was thought of or another one."""
+    if isinstance(fault, Wrong):
+        return {"error": fault.code, "words": str(fault), **fault.more}
     known = isinstance(fault, (Trouble, Unkept, Damaged, Unreachable))
     return {"error": "failed", "words": str(fault) if known else f"{type(fault).__name__}: {fault}"}
 

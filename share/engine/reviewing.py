@@ -1,7 +1,8 @@
 """What editors ask about the margin: what is remarked and suggested where, and what is to be written of it."""
-import time
-from collections.abc import Callable
-from typing import Any, TypeVar
+import gc
+from collections.abc import Callable, Iterable
+from itertools import islice
+from weakref import WeakSet
 
 from share.engine import protocol
 from share.engine.accepting import Accepting
@@ -10,27 +11,28 @@ from share.engine.by_name import ByName
 from share.engine.editor import Peer
 from share.engine.gaps import rewrite_of
 from share.engine.history import History
+from share.engine.margin_writing import MarginWriting
 from share.engine.margins import MOST_ORDERED_AT_ONCE, FoundThread, ShownMargin, Stood
 from share.engine.protocol import Wrong
 from share.engine.shared_text import SharedText
 from share.engine.thread_lines import MOST_PAGE, ToldTo, thread_lines
-from share.format.presence import MOST_NAME
 from share.program.site import Edited, Site
 from share.review.anchor import MOST_ANCHORED, anchored
 from share.review.margin import Margin
 from share.review.record import MOST_OF_A_BODY, MOST_SELECTED, Anchor, MarginKind, MarginRecord, MarginState
-from share.sync.margin import NO_MARGIN, NotOwn
+from share.sync.margin import NO_MARGIN
 from share.sync.session import Session
 from share.text.change import Change
-from share.text.errors import Refused, Trouble
+from share.text.errors import Refused
 from share.text.line import Line
 from share.text.names import Name, Names, united
 from share.text.rope import readable, swapped
 
 # The most bytes of a replacement.
 MOST_REPLACED = 8_000
-DoneWork = TypeVar("DoneWork")
 STATES = {"resolve": MarginState.RESOLVED, "reopen": MarginState.OPEN, "reject": MarginState.REJECTED}
+# The requests about one thread.
+OF_A_THREAD = "reply", *STATES, "revise", "withdraw", "accept"
 
 
 class Range:
@@ -47,12 +49,18 @@ class Range:
 class Reviewing:
     """The requests about the margin. The engine's thread alone calls it."""
 
-    def __init__(self, session: Session, text: SharedText, arrivals: Arrivals, by_name: ByName, history: History):
-        self._session, self._text, self._arrivals = session, text, arrivals
-        self._accepting, self._history = Accepting(session, text, arrivals, by_name), history
+    def __init__(self, session: Session, text: SharedText, arrivals: Arrivals, by_name: ByName, history: History,
+                 answer: Callable[[Peer, Line, Line], None]):
+        self._session, self._text, self._arrivals, self._answer = session, text, arrivals, answer
         self.shown = ShownMargin(session)
-        # The stretches that are asked for and not answered yet.
-        self._ranges = list[Range]()
+        self._writing = MarginWriting(session, arrivals, self.shown)
+        self._accepting, self._history = Accepting(session, text, arrivals, by_name, self._writing), history
+        # The stretches that are asked for and not answered yet; and what is done once all is looked at.
+        self._ranges, self._waiting = WeakSet[Range](), list[Callable[[], None]]()
+        # Whether some of what came is still to be looked at.
+        self.has_more = False
+        self._of_a_thread = dict(zip(OF_A_THREAD, (
+            self._reply, *(self._state for _ in STATES), self._revise, self._withdraw, self._accept)))
 
     def moved(self, change: Change, names: list[Names] | None) -> None:
         """Follows a change of the text."""
@@ -72,13 +80,47 @@ class Reviewing:
         return self.shown.times, {"all": many, "open": are_open}
 
     def look(self) -> None:
-        """Takes over what came, where the note has a margin."""
-        if self._session.margin.exists:
-            self.shown.look()
+        """Takes over some of what came, where the note has a margin; once that is all, does what waits for it."""
+        try:
+            self.has_more = self._looks_on(bool(self._waiting))
+            if self.has_more:
+                # What a large margin is made of stays, and a collector that went through all of it would hold keys up.
+                gc.freeze()
+        except BaseException:
+            # Who waits is told why.
+            self.has_more = False
+            raise
+        finally:
+            if not self.has_more:
+                waiting, self._waiting = self._waiting, []
+                for does in waiting:
+                    does()
+
+    def _looks_on(self, searches: bool) -> bool:
+        """Takes over some of what came, and looks where some threads are, if that is asked for; whether there is more."""
+        return self._session.margin.exists and (self.shown.look_on() or searches and self.shown.search_on())
+
+    def after_look(self, peer: Peer, request: Line, does: Callable[[], Line | None]) -> Line | None:
+        """Does a request that is about all that is said: at once, or where much came, later, so that keys are answered meanwhile."""
+        if not (self._waiting or self._looks_on(True)):
+            return does()
+
+        def answers() -> None:
+            peer.waits -= 1
+            try:
+                answer = does()
+            except Exception as fault:  # pylint: disable=broad-except
+                answer = protocol.failure(fault)
+            if answer is not None:
+                self._answer(peer, request, answer)
+
+        peer.waits += 1
+        self._waiting.append(answers)
+        self.has_more = True
+        return None
 
     def suggested(self) -> set[Names]:
         """The replacements that are suggested."""
-        self.look()
         return self._session.margin.said.suggested()
 
     def remarks(self, peer: Peer, request: Line) -> Line | None:
@@ -89,37 +131,34 @@ class Reviewing:
         begin, most = protocol.number(request, "from", 0), min(protocol.number(request, "most", MOST_PAGE), MOST_PAGE)
         within = Range(*self._places(peer, request)) if "begin" in request else None
         only_open = request.get("open") is True
+        if within:
+            self._ranges.add(within)
 
         def found() -> list[FoundThread]:
             self.shown.look()
             return self.shown.within(within.begin, within.end) if within else self.shown.all()
 
         def answer(found: list[FoundThread]) -> Line:
-            found = [one for one in self.shown.in_places(found) if not within or one.spot.meets(within.begin, within.end)]
-            found = [one for one in found if self.shown.is_open(one.name)] if only_open else found
+            asked_for, of = _wanted_threads(self.shown, found, within, only_open)
             told = ToldTo(self._text.measured, transformer.units, self._session.is_own, self._session.margin.knows().data)
-            lines = thread_lines(self.shown.stood(found[begin:begin + most]), told)
-            return {"edits": transformer.edits, "threads": lines, "of": len(found)}
+            lines = thread_lines(self.shown.stood(islice(asked_for, begin, begin + most)), told)
+            return {"edits": transformer.edits, "threads": lines, "of": of}
 
-        now = found()
-        if self.shown.lacks(one.spot for one in now) <= MOST_ORDERED_AT_ONCE:
-            return answer(now)
-        self._answer_later(peer, request, within, lambda: answer(found()))
-        return None
+        def answers() -> Line | None:
+            if not within and self.shown.ordered is not None:
+                return answer([])
+            now = found()
+            if self.shown.lacks(one.spot for one in now) <= MOST_ORDERED_AT_ONCE:
+                return answer(now)
+            self._answer_later(peer, request, lambda: answer(found()))
+            return None
+        return self.after_look(peer, request, answers)
 
-    def _answer_later(self, peer: Peer, request: Line, within: Range | None, answer: Callable[[], Line]) -> None:
+    def _answer_later(self, peer: Peer, request: Line, answer: Callable[[], Line]) -> None:
         """Answers once the second run of the program has the history."""
         order, history = self.shown.order, self._session.site.history
         messages = history[:]
-        if within:
-            self._ranges.append(within)
-
-        def answers(_: Any) -> Line:
-            if within:
-                self._ranges.remove(within)
-            return answer()
-
-        self._history.answer_when_done(peer, request, lambda: order.take(history, messages), answers)
+        self._history.answer_when_done(peer, request, lambda: order.take(history, messages), lambda _: answer())
 
     # What is written.
 
@@ -128,7 +167,7 @@ class Reviewing:
         body = _body(request, may_be_empty=False)
         anchor = self._anchor(peer, request)
         self._arrivals.check_typing()
-        return {"thread": _id(self._write(self._record(MarginKind.REMARK, peer)._replace(body=body, anchor=anchor)))}
+        return {"thread": _id(self._writing.write(self._writing.record(MarginKind.REMARK, peer)._replace(body=body, anchor=anchor)))}
 
     def suggest(self, peer: Peer, request: Line) -> Line:
         """Does the request `suggest`: types the replacement inside what it would replace, hides it, and writes of it."""
@@ -145,8 +184,8 @@ class Reviewing:
         self._session.margin.make_room(len(new))
         names = self._typed_hidden(rewrite.begin + rewrite.inside, new) if new else []
         anchor = anchored(anchor.at, anchor.behind, names, anchor.text, self._session.margin.knows())
-        record = self._record(MarginKind.SUGGESTION, peer)._replace(body=body, anchor=anchor, new=tuple(names))
-        return {"thread": _id(self._write(record, names[0].site if names else None))}
+        record = self._writing.record(MarginKind.SUGGESTION, peer)._replace(body=body, anchor=anchor, new=tuple(names))
+        return {"thread": _id(self._writing.write(record, names[0].site if names else None))}
 
     def _typed_hidden(self, place: int, data: bytes) -> list[Names]:
         """Types bytes at a place and hides them, as one edit; their names."""
@@ -160,44 +199,48 @@ class Reviewing:
                 raise Refused(hidden.refused)
             return Edited(typed.messages + hidden.messages)
 
-        self._kept(lambda: self._session.edit(work))
+        self._writing.kept(lambda: self._session.edit(work))
         return names
 
-    def reply(self, peer: Peer, request: Line) -> Line:
+    def of_a_thread(self, peer: Peer, request: Line) -> Line | None:
+        """Does one of the requests about a thread."""
+        self._check()
+        return self.after_look(peer, request, lambda: self._of_a_thread[request["do"]](peer, request))
+
+    def _reply(self, peer: Peer, request: Line) -> Line:
         """Does the request `reply`."""
         body = _body(request, may_be_empty=False)
         name = self._thread_name(request)
-        record = self._record(MarginKind.REPLY, peer)._replace(body=body, of=self._session.margin.said.ref(name))
-        return {"record": _id(self._write(record))}
+        record = self._writing.record(MarginKind.REPLY, peer)._replace(body=body, of=self._session.margin.said.ref(name))
+        return {"record": _id(self._writing.write(record))}
 
-    def state(self, peer: Peer, request: Line) -> Line:
+    def _state(self, peer: Peer, request: Line) -> Line:
         """Does the requests `resolve`, `reopen` and `reject`."""
         name = self._thread_name(request)
-        record = self._record(MarginKind.STATE, peer)
-        self._write(record._replace(state=STATES[request["do"]], of=self._session.margin.said.ref(name)))
+        record = self._writing.record(MarginKind.STATE, peer)
+        self._writing.write(record._replace(state=STATES[request["do"]], of=self._session.margin.said.ref(name)))
         return {}
 
-    def revise(self, peer: Peer, request: Line) -> Line:
+    def _revise(self, peer: Peer, request: Line) -> Line:
         """Does the request `revise`."""
         body = _body(request, may_be_empty=False)
-        self._of_own(request, self._record(MarginKind.REVISED, peer)._replace(body=body))
+        self._of_own(request, self._writing.record(MarginKind.REVISED, peer)._replace(body=body))
         return {}
 
-    def withdraw(self, peer: Peer, request: Line) -> Line:
+    def _withdraw(self, peer: Peer, request: Line) -> Line:
         """Does the request `withdraw`."""
-        self._of_own(request, self._record(MarginKind.TAKEN, peer))
+        self._of_own(request, self._writing.record(MarginKind.TAKEN, peer))
         return {}
 
     def _of_own(self, request: Line, record: MarginRecord) -> None:
         """Writes a record of one of this person's, under the number under which that was written."""
-        self._check_and_look()
         name, said = _name_in(request), self._session.margin.said
         _check_that_it_is_there(said, name, record.kind)
         if not self._session.is_own(name[0]):
             raise Wrong("own", "Somebody else wrote that.")
-        self._write(record._replace(of=said.ref(name)), name[0])
+        self._writing.write(record._replace(of=said.ref(name)), name[0])
 
-    def accept(self, peer: Peer, request: Line) -> Line:
+    def _accept(self, peer: Peer, request: Line) -> Line:
         """Does the request `accept`."""
         done = self._accepting.accept(peer, self._suggestion(request), request.get("anyway") is True)
         self.shown.look()
@@ -205,7 +248,6 @@ class Reviewing:
 
     def _suggestion(self, request: Line) -> Stood:
         """The suggestion that a request names."""
-        self._check_and_look()
         shown = self.shown.one(_name_in(request))
         if shown is None or shown.thread.kind is not MarginKind.SUGGESTION or shown.thread.state is None:
             raise _no_thread()
@@ -216,10 +258,6 @@ class Reviewing:
     def _check(self) -> None:
         if not self._session.margin.exists:
             raise Wrong("margin", NO_MARGIN)
-
-    def _check_and_look(self) -> None:
-        self._check()
-        self.shown.look()
 
     def _places(self, peer: Peer, request: Line) -> tuple[int, int]:
         """The stretch of a request, in bytes."""
@@ -248,34 +286,23 @@ class Reviewing:
 
     def _thread_name(self, request: Line) -> Name:
         """The thread that a request names."""
-        self._check_and_look()
         name = _name_in(request)
         kind = self._session.margin.said.kind(name)
         if kind is None or not kind.begins:
             raise _no_thread()
         return name
 
-    def _record(self, kind: MarginKind, peer: Peer) -> MarginRecord:
-        return MarginRecord(kind, peer.name[:MOST_NAME], int(time.time()), "")
 
-    def _write(self, record: MarginRecord, site: int | None = None) -> Name:
-        """Writes a record, and shows it."""
-        self._arrivals.check_typing()
-        name = self._kept(lambda: self._session.margin.write(record, site))
-        self.shown.look()
-        return name
+def _wanted_threads(shown: ShownMargin, found: list[FoundThread], within: Range | None,
+                    only_open: bool) -> tuple[Iterable[FoundThread], int]:
+    """Those that are asked for of what was found in a stretch, or of all, in the order of places; and how many they are."""
+    def is_wanted(one: FoundThread) -> bool:
+        return not only_open or shown.is_open(one.name)
 
-    def _kept(self, work: Callable[[], DoneWork]) -> DoneWork:
-        """Does what is to be kept on the disk."""
-        try:
-            return work()
-        except NotOwn as why:
-            raise Wrong("own", str(why)) from why
-        except Refused as why:
-            raise Wrong("refused", str(why), number=why.number) from why
-        except Trouble as why:
-            self._arrivals.catch_up()
-            raise Wrong("unkept", str(why)) from why
+    if within:
+        some = [one for one in shown.in_places(found) if one.spot.meets(within.begin, within.end) and is_wanted(one)]
+        return some, len(some)
+    return filter(is_wanted, shown.in_order()), shown.counts()[only_open]
 
 
 def _name_before(site: Site, place: int) -> Name:

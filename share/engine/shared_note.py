@@ -15,7 +15,7 @@ from share.engine.looked import PersonsLooks
 from share.engine.others import OtherEditors
 from share.engine.presence import EditorPresence
 from share.engine.protocol import Wrong
-from share.engine.reviewing import STATES, Reviewing
+from share.engine.reviewing import OF_A_THREAD, Reviewing
 from share.engine.shared_text import SharedText
 from share.store import atomic
 from share.sync.session import Session
@@ -40,7 +40,7 @@ class SharedNote:
         self.history = History(session, self.text, self.authors, wake, answer)
         self.looked = PersonsLooks(name, session, clock)
         self.changes = Changes(session, self.text, self.authors, self.looked, self.history.answer_when_done)
-        self.reviewing = Reviewing(session, self.text, self.arrivals, self.by_name, self.history)
+        self.reviewing = Reviewing(session, self.text, self.arrivals, self.by_name, self.history, answer)
 
     def take_in(self) -> None:
         """Takes in what came from others, and answers what has been done meanwhile."""
@@ -53,7 +53,7 @@ class SharedNote:
             self.arrivals.trouble = None
         except Exception as fault:  # pylint: disable=broad-except
             self.arrivals.failed(fault)
-        if any(peer.sees_remarks for peer in self._peers):
+        if self.reviewing.has_more or any(peer.sees_remarks for peer in self._peers):
             # Typing goes on where it fails; who asks for the margin is told why.
             with suppress(Exception):
                 self.reviewing.look()
@@ -68,7 +68,7 @@ class SharedNote:
 
     def has_more(self) -> bool:
         """Whether some of what came is still to be taken in."""
-        return self.session.has_more() and not self.arrivals.trouble
+        return self.reviewing.has_more or self.session.has_more() and not self.arrivals.trouble
 
     def is_restless(self) -> bool:
         """Whether something is to be said soon, though nothing comes."""
@@ -129,7 +129,8 @@ HANDLERS: dict[str, Callable[[SharedNote, Peer, Line], Line | None]] = {
     "text": lambda _, peer, request: _send_text(peer, request),
     "on": lambda note, *_: note.presence.people(),
     "who": lambda note, peer, request: note.history.who(peer, request),
-    "history": lambda note, peer, request: note.history.steps(peer, request, note.reviewing.suggested()),
+    "history": lambda note, peer, request: note.reviewing.after_look(
+        peer, request, lambda: note.history.steps(peer, request, note.reviewing.suggested())),
     "past": lambda note, peer, request: note.history.past(peer, request),
     "changed": lambda note, peer, request: note.changes.changed(peer, request),
     "lost": lambda note, *_: note.by_name.lost(),
@@ -138,9 +139,5 @@ HANDLERS: dict[str, Callable[[SharedNote, Peer, Line], Line | None]] = {
     "remarks": lambda note, peer, request: note.reviewing.remarks(peer, request),
     "remark": lambda note, peer, request: note.reviewing.remark(peer, request),
     "suggest": lambda note, peer, request: note.reviewing.suggest(peer, request),
-    "reply": lambda note, peer, request: note.reviewing.reply(peer, request),
-    **dict.fromkeys(STATES, lambda note, peer, request: note.reviewing.state(peer, request)),
-    "revise": lambda note, peer, request: note.reviewing.revise(peer, request),
-    "withdraw": lambda note, peer, request: note.reviewing.withdraw(peer, request),
-    "accept": lambda note, peer, request: note.reviewing.accept(peer, request),
+    **dict.fromkeys(OF_A_THREAD, lambda note, peer, request: note.reviewing.of_a_thread(peer, request)),
 }

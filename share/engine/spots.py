@@ -151,6 +151,28 @@ class Followed:
             return low, self._new[last + 1] + 1
         return low, self._new[last] + end - self._old[last]
 
+    def around_then(self, begin: int, end: int) -> tuple[int, int]:
+        """A stretch of the text before the changes that has all which is within a stretch now, or beside it, as `around` takes it."""
+        low, high = self.before(begin, end)
+        return -1 if begin < 0 else low, high + 1
+
+    def moved_back(self, spot: Spot) -> bool:
+        """Has a spot be where it was before the changes; whether its ends were there."""
+        if spot.begin is None:
+            return spot.hidden is None
+        first, last = self._then(spot.begin), self._then(spot.end - 1) if spot.end else -1
+        if last is None or spot.begin < spot.end and first is None:
+            return False
+        spot.begin, spot.end = first if spot.begin < spot.end else last + 1, last + 1
+        return True
+
+    def _then(self, at: int) -> int | None:
+        """Where a character was; None where it came since."""
+        number = bisect_right(self._new, at) - 1
+        if number < 0 or at >= self._new[number] + self._lengths[number]:
+            return None
+        return self._old[number] + at - self._new[number]
+
     def moved(self, spot: Spot) -> bool:
         """Moves a spot of which no character was hidden or shown since; whether all is known of it then."""
         if spot.begin is None:

@@ -26,13 +26,23 @@ CHECKED, UNCHECKED = "1.1", "1"
 LINK = re.compile(r"vialshoal:(1\.1|1):([ps]):([A-Za-z0-9_-]+)@(.+)")
 # One of a later form, also as a page's address has it.
 NEWER_LINK = re.compile(r"(https://[^/]+/#)?vialshoal:(?!1:|1\.1:)[0-9.]+:.+")
+# What is meant as a link, in whatever form, or as a page's address, and how it is refused where it stands in place of a name.
+ANY_LINK = re.compile(r"(https?://.*#)?vialshoal:[0-9.]+:.*", re.DOTALL)
+NO_ARGUMENT = ("That is a link, which every account of this machine sees in a command. Run bin/note NAME, with a name for the note that "
+               "you choose, and paste the link where it is asked for.")
 SERVER = re.compile(r"([A-Za-z0-9.-]+|\[[0-9A-Fa-f:.]+\]):([0-9]{1,5})/?")
 # What a server's URL looks like where something of it was left out, so that no file is made by a slip.
 NEARLY = re.compile(r"(rediss?|unix|file|https?):.*|[A-Za-z0-9.-]+:[0-9]{1,5}", re.IGNORECASE)
+# A relay, or what else has a place in browsers; and the ports that these leave out.
+WEB_HOST = re.compile(r"([a-z0-9.-]+|\[[0-9a-f:.]+\])(?::([0-9]{1,5}))?/?")
+WEB_PORTS = {"https": 443, "http": 80}
+# Without TLS a relay is on this machine.
+LOOPBACK = ("localhost", "127.0.0.1", "[::1]")
 GREATEST_PORT = 65_535
 MISTAKEN = "That link has a mistake in it, or was cut short. Copy it whole, in one line."
 UNSEALED = "That link has a plain note on a server, and nothing goes to a server unsealed. Ask who sent it for another one."
-SCHEMES = "It is redis://HOST:PORT, rediss://HOST:PORT with TLS, unix:///PATH, or the path of a file."
+SCHEMES = "It is https://HOST of a relay, redis://HOST:PORT, rediss://HOST:PORT with TLS, unix:///PATH, or the path of a file."
+OF_SECOND_FORM_ALONE = "A relay takes notes of the second form alone."
 
 
 class Link(NamedTuple):
@@ -70,9 +80,16 @@ def read_link(text: str) -> Link:
     link = Link(form, secret, url_of(found[4]))
     if form == "plain" and is_network(link.url):
         raise Trouble(UNSEALED)
+    if is_relay(link.url):
+        raise Trouble(f"That link's note is of the first form. {OF_SECOND_FORM_ALONE} Ask who sent it for the link of a renewed one.")
     if link.spelled(found[1]) != text.strip():
         raise Trouble("That link isn't spelled as bin/note link prints it. Copy it whole, in one line.")
     return link
+
+
+def is_link(given: str) -> bool:
+    """Whether this is meant as a link, whose secret isn't to be repeated."""
+    return bool(ANY_LINK.fullmatch(given.strip()))
 
 
 def url_of(given: str) -> str:
@@ -89,6 +106,8 @@ def url_of(given: str) -> str:
         return _socket(rest)
     if scheme.lower() in ("redis", "rediss"):
         return f"{scheme.lower()}://{_server(rest)}"
+    if scheme.lower() in WEB_PORTS:
+        return _origin(scheme.lower(), rest)
     raise Trouble(f"{scheme}:// can't be a log. {SCHEMES}")
 
 
@@ -106,6 +125,18 @@ def _server(rest: str) -> str:
     if not found or not 1 <= int(found[2]) <= GREATEST_PORT:
         raise Trouble(f"That URL of a log isn't spelled right. {SCHEMES}")
     return f"{found[1].lower()}:{int(found[2])}"
+
+
+def _origin(scheme: str, rest: str) -> str:
+    """Where a relay is, as browsers spell it: in small letters, and without the port that is meant then."""
+    _refuse_passwords(rest)
+    found = WEB_HOST.fullmatch(rest.lower())
+    port = int(found[2] or WEB_PORTS[scheme]) if found else 0
+    if not found or not 1 <= port <= GREATEST_PORT:
+        raise Trouble(f"That URL of a log isn't spelled right. {SCHEMES}")
+    if scheme == "http" and found[1] not in LOOPBACK:
+        raise Trouble(f"http:// is for a relay on this machine, as http://localhost:{port}. {SCHEMES}")
+    return f"{scheme}://{found[1]}" + (f":{port}" if port != WEB_PORTS[scheme] else "")
 
 
 def _socket(rest: str) -> str:
@@ -144,4 +175,9 @@ def _check(spelling: str, form: FormName, secret: bytes, url: str) -> bytes:
 
 def is_network(url: str) -> bool:
     """Whether a log's URL is that of a server, to which nothing goes unsealed."""
-    return urlsplit(url).scheme in ("redis", "rediss", "unix")
+    return urlsplit(url).scheme in ("redis", "rediss", "unix", *WEB_PORTS)
+
+
+def is_relay(url: str) -> bool:
+    """Whether a log's URL is that of a relay."""
+    return urlsplit(url).scheme in WEB_PORTS

@@ -60,6 +60,8 @@ class Log(ABC):
 
     # How long it is watched before it is seen whether it still is the one that was read.
     watch_seconds = 0.5
+    # The most bytes of what a reading gives, but for the last entry or some.
+    most_read = 2**20
     # Whether the last reading came to the end that the log had then.
     at_end = False
 
@@ -83,10 +85,25 @@ class Log(ABC):
     def size_to(self, after: str) -> int:
         """How many entries there are up to a place."""
 
+    def told(self) -> str:
+        """What the server tells of itself, each thing once."""
+        return ""
+
     @abstractmethod
     def meet(self, token: bytes, presence: bytes) -> list[bytes]:
         """Says under a token that an editor is on, and gives what all who are on have said last, this one
         included."""
+
+    def end(self) -> tuple[str, int]:
+        """The place of the last entry, and how many there are."""
+        after, many = START, 0
+        while page := self.read(after):
+            after, many = page[-1].place, many + len(page)
+        return after, many
+
+    def bytes_kept(self) -> int:
+        """How many bytes the log takes where it is kept; 0 where it doesn't know."""
+        return 0
 
     def met(self) -> list[bytes]:
         """What all who are on have said last by `meet`, with nothing said; none where the log has no channel."""

@@ -4,22 +4,19 @@ The server, and everyone who reaches it, can write under its keys whatever they 
 can't be an entry before it is sent, and each answer is looked at.
 """
 import re
-import time
-from collections.abc import Iterator, Sequence
+from collections.abc import Sequence
 
 from share.format.entry import MOST_BYTES
 from share.format.presence import MOST_PRESENCE
 from share.log.base import MOST_ON, ON_SECONDS, READ_AT_ONCE, START, InLog, Log, LogLost
 from share.log.bell import Bell
 from share.log.channel import Ear, RedisChannel
+from share.log.page_size import MOST_ROOM, PageSize, batches
 from share.log.resp import Answer, TooLong, Wire
 
-# The most bytes of an append and of a reading, and what an entry costs beside its own bytes.
+# The most bytes of an append, and what an entry costs beside its own bytes.
 MOST_APPENDED = 2**17
-MOST_ROOM, ENTRY_OVERHEAD = 2**20, 64
-# A reading begins with little, so that something is seen soon where the line is slow. Each next one may have twice as much
-# where it took less than the one time, and half where it took more than the other.
-LEAST_ROOM, QUICK_READING_SECONDS, SLOW_READING_SECONDS = 2**14, 0.3, 1.0
+ENTRY_OVERHEAD = 64
 MOST_READ = MOST_ROOM + 20 * (MOST_BYTES + ENTRY_OVERHEAD) + READ_AT_ONCE * ENTRY_OVERHEAD
 # What a watch lets through: a longer entry is known by its size alone.
 MOST_WATCHED = MOST_BYTES + 1_024
@@ -60,6 +57,11 @@ READ_SCRIPT = """
         if #some < few then at_end = 1 end
     end
     return {redis.call('XLEN', KEYS[1]), at_end, found}
+"""
+# Gives how many entries there are, and the id of the last one.
+END_SCRIPT = """
+    local last = redis.call('XREVRANGE', KEYS[1], '+', '-', 'COUNT', 1)
+    return {redis.call('XLEN', KEYS[1]), last[1] and last[1][1] or ''}
 """
 # Gives the id of the last entry of a part of the stream, and of each claim in it the two bytes of its site.
 CLAIMED_SCRIPT = """
@@ -120,16 +122,16 @@ class Stream:
 
     def __init__(self, wire: Wire, key: str, field: str, most: int):
         self._wire, self._key, self._field, self._most = wire, key, field, most
-        self._room = LEAST_ROOM
+        self._size = PageSize()
         # Whether the last reading came to the end.
         self.at_end = False
 
-    def read(self, after: str) -> list[InLog]:
-        """The entries after a place, PAGE at most."""
+    def read(self, after: str, most: int = MOST_ROOM) -> list[InLog]:
+        """The entries after a place, PAGE at most, and of no more than these bytes but for some."""
         last, count = _stream_place(after)
-        begin = time.monotonic()
-        answer = self._wire.run(READ_SCRIPT, (self._key,), (last, self._field, READ_AT_ONCE, self._most, self._room), MOST_READ)
-        self._took(time.monotonic() - begin)
+        words = last, self._field, READ_AT_ONCE, self._most, min(self._size.room, most)
+        with self._size.timed():
+            answer = self._wire.run(READ_SCRIPT, (self._key,), words, MOST_READ)
         if answer == 0:
             raise self._lost()
         page, size = self._page(answer, last, count)
@@ -155,13 +157,6 @@ class Stream:
             after = last
         return sites
 
-    def _took(self, seconds: float) -> None:
-        """Adapts the size of the next reading to what comes in a short while."""
-        if seconds < QUICK_READING_SECONDS:
-            self._room = min(2 * self._room, MOST_ROOM)
-        elif seconds > SLOW_READING_SECONDS:
-            self._room = max(self._room // 2, LEAST_ROOM)
-
     def watch(self, after: str, seconds: float, bell: Bell | None) -> None:
         """Returns when there is an entry after a place, when the time is over, or the bell rings."""
         last, _ = _stream_place(after)
@@ -181,6 +176,15 @@ class Stream:
         if not isinstance(size, int):
             raise self._wire.strange()
         return size
+
+    def end(self) -> tuple[str, int]:
+        """The place of the last entry, and how many there are."""
+        match self._wire.run(END_SCRIPT, (self._key,), ()):
+            case [0, b""]:
+                return START, 0
+            case [int(size), bytes(last)] if place := _numbers(last):
+                return f"{place[0]}-{place[1]}/{size}", size
+        raise self._wire.strange()
 
     def _lost(self) -> LogLost:
         return LogLost(f"{self._wire.url} has lost entries.")
@@ -221,11 +225,11 @@ class RedisLog(Log):
             raise
 
     def append(self, raws: Sequence[bytes]) -> None:
-        for part in _batches(raws):
+        for part in batches(raws, MOST_APPENDED, ENTRY_OVERHEAD):
             self._wire.run(APPEND_SCRIPT, (self._entries, self._places), part)
 
     def read(self, after: str) -> list[InLog]:
-        page = self._stream.read(after)
+        page = self._stream.read(after, self.most_read)
         self.at_end = self._stream.at_end
         return page
 
@@ -241,6 +245,12 @@ class RedisLog(Log):
 
     def claimed(self, kind: int, at: int) -> set[int] | None:
         return self._stream.claimed(kind, at)
+
+    def end(self) -> tuple[str, int]:
+        return self._stream.end()
+
+    def bytes_kept(self) -> int:
+        return sum(size for key in (self._entries, self._places) if isinstance(size := self._wire.ask("MEMORY", "USAGE", key), int))
 
     def meet(self, token: bytes, presence: bytes) -> list[bytes]:
         return self._all_said(self._wire.run(MEET_SCRIPT, (self._times, self._said),
@@ -281,17 +291,3 @@ def _stream_place(after: str) -> tuple[str, int]:
     if not (found := STREAM_PLACE.fullmatch(after)):
         raise LogLost("The place after which was to be read is another log's.")
     return found[1], int(found[2])
-
-
-def _batches(raws: Sequence[bytes]) -> Iterator[list[bytes]]:
-    """Entries in parts that a server takes in at once."""
-    part: list[bytes] = []
-    size = 0
-    for raw in raws:
-        if part and size + len(raw) + ENTRY_OVERHEAD > MOST_APPENDED:
-            yield part
-            part, size = [], 0
-        part.append(raw)
-        size += len(raw) + ENTRY_OVERHEAD
-    if part:
-        yield part

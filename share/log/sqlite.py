@@ -36,6 +36,7 @@ ADD = "INSERT INTO entry (hash, raw) VALUES (?, ?)"
 STANDS = "SELECT EXISTS (SELECT 1 FROM entry WHERE place = ? AND coalesce(CAST(mark AS INTEGER), 0) = ?)"
 AFTER = ("SELECT place, coalesce(CAST(mark AS INTEGER), 0), CASE WHEN typeof(raw) = 'blob' AND length(raw) <= ? "
          "THEN raw END FROM entry WHERE place > ? ORDER BY place LIMIT ?")
+LAST = ("SELECT place, coalesce(CAST(mark AS INTEGER), 0), (SELECT count(*) FROM entry) FROM entry ORDER BY place DESC LIMIT 1")
 ON = "SELECT said FROM presence WHERE typeof(said) = 'blob' AND length(said) <= ? ORDER BY seen DESC LIMIT ?"
 FILE_PLACE = re.compile(r"([0-9]{1,19})\.(-?[0-9]{1,19})")
 
@@ -71,9 +72,13 @@ class SqliteLog(Log):
 
     def read(self, after: str) -> list[InLog]:
         with self._at_file():
-            place = self._stands(after)
-            rows = self._file.execute(AFTER, (MOST_BYTES, place, READ_AT_ONCE)).fetchall()
-        self.at_end = len(rows) < READ_AT_ONCE
+            place, room, rows = self._stands(after), self.most_read, list[tuple[int, int, bytes | None]]()
+            for row in self._file.execute(AFTER, (MOST_BYTES, place, READ_AT_ONCE)):
+                rows.append(row)
+                room -= len(row[2] or b"")
+                if room <= 0:
+                    break
+        self.at_end = room > 0 and len(rows) < READ_AT_ONCE
         if rows and rows[-1][0] > GREATEST_LOG_PLACE:
             raise self._set_aside("has a place that can't be")
         return [InLog(f"{place}.{mark}", raw) for place, mark, raw in rows]
@@ -98,6 +103,15 @@ class SqliteLog(Log):
     def size_to(self, after: str) -> int:
         with self._at_file():
             return self._file.one("SELECT count(*) FROM entry WHERE place <= ?", _place_and_mark(after)[0])
+
+    def end(self) -> tuple[str, int]:
+        with self._at_file():
+            found = self._file.execute(LAST).fetchone()
+        return (f"{found[0]}.{found[1]}", found[2]) if found else (START, 0)
+
+    def bytes_kept(self) -> int:
+        with self._at_file():
+            return self._file.one("PRAGMA page_count") * self._file.one("PRAGMA page_size")
 
     def meet(self, token: bytes, presence: bytes) -> list[bytes]:
         now = time.time()

@@ -7,7 +7,7 @@ from itertools import accumulate, chain, count
 from share.format.operation import RESTORE, Operation
 from share.program.site import Edited, Site, Told, one_by_one
 from share.text.looks import Looked, Looks
-from share.text.names import Names, united, without
+from share.text.names import Name, Names, united, without
 
 
 _new_key = count().__next__
@@ -15,12 +15,14 @@ _new_key = count().__next__
 
 @dataclass
 class Step:
-    """The names that an edit brought, those that it took away, and those whose looks it changed; and what tells it from others."""
+    """The names that an edit brought, those that it took away, and those whose looks it changed; what tells it from others; and the
+    suggestion that it accepts."""
 
     came: list[Names] = field(default_factory=list)
     went: list[Names] = field(default_factory=list)
     looked: list[Looked] = field(default_factory=list)
     key: int = field(default_factory=_new_key)
+    accepts: Name | None = None
 
     def does_something(self) -> bool:
         """Whether there is anything in it."""
@@ -28,7 +30,7 @@ class Step:
 
     def and_then(self, other: "Step") -> "Step":
         """Both as one edit."""
-        return Step(united(self.came + other.came), united(self.went + other.went), self.looked + other.looked, self.key)
+        return Step(united(self.came + other.came), united(self.went + other.went), self.looked + other.looked, self.key, self.accepts)
 
 
 class Undoing:

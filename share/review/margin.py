@@ -2,7 +2,7 @@
 
 Adding one costs the same however many there are. A thread is put together where somebody asks for it, of what answers it alone.
 """
-from collections.abc import Iterable, Iterator
+from collections.abc import Iterable, Iterator, Sequence
 from itertools import chain, takewhile
 from typing import NamedTuple
 
@@ -132,6 +132,10 @@ class Margin:
         """How many threads there are."""
         return len(self._threads)
 
+    def many_records(self) -> int:
+        """How many records there are, also of those that say nothing now."""
+        return len(self._by_name)
+
     def threads(self) -> list[Name]:
         """The names of all threads, in the order of their keys."""
         return sorted(self._threads, key=lambda name: self._by_name[name].key)
@@ -162,9 +166,13 @@ class Margin:
         """The thread that a record begins."""
         one = self._by_name[name]
         answers, first = self._answers(one), self._remark(one)
-        states = [answer.record.state for answer in answers if answer.record.state] or [MarginState.OPEN]
         replies = (self._remark(answer) for answer in answers if answer.record.kind is MarginKind.REPLY)
-        return Thread(first, one.record.kind, None if first.body is None else states[-1], self._anchor(one), one.record.new, (*replies,))
+        state = None if first.body is None else _last_state(answers)
+        return Thread(first, one.record.kind, state, self._anchor(one), one.record.new, (*replies,))
+
+    def is_said_accepted(self, name: Name) -> bool:
+        """Whether somebody says of a thread that it was accepted, and nobody since that this was taken back."""
+        return name in self._by_name and _is_accepted(self._answers(self._by_name[name]))
 
     def about(self, name: Name) -> AboutText:
         """What a thread is about."""
@@ -218,3 +226,16 @@ class Margin:
     def each(self) -> Iterator[Thread]:
         """All threads, in the order of their keys."""
         return map(self.thread, self.threads())
+
+
+def _is_accepted(answers: Iterable[_Entered]) -> bool:
+    """Whether the last word about an acceptance is that there is one."""
+    return [False, *(answer.record.accepts for answer in answers if answer.record.accepts is not None)][-1]
+
+
+def _last_state(answers: Sequence[_Entered]) -> MarginState:
+    """What the last one says. What is said of an acceptance counts as long as that isn't taken back; so what others said meanwhile stands.
+    """
+    is_accepted = _is_accepted(answers)
+    states = [one.record.state for one in answers if one.record.state and (is_accepted or one.record.accepts is None)]
+    return states[-1] if states else MarginState.OPEN

@@ -17,6 +17,9 @@ class NameIndex(Generic[OfNames]):
         # By site and k, and by the number of a block.
         self._levels: dict[int, dict[int, dict[int, dict[Names, set[OfNames]]]]] = {}
 
+    def __bool__(self) -> bool:
+        return bool(self._levels)
+
     def add(self, names: Iterable[Names], of: OfNames) -> None:
         """Adds stretches."""
         for one in names:

@@ -100,6 +100,8 @@ class MarginRecord(NamedTuple):
     # A suggestion's replacement.
     new: tuple[Names, ...] = ()
     state: MarginState | None = None
+    # Of a state: whether the suggestion was accepted, or that was taken back; None where it says neither.
+    accepts: bool | None = None
     # How many parts go on with it; which part it is, and which of an anchor's characters it has.
     parts: int = 0
     part: int = 0
@@ -173,6 +175,11 @@ class _Fields:
         if not isinstance(found, str):
             raise _NoRecord
         return found
+
+    def truth(self, name: str) -> bool | None:
+        """Whether it is true or false; what else it may be says nothing."""
+        found = self._found.get(name)
+        return found if isinstance(found, bool) else None
 
     def hash(self, name: str) -> str:
         """The begin of a hash."""
@@ -265,7 +272,7 @@ def _answering(fields: _Fields, one: MarginRecord) -> MarginRecord:
 
 
 def _with_state(fields: _Fields, one: MarginRecord) -> MarginRecord:
-    return one._replace(of=fields.ref("of"), state=MarginState(fields.string("state")))
+    return one._replace(of=fields.ref("of"), state=MarginState(fields.string("state")), accepts=fields.truth("accepts"))
 
 
 def _taken(fields: _Fields, one: MarginRecord) -> MarginRecord:

@@ -70,7 +70,7 @@ def _own_fields(one: MarginRecord) -> dict[str, Any]:
     if one.of:
         fields["of"] = one.of
     if one.state:
-        fields["state"] = one.state.value
+        fields |= {"state": one.state.value} | ({} if one.accepts is None else {"accepts": one.accepts})
     if one.anchor:
         fields |= {"behind": one.anchor.behind} if one.anchor.behind else {}
         fields |= {"text": one.anchor.text, "sum": one.anchor.sum}

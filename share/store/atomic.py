@@ -27,16 +27,16 @@ def exists(path_as_typed: str) -> bool:
         return _state(path) is not None
 
 
-def save(path_as_typed: str, data: bytes) -> pathlib.Path:
+def save(path_as_typed: str, data: bytes, is_private: bool = False) -> pathlib.Path:
     """Saves bytes under a name, in which ~ is a home folder, and gives its path. Where that is a link, the file
-    that it leads to is replaced; the mode of an old file stays."""
+    that it leads to is replaced; the mode of an old file stays. A new one that is private its owner alone reads."""
     path = _expanded(path_as_typed)
     with _sentences(path):
         target = pathlib.Path(os.path.realpath(path))
         old = _state(path)
         if old:
             _refuse_odd_files(path, target, old)
-        _replace(target, old, data)
+        _replace(target, old, data, is_private)
     return path
 
 
@@ -78,11 +78,11 @@ def _refuse_odd_files(path: pathlib.Path, target: pathlib.Path, old: os.stat_res
         raise NotSaved(f"Not saved: {path} is a file that you may not write.")
 
 
-def _replace(target: pathlib.Path, old: os.stat_result | None, data: bytes) -> None:
+def _replace(target: pathlib.Path, old: os.stat_result | None, data: bytes, is_private: bool) -> None:
     """Writes a file beside, brings it to the disk, and then gives it the name."""
     beside = target.with_name(NAME_BEGIN + secrets.token_hex(8))
     # Nobody may read what is written who may not read the old file.
-    file = os.open(beside, os.O_WRONLY | os.O_CREAT | os.O_EXCL | os.O_CLOEXEC, PRIVATE if old else READABLE)
+    file = os.open(beside, os.O_WRONLY | os.O_CREAT | os.O_EXCL | os.O_CLOEXEC, PRIVATE if old or is_private else READABLE)
     try:
         try:
             _write_all(file, data)

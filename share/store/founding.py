@@ -7,13 +7,14 @@ from typing import NamedTuple
 from share.admission.ledger import Row
 from share.format.chunk import packed_in_parts
 from share.format.entry import GREATEST_SITE, NO_HASH, NOTE_BYTES, Author, Form
-from share.format.link import is_network
+from share.format.link import OF_SECOND_FORM_ALONE, is_network, is_relay
 from share.format.operation import Operation
 from share.format.second.form import PlainRecords, RecordForm, SealedRecords
 from share.format.second.keys import NOTE_KEY_BYTES, Founding
 from share.format.second.record import Record
 from share.store.note_file import FIRST, SECOND, About
 from share.store.own import Client
+from share.text.errors import Trouble
 
 # Messages of each text and site, in their order.
 ByText = Mapping[int, Mapping[int, Sequence[Operation]]]
@@ -29,6 +30,8 @@ class Begun(NamedTuple):
 
 def begun(url: str | None, messages: Iterable[Operation] = (), form_number: int = FIRST) -> Begun:
     """A new note of a form that has these messages, sealed where its log is on a server."""
+    if form_number == FIRST and is_relay(url or ""):
+        raise Trouble(f"{OF_SECOND_FORM_ALONE} Leave out --form 1, or name another log.")
     return BEGINS[form_number](url or "", by_text(messages))
 
 

@@ -13,16 +13,16 @@ from share.admission.judges import judge_of
 from share.admission.left_out import LeftOut
 from share.format.entry import Entry
 from share.format.history import Messages
-from share.format.link import Link, is_network
+from share.format.link import NO_ARGUMENT, OF_SECOND_FORM_ALONE, Link, is_link, is_network, is_relay
 from share.format.operation import TEXT
-from share.format.second.key_link import AnyLink, KeyLink, is_origin
+from share.format.second.key_link import AnyLink, KeyLink
 from share.log.base import Unreachable
 from share.program import retyping
 from share.program.site import is_full
 from share.store import old, read_only
 from share.store.founding import begun
 from share.store.guarded import Damaged
-from share.store.note_file import FIRST, About, Disk, make_note
+from share.store.note_file import FIRST, SECOND, About, Disk, make_note
 from share.store.old import NOTE_NAME, Old
 from share.store.renewal import say_so
 from share.store.with_log import with_log
@@ -48,6 +48,8 @@ def is_name(name: str) -> bool:
 
 def path_of(name: str) -> pathlib.Path:
     """The file of the note of this name."""
+    if is_link(name):
+        raise Trouble(NO_ARGUMENT)
     if not is_name(name):
         raise Trouble(f"{name!r} can't be a note's name. Use up to 64 letters, digits, dots, hyphens and "
                       "underscores, the first a letter or a digit.")
@@ -83,7 +85,7 @@ def open_note(name: str, url: str | None, link: AnyLink | None, password: str | 
     path = path_of(name)
     try:
         if not path.exists():
-            for words in _make_first(name, path, url, link, password, form_number or form_of_new()):
+            for words in _make_first(name, path, url, link, password, form_number or form_of_new(url)):
                 tell(words)
         disk = _named(name, path)
     except Damaged as why:
@@ -148,7 +150,7 @@ def renew(name: str, url: str | None, password: str | None, called: str = "",
         left_out = []
     else:
         raise Trouble(f"There is no note {name} here.")
-    messages, form_number = begins(messages), form_number or max(old_form, form_of_new())
+    messages, form_number = begins(messages), form_number or max(old_form, form_of_new(url))
     _see_that_there_is_room(name, messages, form_number)
     beside = path.with_name(f".renewed.{os.getpid()}{NOTE_SUFFIX}")
     make_note(beside, *begun(url, messages, form_number))
@@ -226,6 +228,8 @@ def of_before(name: str, url: str | None, password: str | None) -> Old | None:
 
 
 def _of_before(name: str, url: str | None, password: str | None) -> Old | None:
+    if url and is_relay(url):
+        return None
     if not url or not is_network(url):
         return old.messages_of_old_note(data_folder(), name)
     return old.messages_of_old_server(url, name, password, data_folder())
@@ -239,18 +243,15 @@ def existing(name: str) -> pathlib.Path:
     return path
 
 
-def form_of_new() -> int:
-    """Of which form new notes are."""
-    return int(os.environ.get("VIALSHOAL_FORM", FIRST))
+def form_of_new(url: str | None = None) -> int:
+    """Of which form new notes are, whose log is there."""
+    return SECOND if url and is_relay(url) else int(os.environ.get("VIALSHOAL_FORM", FIRST))
 
 
 def _make_first(name: str, path: pathlib.Path, url: str | None, link: AnyLink | None, password: str | None,
                 form_number: int) -> Sequence[str]:
     """Makes a note's file; what was left out, in words."""
     if link:
-        if is_origin(link.url):
-            raise Trouble(f"That note's log is at a server of pages, {link.url}, which this version can't reach. Open it there in a "
-                          "browser.")
         make_note(path, About(link.form == "sealed", link.secret, url or link.url, link.form_number))
         return ()
     if not url and (kept := of_before(name, None, password)):
@@ -277,6 +278,8 @@ def check_agreement(about: About, name: str, url: str | None, link: AnyLink | No
     if url and url != about.url and is_network(url) and not about.sealed:
         raise Trouble(f"The note {name} isn't sealed, and nothing goes to a server unsealed. bin/note renew {name} "
                       f"--log {url} copies it into a sealed one.")
+    if url and is_relay(url) and about.form_number == FIRST:
+        raise Trouble(f"The note {name} is of the first form. {OF_SECOND_FORM_ALONE} bin/note renew {name} --log {url} copies it into one.")
 
 
 def _note_files(folders: Sequence[pathlib.Path]) -> list[pathlib.Path]:
@@ -287,7 +290,7 @@ def _note_files(folders: Sequence[pathlib.Path]) -> list[pathlib.Path]:
             found.append(folder)
         elif folder.is_dir():
             found += sorted(path for path in [*folder.iterdir(), *folder.glob("notes/*")]
-                            if re.search(r"\.note(\.damaged-\d+)?$", path.name) and path.is_file())
+                            if re.search(r"\.(note(\.damaged-\d+)?|vialshoal-note)$", path.name) and path.is_file())
         else:
             raise Trouble(f"{folder} isn't there.")
     return found

@@ -19,6 +19,7 @@ from share.format.entry import Bad, Copy, Entry, FirstForm, Form, OneByOne, dige
 from share.format.keystrokes import Keystrokes
 from share.format.operation import TEXT
 from share.format.second.form import RecordForm
+from share.format.second.saved import CUT_SHORT, SAVED_SUFFIX, read_saved_note
 from share.log.folder import inode_of, undisturbed
 from share.log.sqlite_file import FAULTS, Busy, Malformed, SqliteFile
 from share.program.site import Site
@@ -145,8 +146,24 @@ def _own(file: SqliteFile) -> Own:
 
 def found_in(path: pathlib.Path) -> FoundEntries:
     """What a file has, as far as it can be read. Each entry is judged as one that came from a stranger."""
+    if path.suffix == SAVED_SUFFIX:
+        return _found_in_saved(path)
     noted = noted_beside(path)
     return _with_file(path, lambda file: _found(file, partial(_lost, path, noted)))
+
+
+def _found_in_saved(path: pathlib.Path) -> FoundEntries:
+    """The same of a file as a relay's page saves it."""
+    try:
+        saved = read_saved_note(path.read_bytes())
+    except (OSError, Trouble) as why:
+        raise Trouble(f"{path}: {why}") from why
+    about = About(saved.link.form == "sealed", saved.link.key, saved.link.url, SECOND)
+    opened = about.form().open_many(saved.raws)
+    right = [one for one in opened if not isinstance(one, Bad)]
+    damaged = len(opened) - len(right)
+    return FoundEntries(about, right, [f"{entries(damaged)} left out, which aren't the note's."] * (damaged > 0)
+                        + [f"{CUT_SHORT}."] * (not saved.is_whole))
 
 
 def judged(path: pathlib.Path) -> Judged:

@@ -14,7 +14,7 @@ from share.format.history import Messages
 from share.format.operation import INSERT, Operation
 from share.format.presence import clean_name
 from share.log.base import LogLost, Unreachable
-from share.log.opening import open_log
+from share.log.opening import opener_of
 from share.program.site import Site, split
 from share.review.record import MARGIN
 from share.store.guarded import Damaged, Unkept
@@ -97,7 +97,7 @@ def say_so(path: pathlib.Path, name: str, password: str | None) -> None:
         # What its log isn't given now it is given when the old note is opened.
         disk.keep([said], made=True)
         if disk.about.url:
-            with closing(open_log(disk.about.url, disk.form.note, password)) as log:
+            with closing(opener_of(disk.about.url, disk.form, password)()) as log:
                 log.append([said.raw])
 
 

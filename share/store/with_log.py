@@ -4,10 +4,10 @@ from collections.abc import Callable, Iterator
 from contextlib import ExitStack, closing, contextmanager, suppress
 
 from share.admission.ledger import Row
-from share.format.entry import Bad, Entry, digest
+from share.format.entry import Bad, Entry, Form, digest
 from share.format.link import is_network
 from share.log.base import START, InLog, Log, LogLost, Unreachable
-from share.log.opening import open_log
+from share.log.opening import open_log, opener_of
 from share.store.guarded import Damaged, Unkept
 from share.store.note_file import Disk
 from share.store.old import copied
@@ -24,7 +24,7 @@ def with_log(found: Judged, url: str, password: str | None, keep: Callable[[list
     unread: list[str] = []
     form, seen = found.about.form(), set[bytes]()
     try:
-        for page in _pages(url, form.note, password):
+        for page in _pages(url, form, password):
             raws = {digest(one.raw): one.raw for one in page if one.raw is not None}
             strange |= {one.place for one in page if one.raw is None}
             new = [raw for of, raw in raws.items() if not found.has(of) and of not in seen]
@@ -55,11 +55,11 @@ def keep_in(path: pathlib.Path) -> Callable[[list[Entry]], None]:
     return keep
 
 
-def _pages(url: str, note: bytes, password: str | None) -> Iterator[list[InLog]]:
+def _pages(url: str, form: Form, password: str | None) -> Iterator[list[InLog]]:
     """All that a log has, page by page; from the front again where it loses entries meanwhile."""
     for _ in range(READ_TRIES):
         try:
-            with _opened(url, note, password) as log:
+            with _opened(url, form, password) as log:
                 after = START
                 while page := log.read(after):
                     yield page
@@ -71,11 +71,11 @@ def _pages(url: str, note: bytes, password: str | None) -> Iterator[list[InLog]]
 
 
 @contextmanager
-def _opened(url: str, note: bytes, password: str | None) -> Iterator[Log]:
+def _opened(url: str, form: Form, password: str | None) -> Iterator[Log]:
     """A log. Of a file it is a copy, since a log that is opened is written to, and set aside where it is damaged."""
     with ExitStack() as stack:
         if is_network(url):
-            yield stack.enter_context(closing(open_log(url, note, password)))
+            yield stack.enter_context(closing(opener_of(url, form, password)()))
             return
         try:
             if not pathlib.Path(url).exists():
@@ -83,4 +83,4 @@ def _opened(url: str, note: bytes, password: str | None) -> Iterator[Log]:
             copy = stack.enter_context(copied(pathlib.Path(url)))
         except OSError as why:
             raise Unreachable(f"{url}: {why.strerror}") from why
-        yield stack.enter_context(closing(open_log(str(copy), note)))
+        yield stack.enter_context(closing(open_log(str(copy), form.note)))

@@ -5,7 +5,7 @@ import time
 from contextlib import closing
 from typing import NamedTuple
 
-from share.log.opening import open_log
+from share.log.opening import opener_of
 from share.store import notes
 from share.store.note_file import Disk
 from share.sync.handover import Handover
@@ -27,7 +27,7 @@ def run_errand(name: str, password: str | None) -> Errand:
     """Brings a note's file and its log to the same."""
     with closing(notes.open_note(name, None, None)) as disk:
         url, form, path, had, woken = disk.about.url, disk.form, disk.path, disk.entries.size(), threading.Event()
-        replicator = Replicator(lambda: Disk(path), lambda: open_log(url, form.note, password), form, woken.set, lambda: disk, Handover())
+        replicator = Replicator(lambda: Disk(path), opener_of(url, form, password), form, woken.set, lambda: disk, Handover())
         try:
             offline = _until_done(replicator, woken)
         finally:

@@ -56,6 +56,8 @@ class Fetcher:
                 if self._known.reads_from_front or self._read_for is not carried:
                     self._begin_reading(log, carried)
                 has_more = self._read_on(disk, log, carried)
+                if words := log.told():
+                    self._threads.tell(words)
                 if self._goal is not None and (self.size >= self._goal or not has_more):
                     self._end_reading(disk, carried)
                 elif not has_more and log.size_to(self._after) != self.size:

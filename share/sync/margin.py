@@ -39,13 +39,19 @@ class TakenIn:
         """Has all be new the next time."""
         self._history = None
 
-    def more(self) -> tuple[Messages, bool]:
-        """The messages, and whether the site began anew, so that these are all."""
+    def more(self, most: int | None = None) -> tuple[Messages, bool]:
+        """The messages, the first ones where there are more than are asked for; and whether the site began anew, so that these are the
+        first of all."""
         history = self._site().history
         is_anew = history is not self._history or len(history) < self._many
         before = 0 if is_anew else self._many
-        self._history, self._many = history, len(history)
-        return history[before:], is_anew
+        found = history[before:None if most is None else before + most]
+        self._history, self._many = history, before + len(found)
+        return found, is_anew
+
+    def has_more(self) -> bool:
+        """Whether there are more than those that were asked for last."""
+        return self._many < len(self._site().history)
 
 
 class OpenMargin:
@@ -70,13 +76,18 @@ class OpenMargin:
         judge = self._holdings.judge
         return Knows(judge.inserter, judge.inserted, judge.is_of_base)
 
-    def read_on(self) -> set[Name] | None:
-        """Takes over what was taken in; the threads of which something may be otherwise since, None where that may be so of all."""
-        new, is_anew = self._taken_in.more()
+    def read_on(self, most: int) -> set[Name] | None:
+        """Takes over what was taken in, of so many messages at most; the threads of which something may be otherwise since, None where that
+        may be so of all."""
+        new, is_anew = self._taken_in.more(most)
         if is_anew:
             self.said = Margin()
         changed = self.said.add_all(new.runs())
         return None if is_anew else changed
+
+    def has_more(self) -> bool:
+        """Whether something was taken in that isn't taken over."""
+        return self._taken_in.has_more()
 
     def make_room(self, length: int) -> None:
         """Goes on under another number now where this one has no room for this many characters and what is said of them."""

@@ -9,7 +9,7 @@ from share.admission.ledger import Row
 from share.format.history import Messages
 from share.format.link import is_network
 from share.format.operation import TEXT
-from share.log.opening import open_log
+from share.log.opening import opener_of
 from share.program import retyping
 from share.program.retyping import Lost
 from share.program.site import Told
@@ -70,13 +70,13 @@ class Session(EditedNote):
             self._all_open = opened.pop_all()
 
     def _open_all(self, opened: ExitStack, password: str | None, bar: Bar, wake: Callable[[], None], handover: Handover) -> None:
-        url, note, path = self._about.url, self._form.note, self._file.disk.path
+        url, path = self._about.url, self._file.disk.path
         if is_network(url) and not self._about.sealed:
             raise Trouble(f"{path} has a note that isn't sealed with a log on a server. Nothing is sent there.")
         self._file.read_all()
         self._numbers = Numbers(self._holdings, self._form, bool(url), self._file)
         self._file.moved = self._numbers.lock_again
-        opens = (lambda: open_log(url, note, password)) if url else None
+        opens = opener_of(url, self._form, password) if url else None
         self._replicator = Replicator(lambda: Disk(path), opens, self._form, wake, lambda: self._file.disk, handover)
         opened.callback(self._replicator.close, 0)
         if search := self._numbers.search:

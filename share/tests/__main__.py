@@ -1,5 +1,5 @@
 """Runs the tests, some modules at a time and each in a process of its own, and ends with a line that says how many passed and how many
-failed. A module that takes too long is ended, and says what it was at."""
+failed. A module that takes too long is ended, and says what it was at. What failed of the others is run again, alone."""
 import contextlib
 import faulthandler
 import importlib
@@ -12,7 +12,7 @@ import sys
 import tempfile
 import time
 import unittest
-from collections.abc import Iterator, Sequence
+from collections.abc import Iterable, Iterator, Sequence
 from multiprocessing import connection
 from typing import NamedTuple
 
@@ -38,28 +38,41 @@ MODULES = ["test_storm", "test_spots", "test_all_editors", "test_page", "test_re
            "test_layout_and_changes", "test_sealed", "test_transform", "test_notes_of_messages", "test_snapshot", "test_intake",
            "test_difference", "test_state", "test_chained", "test_links", "test_copied_numbers", "test_memory",
            "test_withdrawn", "test_held_up", "test_records", "test_claim_search", "test_message_judge", "test_composing",
-           "test_rebasing", "test_record_judge", "test_second_notes", "test_not_begun", "test_turns", "test_margin",
-           "test_review", "test_reviews", "test_critic", "test_review_scripts", "test_review_terminal"]
+           "test_rebasing", "test_record_judge", "test_second_notes", "test_not_begun", "test_turns", "test_said_by_others", "test_margin",
+           "test_review", "test_reviews", "test_critic", "test_review_scripts", "test_review_terminal", "test_relay", "test_relay_logs",
+           "test_relay_notes", "test_relay_security", "test_relay_page", "test_site_modules", "test_relay_front", "test_relay_firefox",
+           "test_relay_offline", "test_relay_people", "test_note_definitions"]
 # These run over notes of the second form, too, which has rules of its own for what they are about: numbers, copies, losses, what is
 # sent, who is on, and attacks. Any module does as "test_one:2".
 OVER_BOTH = frozenset(("test_all_editors", "test_carried", "test_changed", "test_copied_numbers", "test_copies", "test_left_out",
                        "test_losses", "test_numbers", "test_presence", "test_security", "test_withdrawn"))
 # After this long a module is ended, on however busy a machine, unless one of these has its tests take as long as they are told to.
-MODULE_SECONDS = 1_800.0
+MODULE_SECONDS = 3_600.0
 LONG_RUNS = "SHARE_STORM", "SHARE_ROUNDS", "SHARE_SECONDS"
 # How long it then has to write down what it was at, or to end by itself once it has sent what came of it.
-ENDING_SECONDS = 30.0
+ENDING_SECONDS = 120.0
 # The most characters that are told of a failure in a line.
 MOST_TOLD = 500
+# How often what failed is run again, and passes each time if it is to count as passed; of more failures none is.
+TIMES_AGAIN = 3
+MOST_AGAIN = 5
+
+
+class Fault(NamedTuple):
+    """What failed of a module, in a line, and the tests that show whether it fails again: what else is wrong where some failed may come of
+    these. None where that can't be told."""
+
+    module: str
+    words: str
+    tests: frozenset[str] = frozenset()
 
 
 class Result(NamedTuple):
-    """How many tests of a module passed and failed, what is to be told of them all, and in a line of each that failed."""
+    """How many tests of a module passed, what is to be told of them all, and what failed."""
 
     passed: int
-    failed: int
     told: str
-    faults: Sequence[str]
+    faults: Sequence[Fault]
 
 
 class Running(NamedTuple):
@@ -83,13 +96,13 @@ class Running(NamedTuple):
 
     def fault(self, what: str) -> Result:
         """What is told where no result came."""
-        words = f"FAIL: {self.module} {what}"
-        return Result(0, 1, f"{self.told.read_text('utf-8', 'replace')}\n{words}\n", [words])
+        words = f"{self.module} {what}"
+        return Result(0, f"{self.told.read_text('utf-8', 'replace')}\nFAIL: {words}\n", [Fault(self.module, words)])
 
 
-def run(module: str, told: pathlib.Path) -> Result:
-    """Runs a module. A test that was left out failed, unless it is of the first form and this is the second, and so did a module that
-    left something open."""
+def run(module: str, told: pathlib.Path, only: frozenset[str]) -> Result:
+    """Runs a module, or some of its tests. A test that was left out failed, unless it is of the first form and this is the second, and so
+    did a module that left something open."""
     with open(told, "w", encoding="utf-8", errors="backslashreplace", buffering=1) as file:
         # Whatever ends the process, it is told what each thread was at.
         faulthandler.enable(file)
@@ -97,18 +110,47 @@ def run(module: str, told: pathlib.Path) -> Result:
         name, _, form = module.partition(":")
         if form:
             of_second_form()
-        tests = unittest.defaultTestLoader.loadTestsFromName(f"share.tests.{name}")
+        tests = tests_of(name, only)
+        names = frozenset(one.id() for one in each_of(tests))
         result = unittest.TextTestRunner(file, verbosity=2).run(tests)
         of_first_form = [test for test, why in result.skipped if why.startswith(FIRST_FORM_ALONE)]
         skipped = [(test, why) for test, why in result.skipped if test not in of_first_form]
-        failed = {str(test): words for test, words in [*result.failures, *result.errors, *skipped]}
-        faults = [f"FAIL: {test}: {what_failed(words)}" for test, words in failed.items()]
+        failed = {str(test): (test, words) for test, words in [*result.failures, *result.errors, *skipped]}
+        names -= {test.id() for test in of_first_form}
+        faults = [Fault(module, f"{said}: {what_failed(words)}", of_fault(test, names)) for said, (test, words) in failed.items()]
         if left := left_open(before):
-            faults.append(f"FAIL: {module} left {left}")
-            file.write(f"{faults[-1]}\n")
+            faults.append(Fault(module, f"{module} left {left}", all_tests(faults)))
+            file.write(f"FAIL: {faults[-1].words}\n")
         file.write(f"{module}: {time.monotonic() - begin:.0f} s, {processor_seconds():.0f} of them of a processor\n")
         faulthandler.disable()
-    return Result(result.testsRun - len(failed) - len(of_first_form), len(faults), told.read_text("utf-8"), faults)
+    return Result(len(names - all_tests(faults)), told.read_text("utf-8"), faults)
+
+
+def tests_of(name: str, only: frozenset[str]) -> unittest.TestSuite:
+    """The tests of a module, or some of them, each of which is let go of once it has run."""
+    found = unittest.defaultTestLoader.loadTestsFromName(f"share.tests.{name}")
+    return unittest.TestSuite(one for one in each_of(found) if not only or one.id() in only)
+
+
+def each_of(tests: unittest.TestSuite) -> Iterator[unittest.TestCase]:
+    """The tests of a suite and of those in it."""
+    for one in tests:
+        if isinstance(one, unittest.TestSuite):
+            yield from each_of(one)
+        else:
+            yield one
+
+
+def of_fault(failed: unittest.TestCase, tests: frozenset[str]) -> frozenset[str]:
+    """Which of a module's tests failed: one, perhaps in a part of it, or those of the class or module that didn't begin or end."""
+    # "setUpClass (module.class)" is what the field calls such a one.
+    name, _, group = getattr(failed, "test_case", failed).id().partition(" (")
+    return frozenset(one for one in tests if one == name or group and one.startswith(f"{group[:-1]}."))
+
+
+def all_tests(faults: Iterable[Fault]) -> frozenset[str]:
+    """The tests of all of these."""
+    return frozenset(test for fault in faults for test in fault.tests)
 
 
 def what_failed(words: str) -> str:
@@ -123,31 +165,31 @@ def processor_seconds() -> float:
     return sum(one.ru_utime + one.ru_stime for one in used)
 
 
-def run_and_send(module: str, told: pathlib.Path, end: "connection.Connection") -> None:
+def run_and_send(module: str, told: pathlib.Path, only: frozenset[str], end: "connection.Connection") -> None:
     """Runs a module in this process, and sends what came of it."""
-    end.send(run(module, told))
+    end.send(run(module, told, only))
 
 
-def start(module: str, told: pathlib.Path, seconds: float) -> tuple["connection.Connection", Running]:
+def start(module: str, told: pathlib.Path, seconds: float, only: frozenset[str]) -> tuple["connection.Connection", Running]:
     """Starts a module, and gives the end at which what comes of it is received."""
     forking = multiprocessing.get_context("fork")
     ours, theirs = forking.Pipe(duplex=False)
     told.touch()
-    process = forking.Process(target=run_and_send, args=(module, told, theirs))
+    process = forking.Process(target=run_and_send, args=(module, told, only, theirs))
     process.start()
     theirs.close()
     return ours, Running(module, process, told, time.monotonic() + seconds)
 
 
-def results(modules: Sequence[str], folder: pathlib.Path, seconds: float) -> Iterator[Result]:
-    """What came of each module, as soon as it is known, or it has taken too long. Each is run in a process of its own, so that none has
-    what another one left."""
+def results(modules: Sequence[str], folder: pathlib.Path, seconds: float, only: frozenset[str] = frozenset()) -> Iterator[Result]:
+    """What came of each module, or of some of its tests, as soon as it is known, or it has taken too long. Each is run in a process of its
+    own, so that none has what another one left."""
     waiting, running = [*enumerate(modules)], dict[connection.Connection, Running]()
     try:
         while waiting or running:
             while waiting and len(running) < AT_A_TIME:
                 number, module = waiting.pop(0)
-                line, one = start(module, folder / f"{number}-{module}", seconds)
+                line, one = start(module, folder / f"{number}-{module}", seconds, only)
                 running[line] = one
             patience = max(0.0, min(one.end for one in running.values()) - time.monotonic())
             for ready in connection.wait([*running], patience):
@@ -175,8 +217,9 @@ def received(line: "connection.Connection", one: Running) -> Result:
     if result is None:
         return one.fault(f"ended its process, with status {one.process.exitcode}")
     if not has_ended:
-        words = f"FAIL: {one.module} has run, and its process didn't end"
-        return Result(result.passed, result.failed + 1, f"{result.told}{words}\n", [*result.faults, words])
+        words = f"{one.module} has run, and its process didn't end"
+        faults = [*result.faults, Fault(one.module, words, all_tests(result.faults))]
+        return Result(result.passed, f"{result.told}FAIL: {words}\n", faults)
     return result
 
 
@@ -196,14 +239,42 @@ def given_up(line: "connection.Connection", one: Running, seconds: float) -> Res
     return one.fault(f"was ended, since it took more than {seconds:.0f} seconds")
 
 
+def passed_again(faults: Sequence[Fault], folder: pathlib.Path, seconds: float) -> list[Fault]:
+    """Those of a module's faults that don't come again when their tests are run alone, of which each is run."""
+    wanted = all_tests(faults)
+    for result in results([faults[0].module], folder, seconds, wanted):
+        print(result.told, flush=True)
+        failed = all_tests(result.faults)
+        are_run = result.passed == len(wanted - failed)
+        faults = [one for one in faults if are_run and all(again.tests for again in result.faults) and not one.tests & failed]
+    return [*faults]
+
+
+def unsteady_of(faults: Sequence[Fault], folder: pathlib.Path, seconds: float) -> list[Fault]:
+    """Those that never come again, however often their tests are run; none where so much failed that something is really wrong."""
+    found = list[Fault]()
+    for module in dict.fromkeys(one.module for one in faults if len(faults) <= MOST_AGAIN):
+        left = [one for one in faults if one.module == module and one.tests]
+        for _ in range(TIMES_AGAIN):
+            left = left and passed_again(left, folder, seconds)
+        found += left
+    return found
+
+
 def count(modules: Sequence[str], folder: pathlib.Path, seconds: float = MODULE_SECONDS) -> int:
     """Runs modules, prints what came of them, and last how many tests passed and failed; the status of that."""
-    passed, failed, faults = 0, 0, list[str]()
+    passed, faults = 0, list[Fault]()
     for one in results(modules, folder, seconds):
         print(one.told, flush=True)
-        passed, failed, faults = passed + one.passed, failed + one.failed, [*faults, *one.faults]
+        passed, faults = passed + one.passed, [*faults, *one.faults]
+    unsteady = unsteady_of(faults, folder, seconds)
+    passed += len({(fault.module, test) for fault in unsteady for test in fault.tests})
+    failed = [fault for fault in faults if fault not in unsteady]
     # Once more, so that nobody has to look for them in all that was told.
-    print("\n".join([*faults, f"{passed} passed, {failed} failed"]), flush=True)
+    last = [*(f"FAIL: {fault.words}" for fault in failed), *(f"UNSTEADY: {fault.words}" for fault in unsteady)]
+    if unsteady:
+        last.append(f"{len(unsteady)} unsteady: what failed at first, and passed {TIMES_AGAIN} times when it was run again, alone")
+    print("\n".join([*last, f"{passed} passed, {len(failed)} failed"]), flush=True)
     return 1 if failed or not passed else 0
 
 

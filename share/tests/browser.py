@@ -6,7 +6,8 @@ import shutil
 from typing import Any
 
 from selenium import webdriver
-from selenium.common.exceptions import WebDriverException
+from selenium.common.exceptions import (ElementClickInterceptedException, ElementNotInteractableException, JavascriptException,
+                                        StaleElementReferenceException, WebDriverException)
 from selenium.webdriver.chrome.service import Service
 from selenium.webdriver.common.action_chains import ActionChains
 from selenium.webdriver.common.by import By
@@ -14,20 +15,52 @@ from selenium.webdriver.common.keys import Keys
 from selenium.webdriver.remote.remote_connection import RemoteConnection
 from selenium.webdriver.remote.webelement import WebElement
 
-from share.tests.waiting import PATIENCE
+from share.tests.waiting import PATIENCE, wait_for
 
 CHROMIUM, DRIVER = shutil.which("chromium") or "", shutil.which("chromedriver") or ""
 # As root there is no sandbox; windows behind others are to be as quick as the one in front.
 WORDS = ["--headless=new", "--no-sandbox", "--disable-gpu", "--disable-dev-shm-usage", "--no-first-run",
          "--disable-background-timer-throttling", "--disable-renderer-backgrounding", "--disable-extensions",
          "--disable-backgrounding-occluded-windows", "--no-proxy-server"]
+# What a condition looks at may not be there yet.
 WAITING = """const [done, end] = [arguments[arguments.length - 1], Date.now() + 1000 * arguments[0]];
 const words = arguments;
+let why = "it isn't so";
+const holds = () => {
+  try {
+    return CONDITION;
+  } catch (wrong) {
+    why = String(wrong);
+    return false;
+  }
+};
 (function look() {
-  if (CONDITION) done(true);
-  else if (Date.now() > end) done(false);
+  if (holds()) done(true);
+  else if (Date.now() > end) done(why);
   else setTimeout(look, 10);
 })();"""
+# An element, once two frames in a row show it at the same place; a window that is behind others may draw none.
+STILL = """const [done, end] = [arguments[arguments.length - 1], Date.now() + 1000 * arguments[0]];
+const words = arguments;
+const frame = () => new Promise((yes) => { requestAnimationFrame(yes); setTimeout(yes, 500); });
+const place = (one) => ((box) => [box.x, box.y, box.width, box.height].join())(one.getBoundingClientRect());
+(async () => {
+  for (let before = [null, ""]; Date.now() < end;) {
+    await frame();
+    const found = FOUND;
+    const now = [found ?? null, found ? place(found) : ""];
+    if (found && before[0] === now[0] && before[1] === now[1]) return found;
+    before = now;
+  }
+  return null;
+})().then(done, (wrong) => done(String(wrong)));"""
+# The page's clock stands still, and goes on: on a busy machine it could take what is composed for forgotten.
+CLOCK_STANDS = "(performance.now = ((now) => () => now)(performance.now()))"
+CLOCK_GOES_ON = "delete performance.now"
+IS_CLICKED = """((one) => {
+  window.isClicked = false;
+  one.addEventListener("click", () => { window.isClicked = true; }, { capture: true, once: true });
+})(arguments[0])"""
 # How often it is tried to start one: on a busy machine the driver gives up waiting for it, or somebody else gets the driver's port.
 STARTS = 5
 # So much is shown of a text where something is wrong.
@@ -51,11 +84,15 @@ class Browser:
         self.driver.set_script_timeout(2 * PATIENCE)
         self.size = width, height
 
-    def open(self, path: pathlib.Path) -> "Window":
-        """A page that a file leads to, in a window of its own."""
+    def window(self) -> "Window":
+        """A new window."""
         self.driver.switch_to.new_window("window")
         self.driver.set_window_size(*self.size)
-        window = Window(self, self.driver.current_window_handle)
+        return Window(self, self.driver.current_window_handle)
+
+    def open(self, path: pathlib.Path) -> "Window":
+        """A page that a file leads to, in a window of its own."""
+        window = self.window()
         self.driver.get(path.as_uri())
         window.wait_for("typeof CodeMirror === 'function' && document.title !== 'Note' && !%s.getOption('readOnly')" % MIRROR)
         return window
@@ -92,11 +129,24 @@ class Window:
 
     def wait_for(self, condition: str, *words: object) -> None:
         """Waits until a condition of the page's holds, in which `words` are these."""
-        script = WAITING.replace("CONDITION", condition.replace("words[", "words[1 + "))
-        if not self.driver.execute_async_script(script, PATIENCE, *words):
+        why = self._answered(WAITING.replace("CONDITION", condition.replace("words[", "words[1 + ")), *words)
+        if why is not True:
             shown = self.run("document.body.innerText")[:MOST_SHOWN]
-            raise AssertionError(f"waited {PATIENCE} seconds for {condition}, {str(words)[:MOST_SHOWN]}; the page: {shown!r}; "
+            raise AssertionError(f"waited {PATIENCE} seconds for {condition}, {str(words)[:MOST_SHOWN]}; {why}; the page: {shown!r}; "
                                  f"{self.told()}")
+
+    def gives(self, script: str, value: object) -> None:
+        """Waits until a script of the page's gives a value."""
+        self.wait_for(f"JSON.stringify({script}) === JSON.stringify(words[0])", value)
+
+    def _answered(self, script: str, *words: object) -> Any:
+        """What a script answers at last, which is begun again where another page comes meanwhile."""
+        while True:
+            try:
+                return self.driver.execute_async_script(script, PATIENCE, *words)
+            except JavascriptException as why:
+                if "unloaded" not in str(why):
+                    raise
 
     def element(self, selector: str) -> WebElement:
         """An element."""
@@ -134,12 +184,35 @@ class Window:
             document.activeElement.dispatchEvent(new ClipboardEvent("paste", { clipboardData, bubbles: true, cancelable: true }));
         })(arguments[0])""", text)
 
+    def still(self, found: str, *words: object) -> WebElement:
+        """The element that a script finds, in which `words` are these, once it is there and stands still."""
+        one = self._answered(STILL.replace("FOUND", found.replace("words[", "words[1 + ")), *words)
+        assert isinstance(one, WebElement), (found, words, one)
+        return one
+
+    def click(self, found: str, *words: object) -> None:
+        """Clicks on what a script finds; once more where that was drawn anew, or moved away before the click was there."""
+        def is_clicked() -> bool:
+            with contextlib.suppress(StaleElementReferenceException, ElementClickInterceptedException, ElementNotInteractableException):
+                one = self.still(found, *words)
+                self.run(IS_CLICKED, one)
+                one.click()
+                # Where another page has come it was.
+                return self.run("window.isClicked") is not False
+            return False
+        wait_for(is_clicked, f"a click on {found} {words}")
+
     def press(self, button: str) -> None:
         """Presses a button of the page."""
-        self.element(f"#{button}").click()
+        self.click("document.getElementById(words[0])", button)
+
+    def click_on(self, selector: str) -> None:
+        """Clicks on an element."""
+        self.click("document.querySelector(words[0])", selector)
 
     def click_with_control(self, selector: str) -> None:
         """Clicks on an element while Ctrl is held."""
+        self.still("document.querySelector(words[0])", selector)
         actions: Any = ActionChains
         actions(self.driver).key_down(Keys.CONTROL).click(self.element(selector)).key_up(Keys.CONTROL).perform()
 

@@ -1,4 +1,4 @@
-// A stand-in for CodeMirror, without a page: the text, and selections that changes move as CodeMirror's do.
+// A stand-in for CodeMirror, without a page: the text, and selections and marks that changes move as CodeMirror's do.
 
 const order = (one, other) => one.line - other.line || one.ch - other.ch;
 
@@ -20,6 +20,8 @@ class Standing {
   // Each selection as the indices of its ends.
   #selected = [[0, 0]];
   #hears = { beforeChange: [], changes: [] };
+  // Each mark as the indices of its ends; of one at a place both are the same.
+  #marked = new Set();
 
   on(what, calls) { this.#hears[what]?.push(calls); }
 
@@ -36,6 +38,20 @@ class Standing {
   getValue() { return this.#text; }
 
   getLine(number) { return this.#text.split("\n")[number]; }
+
+  getLineHandle(number) { return number; }
+
+  getLineNumber(handle) { return handle; }
+
+  #mark(from, to, more) {
+    const ends = [from, to].map((place) => this.#index(place));
+    this.#marked.add(ends);
+    return { ...more, find: () => more.found(...ends.map((at) => this.#at(at))), clear: () => this.#marked.delete(ends) };
+  }
+
+  markText(from, to, { thread }) { return this.#mark(from, to, { thread, found: (begin, end) => ({ from: begin, to: end }) }); }
+
+  setBookmark(place) { return this.#mark(place, place, { found: (at) => at }); }
 
   lastLine() { return this.#text.split("\n").length - 1; }
 
@@ -67,11 +83,18 @@ class Standing {
     };
     this.#text = this.#text.slice(0, begin) + text + this.#text.slice(end);
     this.#selected = this.#selected.map((ends) => ends.map(moved));
+    for (const ends of this.#marked) {
+      // What comes in at a mark's ends, or at a place that is marked, isn't in it, and stands behind the place.
+      const [first, last] = ends;
+      const isPlace = first === last;
+      ends[0] = first < begin || isPlace && first === begin ? first : moved(first);
+      ends[1] = Math.max(ends[0], last < end || last === begin ? Math.min(last, begin) : moved(last));
+    }
     for (const calls of this.#hears.changes) calls(this);
   }
 }
 
-globalThis.document = { createElement: () => ({ append() {} }) };
+globalThis.document = { createElement: () => ({ append() {}, dataset: {} }) };
 globalThis.ResizeObserver = class { observe() {} };
 globalThis.CodeMirror = Object.assign(function make() { return new Standing(); }, {
   cmpPos: order, defaults: { specialCharPlaceholder() {}, viewportMargin: 10 },

@@ -175,7 +175,7 @@ class Engines(Case):
 
     def printed(self, data: str = "data") -> str:
         """What the note's command prints."""
-        done = subprocess.run([NOTE, "note", "--print"], capture_output=True, check=True, timeout=120,
+        done = subprocess.run([NOTE, "note", "--print"], capture_output=True, check=True, timeout=PATIENCE,
                               env={**os.environ, "VIALSHOAL_DATA": str(self.folder / data)})
         return done.stdout.decode()
 

@@ -183,6 +183,9 @@ def _thread(one: Found, records: list[Found]) -> Fields:
             saw.setdefault(int(site), of)
     at = [*fields.get("at", []), *(names for part in parts for names in part.get("at", []))]
     first = _remark(one, records)
+    of_acceptance = [state for state in states if isinstance(state.fields.get("accepts"), bool)]
+    if of_acceptance and not of_acceptance[-1].fields["accepts"]:
+        states = [state for state in states if state not in of_acceptance]
     state = states[-1].fields["state"] if states else "open"
     return {"first": first, "kind": fields["is"], "state": None if first["body"] is None else state,
             "anchor": {"at": _names(at), "behind": _place(fields["behind"]) if "behind" in fields else None, "saw": saw,

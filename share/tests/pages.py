@@ -51,11 +51,13 @@ FAULTS_OF_LOOKS = """((isPhone) => {
     const contrast = (Math.max(dark, pale) + 0.05) / (Math.min(dark, pale) + 0.05);
     if (contrast < 4.5) faults.push(`${one.id || one.className || one.tagName} ${contrast}`);
   }
-  const em = parseFloat(getComputedStyle(document.querySelector('main .CodeMirror')).fontSize);
-  const measure = document.querySelector('main .CodeMirror-lines').getBoundingClientRect().width / em;
+  const lines = document.querySelector('main .CodeMirror-lines');
+  const measure = lines ? lines.getBoundingClientRect().width / parseFloat(getComputedStyle(lines).fontSize) : 0;
   if (measure > 46.01) faults.push(`${measure} em`);
   return faults;
 })(arguments[0])"""
+# Whether a window has a width, and light or dark colours.
+LOOKS_SO = "innerWidth === words[0] && matchMedia(`(prefers-color-scheme: ${words[1]})`).matches"
 FOUND = re.compile(r'url=(http://127\.0\.0\.1:(\d+)/#([0-9a-f]+))"')
 
 

@@ -14,9 +14,10 @@ from share.admission.reasons import Reason
 from share.format.history import Messages
 from share.format.operation import Operation
 from share.tests import naive_second as second
-from share.tests.naive_chunks import Message, inserting, spelled
-from share.tests.naive_second import ZEROS, Answer, Bad, Entry, Founding, Kind, Note, Place, Saying, base_hashes, opened, rank
+from share.tests.naive_chunks import Message, inserting
+from share.tests.naive_second import Answer, Bad, Entry, Founding, Kind, Note, Place, base_hashes, opened, rank
 from share.tests.record_agreement import agrees_on_records
+from share.tests.second_attacks import ATTACKS, Attacked
 from share.tests.second_sets import COPIED, RIGHT, STEPS, ZERO_BITS, Branch, Set, cut
 from share.text.names import Names
 
@@ -81,7 +82,7 @@ def record(note: Note, entry: Entry, secret: bytes) -> Record:
     return one._replace(operations=operations, hashes=tuple(said.hash for said in entry.says), ons=tuple(said.on for said in entry.says))
 
 
-class Typed(Set):
+class Typed(Attacked):
     """A set in which letters are typed one after the other, also with one of them wrong, and others speak of them."""
 
     def type_on(self) -> None:
@@ -92,12 +93,11 @@ class Typed(Set):
         wrong = self._chance.randrange(6 * count)
         for number in range(count):
             branch = self._letter(branch, self._chance.randrange(4) if number == wrong else None)
-        self.raws += cut(self.note, branch, self._chance, begin)
-        self.branches.append(branch)
+        self._send(branch, begin)
 
     def _letter(self, branch: Branch, wrong: int | None) -> Branch:
         """A branch with one more letter."""
-        before, at, stamp, on = branch.said[-1].hash if branch.said else ZEROS, branch.length, branch.stamp + 1, b""
+        at, stamp, on = branch.length, branch.stamp + 1, b""
         cause = (branch.site, at - 1) if at else None
         if wrong == 0:
             at += 1
@@ -107,10 +107,8 @@ class Typed(Set):
             cause = (branch.site, self._chance.randrange(at)) if at else None
         elif wrong == 3:
             on = bytes(32)
-        seq = branch.said[-1].message.seq + 1 if branch.said else 1
-        message = inserting(branch.text, branch.site, seq, stamp, cause, at, self._chance.choice([b"a", b"b"]))
-        of = self.note.message_hash(branch.author.name, before, spelled(message), on)
-        return branch._replace(said=(*branch.said, Saying(message, on, of, before, branch.author.name)))
+        message = inserting(branch.text, branch.site, branch.next_seq, stamp, cause, at, self._chance.choice([b"a", b"b"]))
+        return branch.gone_on(self.note, message, on)
 
 
 class Reader:
@@ -208,7 +206,7 @@ def agrees(one: Set, reader: Reader, raws: Sequence[bytes], chance: random.Rando
 def a_set(chance: random.Random) -> Set:
     """A set as test_second_form makes them, of few steps or of more."""
     steps = ["claim"] * chance.choice([3, 6, 9]) + ["begin"] * chance.choice([2, 3]) + chance.choices(
-        chance.choice([RIGHT + TYPING, STEPS + TYPING * 3]), k=chance.choice([4, 8, 14]))
+        chance.choice([RIGHT + TYPING, STEPS + TYPING * 3, RIGHT + TYPING + ATTACKS]), k=chance.choice([4, 8, 14, 24]))
     return Typed([(step, chance.randrange(2**16)) for step in steps], chance.random() < 0.3)
 
 

@@ -77,6 +77,10 @@ class Branch(NamedTuple):
         return self.said[-1].message.stamp if self.said else 0
 
     @property
+    def next_seq(self) -> int:
+        return self.said[-1].message.seq + 1 if self.said else 1
+
+    @property
     def is_chain(self) -> bool:
         """Whether all of them are of this author and place, and none is missing between them."""
         return [(one.author, one.place, one.message.seq) for one in self.said] == [
@@ -89,6 +93,12 @@ class Branch(NamedTuple):
     def seen(self, site: int) -> int:
         """The greatest offset of another site that was mentioned."""
         return max((offset for one in self.said for of, offset in one.mentions() if of == site), default=-1)
+
+    def gone_on(self, note: Note, message: Message, on: bytes = b"") -> "Branch":
+        """The branch with one more message, and what that says that it builds on."""
+        before = self.said[-1].hash if self.said else ZEROS
+        of = note.message_hash(self.author.name, before, spelled(message), on)
+        return self._replace(said=(*self.said, Saying(message, on, of, before, self.author.name)))
 
     def raw(self, note: Note, begin: int, end: int) -> bytes:
         """The entry that has some of the messages."""
@@ -196,10 +206,13 @@ class Set:
         """Somebody says that some messages stand for others."""
         old, new = self._leaf(), self._leaf()
         if old and new:
-            by, at = self._chance.choice([old, new]), self._chance.choice([0, 1, 2])
-            body = b"".join([old.author.name, old.site.to_bytes(2, "big"), new.author.name, new.site.to_bytes(2, "big"),
-                             self._chance.choice([ZEROS, new.said[-1].hash]), varint(1), varint(at), varint(self._chance.choice([1, 3]))])
-            self._add(Kind.COPIES, by.author, by, self._chance.choice([ZEROS, old.said[-1].hash]), body)
+            by, stretch = self._chance.choice([old, new]), (1, self._chance.choice([0, 1, 2]), self._chance.choice([1, 3]))
+            self._add(Kind.COPIES, by.author, by, self._chance.choice([ZEROS, old.said[-1].hash]), self._copies(old, new, stretch))
+
+    def _copies(self, old: Branch, new: Branch, stretch: tuple[int, int, int]) -> bytes:
+        """The body that says of a stretch of messages that others are their copies, perhaps up to which."""
+        return b"".join([old.author.name, old.site.to_bytes(2, "big"), new.author.name, new.site.to_bytes(2, "big"),
+                         self._chance.choice([ZEROS, new.said[-1].hash]), *map(varint, stretch)])
 
     def be_newer(self) -> None:
         """A newer version says what this one doesn't know."""
@@ -229,8 +242,12 @@ class Set:
         count = self._chance.choice([1, 1, 2, 3])
         begin, wrong = len(branch.said), self._chance.randrange(count)
         for number in range(count):
-            seq = (branch.said[-1].message.seq if branch.said else 0) + 1 + (skipped if branch.said and not number else 0)
+            seq = branch.next_seq + (skipped if branch.said and not number else 0)
             branch = self._said(branch, seq, fault if number == wrong else Fault())
+        self._send(branch, begin)
+
+    def _send(self, branch: Branch, begin: int) -> None:
+        """Puts a branch's messages from one on into entries."""
         self.raws += cut(self.note, branch, self._chance, begin)
         self.branches.append(branch)
 
@@ -240,10 +257,7 @@ class Set:
         stamp = max(branch.stamp, other.stamp if other else 0)
         stamp = max(1, stamp + (self._chance.choice([1, 1, 2, 10]) if fault.leap is None else fault.leap))
         message = self._does(branch, other or branch, seq, stamp, fault)
-        on = fault.on(self._on(branch, other, message))
-        before = branch.said[-1].hash if branch.said else ZEROS
-        of = self.note.message_hash(branch.author.name, before, spelled(message), on)
-        return branch._replace(said=(*branch.said, Saying(message, on, of, before, branch.author.name)))
+        return branch.gone_on(self.note, message, fault.on(self._on(branch, other, message)))
 
     def _does(self, branch: Branch, other: Branch, seq: int, stamp: int, fault: Fault) -> Message:
         """A message that speaks of characters of a branch."""
@@ -261,10 +275,14 @@ class Set:
 
     def _other(self, branch: Branch) -> Branch | None:
         """A branch of another number, or of the base, that may be spoken of."""
+        others = [one for one in self._others(branch) if one.site != branch.site]
+        return self._chance.choice(others) if others and self._chance.random() < 0.6 else None
+
+    def _others(self, branch: Branch) -> list[Branch]:
+        """All branches of a text, those of the base first."""
         base = [Branch(Author(self.note.public, b""), site, branch.text, tuple(one for one in self.made.base if one.place == (
             site, branch.text))) for site in COPIED if self.has_base]
-        others = [one for one in [*base, *self.branches] if one.text == branch.text and one.site != branch.site]
-        return self._chance.choice(others) if others and self._chance.random() < 0.6 else None
+        return [one for one in [*base, *self.branches] if one.text == branch.text]
 
     def _on(self, branch: Branch, other: Branch | None, message: Message) -> bytes:
         """What a message builds on."""

@@ -596,6 +596,9 @@ class Storm:
             # Who has the key makes it anew, if anybody has it.
             with contextlib.suppress(AssertionError):
                 wait_for(lambda: self.are_alike() and not (self.wrong() or self.left_out() or self.lacks()), "", ANEW_PATIENCE)
+        if self.lacks():
+            # On a busy machine it takes longer, or is told later that it was left out.
+            self.comes(lambda: self.are_alike() and not self.wrong() and (self.left_out() or not self.lacks()), MEET_PATIENCE)
         if self.left_out():
             self.recover()
             self.comes(lambda: self.are_alike() and not (self.wrong() or self.left_out()), MEET_PATIENCE)
@@ -647,8 +650,11 @@ class Storm:
         one, lacks = self.someone(), self.lacks()
         self.say(f"{one.name} types again what was left out")
         done = one.note("recover", "--lost", "note")
-        if done.returncode or {*lacks} - {*done.stdout.split()}:
+        if done.returncode:
             self.fault(f"lacks: {lacks}; recover --lost ended with {done.returncode}: {done.stdout}{done.stderr}")
+        # What isn't among what was typed again somebody has made anew meanwhile.
+        if missing := {*lacks} - {*done.stdout.split()}:
+            self.comes(lambda: self.are_alike() and missing.isdisjoint(self.lacks()), MEET_PATIENCE)
         self.say(f"it was {done.stdout.split()}")
         self.recovered += 1
 

@@ -24,7 +24,7 @@ from share.format.second.form import RecordForm
 from share.format.second.key_link import link_of
 from share.format.second.record import RECORD_HEAD, Record
 from share.log.base import START, Log
-from share.log.opening import open_log
+from share.log.opening import opener_of
 from share.program.process import Program
 from share.program.site import Edited, Site, Told
 from share.store import notes
@@ -35,6 +35,7 @@ from share.tests.forms import is_second_form, of_second_form
 from share.tests.naive import newer, taking
 from share.tests.note import Note
 from share.tests.servers import RedisServer
+from share.tests.waiting import PATIENCE
 from share.tests.waiting import wait_for as wait_for
 
 TOP = pathlib.Path(__file__).resolve().parents[2]
@@ -98,7 +99,7 @@ class Person:
     def log(self, name: str = "note") -> Log:
         """The log of a note, which the caller closes."""
         with contextlib.closing(self.disk(name)) as disk:
-            return open_log(disk.about.url, disk.form.note)
+            return opener_of(disk.about.url, disk.form)()
 
 
 def founders_search() -> contextlib.AbstractContextManager[object]:
@@ -156,7 +157,7 @@ class Case(unittest.TestCase):
 
     def note(self, *words: str, **environment: str) -> subprocess.CompletedProcess[str]:
         """A run of bin/note."""
-        return subprocess.run([NOTE, *words], capture_output=True, text=True, timeout=120, check=False,
+        return subprocess.run([NOTE, *words], capture_output=True, text=True, timeout=PATIENCE, check=False,
                               stdin=subprocess.DEVNULL, env={**os.environ, **environment})
 
     def assert_says(self, run: subprocess.CompletedProcess[str], *parts: str) -> None:
@@ -389,9 +390,9 @@ def plain_text(messages: Iterable[Operation]) -> bytes:
         program.close()
 
 
-def engine_of(data: pathlib.Path) -> int:
-    """The process that has a person's note open, which is called `note`."""
-    lock = os.stat(data / "run" / "note.lock")
+def engine_of(data: pathlib.Path, name: str = "note") -> int:
+    """The process that has a person's note open."""
+    lock = os.stat(data / "run" / f"{name}.lock")
     # The system tells its locks in parts, between which others change them.
     for _ in range(READINGS):
         found = re.findall(rf"FLOCK +ADVISORY +WRITE +(\d+) [0-9a-f]+:[0-9a-f]+:{lock.st_ino} ",

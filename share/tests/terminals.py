@@ -14,7 +14,9 @@ from share.tests.support import NOTE, Case, wait_for
 WIDTH, HEIGHT = 70, 12
 NUMBERS = itertools.count()
 # An Emacs at a terminal, which compiles nothing of its own meanwhile: that would take some minutes of a processor, and stay in the home.
-EMACS = ("emacs", "-nw", "-Q", "--eval", "(setq native-comp-deferred-compilation nil native-comp-jit-compilation nil)")
+# Nor does it say how a command could be called that M-x has called: Emacs 28 does so two seconds later, and then drops keys.
+EMACS = ("emacs", "-nw", "-Q", "--eval",
+         "(setq native-comp-deferred-compilation nil native-comp-jit-compilation nil suggest-key-bindings nil)")
 
 
 class Terminal:

@@ -169,7 +169,7 @@ class Author:
         if new:
             new.is_there, new.ends_line = False, word.ends_line
         said = sayings.begins(Said(word.text, new.text if new else "", "" if new else f"on {word.text}"))
-        self._says(told, what, word, said.new or said.body, is_scripts)
+        self._says(told, what, word, said.new or said.body, is_scripts, said)
         self._is_told(told, word, lambda one: True)
         said.is_sure = True
 
@@ -180,30 +180,34 @@ class Author:
         if what == "reply":
             reply = f"re {word.text} {len(said.replies)}"
             said.replies[reply] = False
-            self._says(told, what, word, reply, is_scripts)
+            self._says(told, what, word, reply, is_scripts, said)
             self._is_told(told, word, lambda one: any(it["body"] == reply for it in one["replies"]))
             said.replies[reply] = True
         else:
             said.states.add(STATES[what])
-            self._says(told, what, word, "", is_scripts)
+            self._says(told, what, word, "", is_scripts, said)
             self._is_told(told, word, lambda one: one["state"] == STATES[what])
             said.states = {STATES[what]}
 
     def _accept(self, said: Said, told: Told, word: Word, is_scripts: bool) -> None:
         """Accepts what is suggested for a word."""
         said.is_free = False
+        # So it is where what is suggested is deleted later.
+        said.states.add("resolved")
         new = next(one for one in self.words if one.text == said.new)
         self._changes(word, new)
-        self._says(told, "accept", word, "", is_scripts)
+        self._says(told, "accept", word, "", is_scripts, said)
         step = Step(new, word)
         self._waits_for("accepted", step.words())
         if not is_scripts:
             self.steps.append(step)
 
-    def _says(self, told: Told, what: str, word: Word, words: str, is_scripts: bool) -> None:
+    def _says(self, told: Told, what: str, word: Word, words: str, is_scripts: bool, said: Said) -> None:
         """Has the editor or a script say something."""
-        if not is_scripts:
-            (self.writer.begin if what in ("remark", "suggest") else self.writer.answer)(what, word.text, words)
+        if not is_scripts and what in ("remark", "suggest"):
+            self.writer.begin(what, word.text, words)
+        elif not is_scripts:
+            self.writer.answer(what, word.text, words, said.new or said.body)
         elif not told.does(what, word.text, words):
             # Its engine may have been killed; nothing else stops it.
             self.writer.wait_for(lambda state: False, f"{what} {word.text} {words} by a script")
@@ -217,7 +221,10 @@ class Author:
                 raise Cut
             return any(is_so(one) for one in told.threads() if one["text"] == word.text)
 
-        wait_for(is_told, f"what is said of {word}", PATIENCE)
+        try:
+            wait_for(is_told, f"what is said of {word.text}", PATIENCE)
+        except AssertionError as why:
+            raise AssertionError(f"{why}: {self.writer.looks()}") from why
         self.did["said"] += 1
 
     def _chosen(self, is_such: Callable[[str], bool] = lambda word: True) -> Word | None:

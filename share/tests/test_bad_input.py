@@ -26,6 +26,7 @@ from share.tests.note import Note
 from share.tests.servers import Hostile
 from share.tests.support import NOTE, TOP, Case, change, claim_of, newer_of, python, raws_of, type_at_the_end, wait_for, written
 from share.tests.test_logs import WITHOUT_END
+from share.tests.waiting import PATIENCE
 from share.text.errors import NEWER
 
 SOMEBODY = 65_534
@@ -111,7 +112,7 @@ class BadInput(Case):
             self.assertEqual((run.stdout, run.returncode), ("one two three ", 3), run.stderr)
             self.assertIn("isn't a note's log. Move it away, or name another file", run.stderr)
             self.assertEqual(path.read_bytes(), before)
-        for url in "http://127.0.0.1", "redis://127.0.0.1", "redis://127.0.0.1:99999", "unix://x", "":
+        for url in "http://example.org", "redis://127.0.0.1", "redis://127.0.0.1:99999", "unix://x", "":
             self.assert_says(self.note("note", "--print", "--log", url or "\n"), "redis://HOST:PORT")
 
     def test_a_server_that_keeps_no_log(self) -> None:
@@ -213,7 +214,7 @@ class BadInput(Case):
     def test_a_disk_that_is_full(self) -> None:
         data = str(self.folder / "full")
         run = subprocess.run([python(), "-B", "-c", FILLS], cwd=TOP, capture_output=True, text=True, check=False,
-                             env={**os.environ, "VIALSHOAL_DATA": data}, timeout=120)
+                             env={**os.environ, "VIALSHOAL_DATA": data}, timeout=PATIENCE)
         self.assertEqual(run.returncode, 0, run.stderr)
         before, shown, site, notice, told, later, more = json.loads(run.stdout)
         self.assertGreater(before, 5_000)
@@ -346,7 +347,7 @@ class BadInput(Case):
         os.chmod(self.folder, 0o755)
         words = ["setpriv", f"--reuid={SOMEBODY}", f"--regid={SOMEBODY}", "--clear-groups", NOTE]
         for more in ("note", "--print"), ("link", "note"), ("recover", str(self.ann.data)), ("renew", "note"):
-            run = subprocess.run([*words, *more], capture_output=True, text=True, check=False, timeout=120)
+            run = subprocess.run([*words, *more], capture_output=True, text=True, check=False, timeout=PATIENCE)
             self.assert_says(run, "Permission denied")
 
 

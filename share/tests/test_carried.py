@@ -154,8 +154,8 @@ class Lost(Case):
             note = self.opened(self.anna, url=str(self.path))
             wait_for(lambda: done, "an entry to be given and lost")
             self.assert_log_is_full()
-        note.take_in()
-        self.assertRegex(note.notice, "The log has lost 1 entry that it had. It is filled again from here")
+        wait_for(lambda: (note.take_in(), "The log has lost 1 entry that it had. It is filled again from here" in str(note.told))[1],
+                 "the loss to be told")
 
     def test_a_loss_that_can_not_be_counted_at_once_is_told(self) -> None:
         note, many_at, faults = self.opened(self.anna, url=str(self.path)), Entries.many_at, [Unkept("busy"), Damaged("away")]
@@ -169,7 +169,7 @@ class Lost(Case):
 
         with mock.patch.object(Entries, "many_at", counted):
             change(self.path, "DELETE FROM entry WHERE hash = ?", note.session.last().hash)
-            wait_for(lambda: (note.take_in(), "The log has lost 1 entry that it had" in note.notice)[1], "the loss to be told")
+            wait_for(lambda: (note.take_in(), "The log has lost 1 entry that it had" in str(note.told))[1], "the loss to be told")
         self.assertFalse(faults)
         self.assert_log_is_full()
 

@@ -274,6 +274,7 @@ class LookedAt(Engines):
         # His number is another one's, so what he typed is made anew under one that is his.
         take(self.person("bo"), number)
         bo.gets_number(but=number)
+        bo.shows("kept typed ")
         bo.type("more ")
         ada = self.editor("ada")
         self.assertEqual(self.told(ada, "kept typed more "), "kept [+typed more +]")

@@ -34,6 +34,7 @@ from share.tests.servers import Hostile, RedisServer
 from share.tests.support import Case, raws_of, type_at_the_end, wait_for, written
 from share.tests.test_logs import NOTE, OTHER, raw
 from share.tests.test_trace import Kept
+from share.tests.waiting import PATIENCE
 from share.text.errors import Trouble
 
 LACK = Lack(Way.IT, bytes(range(32)))
@@ -580,10 +581,12 @@ class OnRedis(Case):
     def setUp(self) -> None:
         super().setUp()
         self.server = self.redis()
-        # What is done each five seconds is done ten times as often.
-        for what in mock.patch("share.sync.ways.SAY_ON_SECONDS", 0.5), mock.patch.object(RedisLog, "watch_seconds", 0.5):
-            what.start()
-            self.addCleanup(what.stop)
+        # What is done each five seconds is done ten times as often, and a busy machine's server isn't one that is gone.
+        patches = contextlib.ExitStack()
+        self.addCleanup(patches.close)
+        patches.enter_context(mock.patch("share.sync.ways.SAY_ON_SECONDS", 0.5))
+        patches.enter_context(mock.patch.object(RedisLog, "watch_seconds", 0.5))
+        patches.enter_context(mock.patch("share.log.resp.REPLY_SECONDS", PATIENCE))
 
     def people(self, many: int) -> list[Note]:
         """People who see each other."""
@@ -625,7 +628,7 @@ class OnRedis(Case):
                 had = sorted(filter(None, raws_of(log)))
                 self.server.cli(*lose)
                 wait_for(lambda had=had: sorted(filter(None, raws_of(log))) == had, "the log to be filled again")
-        wait_for(lambda: (note.take_in(), "has lost" in note.notice)[1], "it to be told")
+        wait_for(lambda: (note.take_in(), "has lost" in str(note.told))[1], "it to be told")
 
     def test_a_flood_takes_presence_alone(self) -> None:
         ann, bob = self.people(2)

@@ -18,12 +18,14 @@ from share.log.base import Unreachable
 from share.log.bell import Bell
 from share.log.opening import open_log
 from share.log.polling import can_read, ready
+from share.log.redis import RedisLog
 from share.program.site import Site
 from share.store.locks import Locks
 from share.tests.editors import Engines
 from share.tests.left_open import left_open, open_now
 from share.tests.servers import RedisServer, SocketServer, TlsServer
 from share.tests.support import NOTE, Case, Person, type_at_the_end, wait_for, written
+from share.tests.waiting import PATIENCE
 from share.text.errors import Trouble
 from share.text.line import Line
 
@@ -41,6 +43,12 @@ class Closing(Case):
 
     def setUp(self) -> None:
         super().setUp()
+        # On a busy machine a thread takes long to end. One that isn't woken holds up its end for ever.
+        patches = contextlib.ExitStack()
+        self.addCleanup(patches.close)
+        patches.enter_context(mock.patch("share.sync.threads.JOIN_SECONDS", PATIENCE))
+        patches.enter_context(mock.patch("share.sync.ways.SAY_ON_SECONDS", 10 * PATIENCE))
+        patches.enter_context(mock.patch.object(RedisLog, "watch_seconds", 10 * PATIENCE))
         # What is loaded and opened once, as the first note is.
         self.opened_and_closed(self.person("warm"))
         self.before = open_now()
@@ -116,7 +124,8 @@ class Logs(Closing):
         server.process.send_signal(signal.SIGSTOP)
         type_at_the_end(note, "more ")
         wait_for(lambda: note.session.status().unsent, "it to be unsent")
-        note.session.close()
+        with mock.patch("share.sync.threads.JOIN_SECONDS", 1):
+            note.session.close()
         server.kill()
         self.assert_nothing_open()
 

@@ -6,9 +6,11 @@ import subprocess
 import unittest
 
 from share.cli import installing, main
+from share.cli.relaying import RELAY_VERB
 from share.cli.script_words import SCRIPT_VERBS
 from share.cli.words import NOTE_VERBS
 from share.tests.support import TOP, Case
+from share.tests.waiting import PATIENCE
 
 COMPLETIONS = TOP / "share" / "completions"
 # What prints what a shell offers for the last of some words. Of zsh's own there are stand-ins, which its line editor has.
@@ -42,7 +44,7 @@ class Completed(Case):
         """What is offered after these words of `note`, by all shells."""
         found = {}
         for shell, command in SHELLS.items():
-            run = subprocess.run([*command, str(COMPLETIONS), "note", *words], check=True, timeout=120, stdout=subprocess.PIPE,
+            run = subprocess.run([*command, str(COMPLETIONS), "note", *words], check=True, timeout=PATIENCE, stdout=subprocess.PIPE,
                                  text=True, cwd=self.folder, env={"VIALSHOAL_DATA": str(self.folder / "data"), "HOME": str(self.folder)})
             found[shell] = sorted(run.stdout.split())
         self.assertEqual(found["zsh"], found["bash"], words)
@@ -58,16 +60,16 @@ class Completed(Case):
         return {found for line in listed.splitlines() if line.startswith("  -") for found in OPTION.findall(line)}
 
     def test_verbs(self) -> None:
-        self.assertEqual(self.offered(""), sorted(NOTE_VERBS + SCRIPT_VERBS + installing.INSTALLING_VERBS))
+        self.assertEqual(self.offered(""), sorted((*NOTE_VERBS, *SCRIPT_VERBS, *installing.INSTALLING_VERBS, RELAY_VERB)))
         self.assertEqual(self.offered("his"), ["history"])
 
     def test_options(self) -> None:
         self.assertEqual(set(self.offered("--")), self.helped())
-        for verb in SCRIPT_VERBS + installing.INSTALLING_VERBS:
+        for verb in (*SCRIPT_VERBS, *installing.INSTALLING_VERBS, RELAY_VERB):
             self.assertEqual(set(self.offered(verb, "--")), self.helped(verb), verb)
         for verb in NOTE_VERBS:
             self.assertLessEqual(set(self.offered(verb, "--")), self.helped(), verb)
-        self.assertEqual(self.offered("export", "picnic", "--format", ""), ["critic", "html", "text"])
+        self.assertEqual(self.offered("export", "picnic", "--format", ""), ["critic", "html", "note", "text"])
         self.assertEqual(self.offered("import", "picnic", "--format", ""), ["critic", "text"])
         self.assertEqual(self.offered("sync", "--every", ""), [])
         self.note("append", "diary", "x", "--new")
@@ -84,6 +86,7 @@ class Completed(Case):
         self.assertEqual(self.offered("di"), ["diary"])
         for words in ("list", ""), ("search", ""), ("rename", "diary", ""), ("remark", "diary", "--on", ""), ("reply", "diary", "7:1", ""):
             self.assertEqual(self.offered(*words), [])
+        self.assertEqual(self.offered("relay", ""), [])
         (self.folder / "text.txt").touch()
         for words in ("import", "diary", "te"), ("import", "diary", "x", "plan", "te"), ("cat", "diary", "--link-file", "te"):
             self.assertEqual(self.offered(*words), ["text.txt"])

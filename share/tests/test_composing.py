@@ -28,11 +28,11 @@ TOLD = "document.getElementById('told').textContent === words[0]"
 NO_END = """(window.noEnd = (event) => event.stopImmediatePropagation(),
   addEventListener("compositionend", noEnd, true))"""
 WITH_END = "removeEventListener('compositionend', noEnd, true)"
-# The clock that the page sees goes on by a minute.
-LATER = "(window.clock ??= performance.now.bind(performance), performance.now = () => clock() + 60000)"
-NOW = "(performance.now = () => clock())"
+# The clock that the page sees stands, on a busy machine too, and goes on by a minute.
+NOW = "(window.clock ??= ((now) => () => now)(performance.now()), performance.now = () => clock())"
+LATER = "(performance.now = () => clock() + 60000)"
 # The page looks at the clock, as it does while others' text waits for what is composed.
-LOOKS = "(window.looked = false, window.clock ??= performance.now.bind(performance), performance.now = () => (looked = true, clock()))"
+LOOKS = "(window.looked = false, performance.now = () => (looked = true, clock()))"
 LOOKED = "window.looked"
 # A browser that tells a composition from its midst on, and ends it by the words that it had.
 FROM_ITS_MIDST = """((field, words) => {
@@ -89,6 +89,7 @@ class Composed(Pages):
 
     def setUp(self) -> None:
         super().setUp()
+        self.first.run(NOW)
         self.first.run(f"{MIRROR}.setValue('ab\\ncd')")
         self.second.shows("ab\ncd")
         self.first.run(f"{MIRROR}.focus()")
@@ -143,7 +144,7 @@ class Composed(Pages):
 
     def test_a_click_elsewhere(self) -> None:
         self.compose_beside_others("k", "ka")
-        self.first.element("header").click()
+        self.first.click_on("header")
         self.show("before akab\ncd")
 
     def test_a_click_elsewhere_in_the_text(self) -> None:
@@ -302,8 +303,8 @@ class CutOff(Pages):
         os.kill(engine_of(data), signal.SIGKILL)
         window.wait_for("document.querySelector('#words p button')")
         window.shows("answered")
-        window.element("#words p button").click()
-        self.assertEqual(window.run("document.querySelector('#past-text .CodeMirror').CodeMirror.getValue()"), "answered or not")
+        window.click_on("#words p button")
+        window.gives("document.querySelector('#past-text .CodeMirror').CodeMirror.getValue()", "answered or not")
         window.press("back")
         window.type("again")
         self.assert_kept(data, window)

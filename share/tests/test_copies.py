@@ -513,12 +513,12 @@ class ClaimedAgainAndAgain(Copied):
         note = self.opened(anna, url=self.file_log())
         written(note, "begun ")
         for turn in range(4):
-            expected, number = words(note.text), note.session.number
+            expected, number, told = words(note.text), note.session.number, len(note.told)
             self.claim(anna, number)
             wait_for(lambda: (note.take_in(), note.session.number)[1] != number, "another number")
             if turn:
                 # What is typed goes on at once; what was lost has to wait.
-                self.assertIn("is typed again in", note.notice)
+                wait_for(lambda since=told: (note.take_in(), "is typed again in" in str(note.told[since:]))[1], "it to be told")
                 type_at_the_end(note, f"turn{turn} ")
                 wait_for(lambda: are_alike([note]), "it to be sent")
                 self.assertEqual(note.text, b"turn%d " % turn)

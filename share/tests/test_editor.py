@@ -50,7 +50,7 @@ SEQUENCES = {
     Key.ESCAPE: [b"\x03", b"\x07"],
     Key.UNDO: [b"\x1a"], Key.REDO: [b"\x19"], Key.FIND: [b"\x06"], Key.REPLACE: [b"\x12"], Key.LINE: [b"\x0c"],
     Key.MARK: [b"\0"], Key.CUT: [b"\x18"], Key.COPY: [b"\x1bw"], Key.KILL: [b"\x0b"], Key.PUT: [b"\x16"],
-    Key.SAVE: [b"\x13", b"\x1b\x13"], Key.QUIT: [b"\x11", b"\x1b\x11"],
+    Key.SAVE: [b"\x13"], Key.QUIT: [b"\x11"],
     Key.OTHER: [b"\x1bOP", b"\x1b[15~", b"\x1b[1;2P", b"\x1bx", "\x1bé".encode(), b"\x1b\r",
                 b"\x1b\x7f"],
 }
@@ -107,6 +107,11 @@ class Keys(unittest.TestCase):
             self.assertEqual(keyboard.feed(data, late), events)
         keyboard.feed(b"\x1b", 2.0)
         self.assertEqual(keyboard.feed(b"w", 2.0 + ESCAPE_SECONDS / 2), [Key.COPY])
+
+    def test_an_escape_that_comes_with_the_next_key(self) -> None:
+        for data, key in ((b"\x06", Key.FIND), (b"\x12", Key.REPLACE), (b"\x0c", Key.LINE), (b"\x1a", Key.UNDO), (b"\x13", Key.SAVE),
+                          (b"\x11", Key.QUIT), (b"\0", Key.MARK)):
+            self.assertEqual(pressed(b"\x1b" + data + b"tea\r"), [Key.ESCAPE, key, "tea", Key.ENTER])
 
     def test_a_sequence_without_its_end(self) -> None:
         for begun, typed in ((b"\x1b[1;5", []), (b"\x1bO", []), (b"\x1b[", []), (b"\x1b]11;x", ["11;x"])):
@@ -431,7 +436,11 @@ class ScriptedNote:
         return size > 0
 
     def take_in(self) -> bool:
-        """Nobody else is on."""
+        """Nobody else is on; this may take some time."""
+        hangs = pathlib.Path(os.environ["CLOSED"]).with_name("hangs")
+        if hangs.exists():
+            hangs.rename(hangs.with_name("hanging"))
+            until_told()
         return False
 
     def others(self) -> list[tuple[int, str]]:
@@ -720,6 +729,38 @@ class Hanging(Scripted):
         one.shows("SLOW later")
         one.cursor_is(0, 0)
         self.assertEqual(self.quit(one), b"SLOW later\r")
+
+    def test_keys_for_a_question_are_for_it_though_a_file_was_named_meanwhile(self) -> None:
+        one = self.terminal("so: tea\r")
+        one.press("C-f")
+        one.sees("Find:")
+        (self.folder / "hangs").touch()
+        wait_for((self.folder / "hanging").exists, "the note to hang")
+        one.type("tea")
+        self.assertEqual(self.saved(one), b"so: tea\n")
+        # It is asked again once the file is named.
+        one.sees("Find:")
+        self.goes_on.touch()
+        one.sees("Find: tea")
+        one.press("Enter")
+        one.cursor_is(4, 0)
+        self.assertEqual(self.quit(one), b"so: tea\r")
+
+    def test_a_question_that_saving_came_between_is_asked_again(self) -> None:
+        one = self.terminal("so: tea\r")
+        one.press("C-f")
+        one.type("t")
+        one.sees("Find: t")
+        one.press("C-s")
+        one.sees("Save as:")
+        one.press("Escape")
+        one.sees("Find: t")
+        self.assertEqual(self.saved(one), b"so: tea\n")
+        one.sees("Find: t")
+        one.type("ea")
+        one.press("Enter")
+        one.cursor_is(4, 0)
+        self.assertEqual(self.quit(one), b"so: tea\r")
 
     def test_a_note_that_never_closes(self) -> None:
         one = self.terminal("never")

@@ -253,7 +253,7 @@ class Wrong(Engines):
 
     def test_a_name_that_is_none(self) -> None:
         for name in "../x", "a/b", ".x", "":
-            done = subprocess.run([NOTE, "engine", name], capture_output=True, timeout=120, input=b"")
+            done = subprocess.run([NOTE, "engine", name], capture_output=True, timeout=PATIENCE, input=b"")
             self.assertEqual((done.returncode, done.stdout), (2, b""))
 
     def test_what_the_disk_does_not_take_is_taken_out(self) -> None:

@@ -202,7 +202,7 @@ class Apart(Engines):
 
     def run_note(self, *words: str, link: str = "", status: int) -> str:
         """What a command says on standard error that ends with this status."""
-        done = subprocess.run([NOTE, *words], capture_output=True, timeout=120, check=False, env={
+        done = subprocess.run([NOTE, *words], capture_output=True, timeout=PATIENCE, check=False, env={
             **os.environ, "VIALSHOAL_DATA": str(self.folder / "data"), "VIALSHOAL_LINK": link})
         self.assertEqual(done.returncode, status, done.stderr)
         return done.stderr.decode()
@@ -271,10 +271,10 @@ class Apart(Engines):
     def test_words_that_are_no_text(self) -> None:
         self.assertIn("no UTF-8", self.run_note("append", "note", os.fsdecode(b"\xff"), "--new", status=2))
         self.run_note("append", "note", "x\u009b31m", "--new", status=0)
-        done = subprocess.run(f"{NOTE} cat note >&-", shell=True, capture_output=True, timeout=120, check=False,
+        done = subprocess.run(f"{NOTE} cat note >&-", shell=True, capture_output=True, timeout=PATIENCE, check=False,
                               env={**os.environ, "VIALSHOAL_DATA": str(self.folder / "data")})
         self.assertEqual((done.returncode, b"Traceback" in done.stderr), (2, False))
-        done = subprocess.run(["script", "-qc", f"{NOTE} cat note --json", "/dev/null"], capture_output=True, timeout=120,
+        done = subprocess.run(["script", "-qc", f"{NOTE} cat note --json", "/dev/null"], capture_output=True, timeout=PATIENCE,
                               check=False, env={**os.environ, "VIALSHOAL_DATA": str(self.folder / "data")})
         self.assertIn(b"x\\u009b31m", done.stdout)
 

@@ -102,6 +102,34 @@ class Vectors(unittest.TestCase):
                 self.assertEqual((gathering.now and [*gathering.now], cursor), (case["then"], case["cursor"]))
         self.assertGreater(len(cases), 20)
 
+    def test_an_editor_shows_what_is_remarked_as_the_vectors_say(self) -> None:
+        cases = json.loads((VECTORS / "remarks.json").read_text(encoding="utf-8"))["cases"]
+        for case in cases:
+            for units in UNITS.values():
+                with self.subTest(case["name"], units=units.name):
+                    self.play_remarks(case, units)
+
+    def play_remarks(self, case: Line, units: Units) -> None:
+        """Plays a case of what is remarked."""
+        sent: list[Line] = []
+        mirror = Placed(case["open"], sent.append, units, lambda: 0.0)
+        threads = mirror.note.threads
+        for step in case["steps"]:
+            sent.clear()
+            if "user" in step:
+                mirror.edit(step["user"])
+            elif "line" in step:
+                mirror.take(step["line"])
+                threads.take(step["line"], mirror.version, mirror.made, sent.append)
+            elif "asks" in step:
+                threads.ask(mirror.version, mirror.answered == mirror.made, sent.append)
+                self.assertEqual([(line["do"], line["version"]) for line in sent],
+                                 [] if step["asks"] is None else [("remarks", step["asks"])])
+            else:
+                threads.take({"answer": "remarks", "id": "remarks", **step["answer"]}, mirror.version, mirror.made, sent.append)
+            if "then" in step:
+                self.assertEqual({one.of: [one.begin, one.end] for one in threads.found if one.begin is not None}, step["then"], step)
+
     def test_what_is_gathered_moves_with_the_text(self) -> None:
         for gathered, change, wanted in (((5, 8, "x"), Change(5, 5, b"ab"), (7, 10, "x")), ((5, 8, "x"), Change(8, 8, b"ab"), (5, 8, "x")),
                                          ((5, 5, "x"), Change(5, 5, b"ab"), (5, 5, "x")), ((5, 8, "x"), Change(0, 9, b""), (0, 0, "x")),

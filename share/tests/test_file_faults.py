@@ -14,7 +14,7 @@ from unittest import mock
 from share.admission.chains import rank
 from share.cli import reading
 from share.format.operation import MOST_INSERTED
-from share.log.folder import held, inode_of
+from share.log.folder import MOST_DISTURBED_SECONDS, held, inode_of
 from share.log.sqlite_file import WRITTEN_AHEAD, SqliteFile, beside
 from share.program.site import Edited, Site, Told
 from share.store.entries import Entries
@@ -373,13 +373,14 @@ class Replaced(Case):
         person = self.person()
         for name in "one", "two", "three", "four":
             person.open(name).session.close()
-        said, began = io.StringIO(), time.monotonic()
-        with held(person.path("one").parent), mock.patch("share.log.folder.MOST_DISTURBED_SECONDS", 1.0), person.here(), \
+        said, slept = io.StringIO(), list[float]()
+        clock = mock.Mock(monotonic=lambda: sum(slept), sleep=slept.append)
+        with held(person.path("one").parent), mock.patch("share.log.folder.time", clock), person.here(), \
                 mock.patch.object(reading, "print_text") as printed, contextlib.redirect_stderr(said):
             reading.list_notes(argparse.Namespace(json=False))
         self.assertEqual([words.args[0].split()[0] for words in printed.call_args_list], ["four", "one", "three", "two"])
         # It is waited for once, and not for each note.
-        self.assertLess(time.monotonic() - began, 3)
+        self.assertLess(sum(slept), 2 * MOST_DISTURBED_SECONDS)
         self.assertRegex(said.getvalue(), f"^note: Another process, perhaps one that was stopped, holds {person.path('one').parent}")
         # Once it is gone nothing is told.
         with person.here(), mock.patch.object(reading, "print_text"), contextlib.redirect_stderr(said := io.StringIO()):

@@ -15,6 +15,7 @@ from share.program.process import command, file_of, is_unproved
 from share.sync.session import Status
 from share.tests.support import TOP, Case
 from share.tests.terminals import Terminal
+from share.tests.waiting import PATIENCE
 
 COMMANDS = ("env", "sh", "python3", "dirname", "readlink", "head", "tail", "sha256sum", "mkdir", "cp", "git")
 # It stands for cargo, and gives the program of these tests for the one that is built.
@@ -58,7 +59,7 @@ class FirstStart(Case):
     def run_note(self, *words: str, top: pathlib.Path | None = None, status: int = 0) -> subprocess.CompletedProcess[str]:
         """A run of bin/note in the copy."""
         with self.here():
-            done = subprocess.run([str((top or self.copy) / "bin" / "note"), *words], capture_output=True, text=True, timeout=120,
+            done = subprocess.run([str((top or self.copy) / "bin" / "note"), *words], capture_output=True, text=True, timeout=PATIENCE,
                                   check=False, stdin=subprocess.DEVNULL)
         self.assertEqual(done.returncode, status, done.stderr)
         return done
@@ -70,7 +71,7 @@ class FirstStart(Case):
         again = self.run_note("cat", "note")
         self.assertEqual((again.stdout.strip(), again.stderr), ("one", ""))
         with self.here():
-            engine = subprocess.run([str(self.copy / "bin" / "note"), "engine", "note"], capture_output=True, text=True, timeout=120,
+            engine = subprocess.run([str(self.copy / "bin" / "note"), "engine", "note"], capture_output=True, text=True, timeout=PATIENCE,
                                     check=True, input='{"id":1,"do":"open","protocol":1,"units":["utf-8"]}\n{"id":2,"do":"close"}\n')
         states = [line for line in map(json.loads, engine.stdout.splitlines()) if line.get("notice") == "state"]
         self.assertTrue(states and all(state["unproved"] is True for state in states), engine.stdout)
@@ -81,7 +82,7 @@ class FirstStart(Case):
         self.assertIn("with a program that isn't proved", self.run_note("install", "--prefix", str(prefix)).stdout)
         shutil.rmtree(self.copy)
         with self.here():
-            told = subprocess.run([prefix / "bin" / "site_cli", "--version"], capture_output=True, text=True, timeout=120, check=True)
+            told = subprocess.run([prefix / "bin" / "site_cli", "--version"], capture_output=True, text=True, timeout=PATIENCE, check=True)
         self.assertEqual(told.stdout.splitlines()[1], "not proved: ordinary Rust, by rustc 1")
         with mock.patch.dict(os.environ, VIALSHOAL_PROGRAM="", VIALSHOAL_BUILD=""):
             terminal = Terminal(self, "data", "note", command=str(prefix / "bin" / "note"))

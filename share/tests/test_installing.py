@@ -14,11 +14,13 @@ from unittest import mock
 
 from share.cli import installing
 from share.cli.installing import COPIES, PLACES
+from share.cli.relaying import relay_parser
 from share.cli.script_words import script_parser
 from share.program.process import command, file_of
 from share.tests.pages import Server
 from share.tests.support import TOP, Case
 from share.tests.terminals import EMACS, Terminal
+from share.tests.waiting import PATIENCE
 from share.text.errors import Trouble
 
 OPENS = '(progn (add-to-list (quote load-path) \\"SITE\\") (require (quote vialshoal)) (vialshoal-open \\"note\\"))'
@@ -69,7 +71,7 @@ class Installed(Case):
     def run_note(self, *words: str, top: pathlib.Path | None = None, status: int = 0, **more: str) -> str:
         """What the installed command prints, or another's, which ends with this status."""
         environment = {key: value for key, value in os.environ.items() if key not in PROGRAMS}
-        done = subprocess.run([str((top or self.prefix) / "bin" / "note"), *words], capture_output=True, timeout=120,
+        done = subprocess.run([str((top or self.prefix) / "bin" / "note"), *words], capture_output=True, timeout=PATIENCE,
                               check=False, text=True, env={**environment, **more})
         self.assertEqual(done.returncode, status, (words, done.stdout, done.stderr))
         self.said = done.stderr
@@ -127,7 +129,7 @@ class Installed(Case):
     def site_cli(self, script: str) -> str:
         """What the installed program answers."""
         return subprocess.run([str(self.prefix / "bin" / "site_cli")], input=script, capture_output=True, text=True, check=True,
-                              timeout=120, env={key: value for key, value in os.environ.items() if key not in PROGRAMS}).stdout
+                              timeout=PATIENCE, env={key: value for key, value in os.environ.items() if key not in PROGRAMS}).stdout
 
     def test_what_is_taken_away(self) -> None:
         others = {"bin/other": "x", "share/man/man1/other.1": "y", "share/emacs/site-lisp/vialshoal.elc": "z"}
@@ -200,7 +202,11 @@ class Installed(Case):
             self.assertFalse((self.prefix / path).is_symlink())
             begins = re.search("^ExecStart=note (.*)$", (self.prefix / path).read_text("utf-8"), re.MULTILINE)
             assert begins
-            self.assertEqual(script_parser().parse_args(begins[1].split()).every, 300)
+            if "relay" in path:
+                words = begins[1].replace("$RELAY_OPTIONS", "--url https://h").split()
+                self.assertEqual(relay_parser().parse_args(words[1:]).log, "${STATE_DIRECTORY}")
+            else:
+                self.assertEqual(script_parser().parse_args(begins[1].split()).every, 300)
         self.assertEqual((self.prefix / "lib/vialshoal/bin/note").stat().st_mode & 0o777, 0o755)
         self.run_note("uninstall", "--prefix", "/usr", top=self.copy, DESTDIR=str(self.folder / "package"))
         self.assertEqual(files(self.prefix), {})
@@ -231,7 +237,7 @@ class Installed(Case):
         if verb == "uninstall":
             self.here("install")
         done = subprocess.run([sys.executable, "-B", "-c", KILLED, str(self.copy), str(self.prefix), str(number), verb],
-                              check=False, timeout=120, stdout=subprocess.DEVNULL,
+                              check=False, timeout=PATIENCE, stdout=subprocess.DEVNULL,
                               env={key: value for key, value in os.environ.items() if key not in PROGRAMS})
         self.assertIn(done.returncode, (0, -signal.SIGKILL))
         if (self.prefix / "bin/note").exists():

@@ -34,6 +34,8 @@ class Life:
         # It is killed a moment after this word; some die while they open the note.
         self._last, self._moment = chance.randrange(LONGEST_LIFE), chance.random() * 0.05
         self._dies_early = chance.random() < 0.15
+        # On a busy machine words are sent much later than they are typed.
+        self._waits_until_sent = chance.random() < 0.3
         self._process = subprocess.Popen(words, cwd=TOP, stdout=subprocess.PIPE, stderr=subprocess.PIPE, text=True,
                                          env={**os.environ, "VIALSHOAL_DATA": str(person.data)})
         self._thread = threading.Thread(target=self._live)
@@ -50,10 +52,10 @@ class Life:
             word, number = line.split()
             if word == "typed":
                 self.typed = int(number)
-                if self.typed >= self._last and not killer.ident:
-                    killer.start()
             elif word == "sent":
                 self.sent = int(number)
+            if (self.sent > 0 or not self._waits_until_sent) and self.typed >= self._last and not killer.ident:
+                killer.start()
         killer.cancel()
         hung.cancel()
         if self._process.wait() != -9:
@@ -237,6 +239,6 @@ class Killed(Case):
             self.assertEqual((run.returncode, run.stderr), (0, ""))
             self.assertEqual(run.stdout, text.decode())
         print(f"{ROUNDS} rounds, {len(self.lives)} kills, {len(text.split())} words")
-        self.assertGreater(sum(life.sent for life in self.lives), 0)
+        self.assertGreater(max(life.sent for life in self.lives), 0)
         with contextlib.suppress(OSError):
             print(f"{sum(path.stat().st_size for path in self.folder.rglob('*.note')):,} bytes of notes")

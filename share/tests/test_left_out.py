@@ -23,6 +23,7 @@ from share.tests.editors import Engines
 from share.tests.naive import entry_of, in_entries
 from share.tests.note import Note
 from share.tests.support import NOTE, Carried, Case, Person, claim_of, edit_at_random, take, type_at_the_end, wait_for, written
+from share.tests.waiting import PATIENCE
 from share.text.line import Line
 
 MISSING = 3
@@ -41,7 +42,7 @@ class Three(Case):
 
     def run_as(self, person: Person, *words: str, status: int = 0) -> str:
         """What bin/note prints for somebody, with this status."""
-        done = subprocess.run([NOTE, *words], capture_output=True, timeout=120, check=False, stdin=subprocess.DEVNULL,
+        done = subprocess.run([NOTE, *words], capture_output=True, timeout=PATIENCE, check=False, stdin=subprocess.DEVNULL,
                               env={**os.environ, "VIALSHOAL_DATA": str(person.data)})
         self.assertEqual(done.returncode, status, (words, done.stdout, done.stderr))
         self.said = done.stderr.decode()
@@ -222,10 +223,11 @@ class NothingOwn(Three):
         """What Carol is told as her number is taken."""
         carol = self.opened(self.carol)
         wait_for(lambda: (carol.take_in(), carol.session.status().can_type)[1], "a number")
-        number = carol.session.number
+        number, told = carol.session.number, len(carol.told)
         take(self.carol, number)
         wait_for(lambda: (carol.take_in(), carol.session.number)[1] != number, "another number")
-        return str(carol.notice)
+        wait_for(lambda: (carol.take_in(), carol.told[told:])[1], "it to be told")
+        return " ".join(carol.told[told:])
 
     def test_it_is_told_that_nothing_is_lost(self) -> None:
         self.begun()

@@ -9,6 +9,7 @@ from typing import Any, cast
 from share.program.site import Edited, Site
 from share.tests.editors import Editor, Engines
 from share.tests.support import NOTE, Case, alive, wait_for
+from share.tests.waiting import PATIENCE
 from share.text.line import Line
 from share.text.looks import DEFAULT, Looks, Run, is_bold, is_slanted, setting, with_weight
 from share.text.names import Names
@@ -73,7 +74,7 @@ class Shown(Engines):
     def html(self) -> str:
         """What the note is as a page."""
         done = subprocess.run([NOTE, "export", "note", "-", "--format", "html"], capture_output=True, check=True,
-                              timeout=120, env={**os.environ, "VIALSHOAL_DATA": str(self.folder / "data")})
+                              timeout=PATIENCE, env={**os.environ, "VIALSHOAL_DATA": str(self.folder / "data")})
         return done.stdout.decode()
 
     def test_looks_are_set_shown_and_taken_back(self) -> None:
@@ -235,5 +236,5 @@ class Shown(Engines):
         editor = self.editor(looks=True)
         editor.edit((0, 0, "one"))
         self.set(editor, [0, 3], bold=True)
-        done = subprocess.run([NOTE, "log", "note", "--json"], capture_output=True, check=True, timeout=120)
+        done = subprocess.run([NOTE, "log", "note", "--json"], capture_output=True, check=True, timeout=PATIENCE)
         self.assertEqual(json.loads(done.stdout)["steps"][-1]["looked"], 3)

@@ -89,8 +89,7 @@ class InAFile(Case):
         self.path.write_bytes(b"These are words.\n" * 1_000)
         type_at_the_end(anna, "kept ")
         # Somebody's file isn't taken away.
-        words = wait_for(lambda: anna.session.status().offline, "the log to be told away")
-        self.assertIn("isn't a note's log. Move it away", words)
+        wait_for(lambda: "isn't a note's log. Move it away" in (anna.session.status().offline or ""), "the log to be told away")
         self.assertEqual(self.path.read_bytes()[:5], b"These")
         self.path.unlink()
         self.assertEqual(self.assert_meet(anna, berta), b"before kept ")
@@ -126,8 +125,7 @@ class InAFile(Case):
         link = self.person("anna").link()
         berta = self.opened(self.person("berta"), link=link)
         self.assert_comes_to(berta, b"one ")
-        berta.take_in()
-        self.assertRegex(berta.notice, "An entry of the log is damaged and was left out")
+        wait_for(lambda: (berta.take_in(), "An entry of the log is damaged and was left out" in str(berta.told))[1], "it to be told")
         written(berta, "behind ")
         # Who has the right one brings it.
         anna = self.opened(self.person("anna"))

@@ -16,7 +16,7 @@ from share.format.operation import INSERT, PLAIN_LOOKS, Operation
 from share.review.anchor import MOST_ANCHORED, Knows, anchored, holds
 from share.review.margin import Margin, Remark, Thread
 from share.review.places import NameIndex
-from share.review.record import MARGIN, MOST_OF_A_LINE, Anchor, MarginKind, MarginRecord, Ref, read_line, sum_of
+from share.review.record import MARGIN, MOST_OF_A_LINE, Anchor, MarginKind, MarginRecord, MarginState, Ref, read_line, sum_of
 from share.review.writing import lines_of
 from share.tests.counting import instructions
 from share.tests.naive_margin import Fields, Inserted, naive_record, naive_threads
@@ -98,7 +98,7 @@ class Typed:
             some: dict[str, Fields] = {
                 "more": {"part": chance.randint(1, 4), "at": [[2, chance.randrange(9), 1]],
                          "saw": {str(chance.randint(1, 3)): "2" * 16}},
-                "state": {"state": chance.choice(["open", "resolved", "rejected"])},
+                "state": {"state": chance.choice(["open", "resolved", "rejected"]), "accepts": chance.choice([True, False, None])},
                 "revised": {"parts": 1} if chance.random() < 0.5 else {}}
             self.put(line(answer(kind, self.ref(), time=chance.randrange(9), **some.get(kind, {}))))
 
@@ -284,6 +284,24 @@ class Margins(unittest.TestCase):
                 Inserted(3, 0, 2, line(answer("state", of, state="rejected")))]
         for order in some, some[::-1]:
             self.assertEqual(str(margin_of(order).thread((1, 0)).state.value), "rejected")  # type: ignore[union-attr]
+
+    def test_an_acceptance_that_is_taken_back_says_nothing(self) -> None:
+        first = line(begun("suggestion"))
+        no, done, back = ("rejected", None), ("resolved", True), ("open", False)
+        cases: list[tuple[list[tuple[str, object]], str, bool]] = [
+            ([], "open", False), ([done], "resolved", True), ([done, back], "open", False), ([done, no], "rejected", True),
+            ([no, done, back], "rejected", False), ([done, no, back], "rejected", False), ([done, done, back], "open", False),
+            ([done, back, done], "resolved", True), ([done, back, no], "rejected", False), ([no, back], "rejected", False),
+            ([done, ("open", None)], "open", True), ([("resolved", 1)], "resolved", False), ([done, ("open", "x")], "open", True)]
+        for said, wanted, is_accepted in cases:
+            states = (answer("state", [7, 11, sum_of(first)], state=state, **({} if accepts is None else {"accepts": accepts}))
+                      for state, accepts in said)
+            margin = margin_of(_in_a_row([first, *map(line, states)]))
+            self.assertEqual((margin.thread((7, 11)).state, margin.is_said_accepted((7, 11))), (MarginState(wanted), is_accepted), said)
+        for accepts in True, False, None:
+            written = MarginRecord(MarginKind.STATE, "", 0, "", of=Ref(7, 11, sum_of(first)), state=MarginState.RESOLVED, accepts=accepts)
+            (data,) = lines_of(written, 7, 99)
+            self.assertEqual(read_line(data), written._replace(sum=sum_of(data)))
 
     def test_typed_anew_under_another_number(self) -> None:
         remark, of = line(begun()), [1, 0, sum_of(line(begun()))]

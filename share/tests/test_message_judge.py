@@ -16,9 +16,13 @@ from share.admission.message_judge import MessageJudge
 from share.admission.reasons import Reason
 from share.format.operation import DELETE, INSERT, PLAIN_LOOKS, Operation
 from share.tests.counting import instructions
-from share.tests.naive_second import ZEROS, Founding, Kind
+from share.tests.naive_chunks import Message, inserting
+from share.tests.naive_second import PLAIN, ZEROS, Author, Founding, Kind, Why, searched
+from share.tests.naive_second import claim as claimed
+from share.tests.record_agreement import agrees_on_records
 from share.tests.second_agreement import TYPING, Counting, Reader, Record, Typed, agreed, agrees, joined, parts
-from share.tests.second_sets import STEPS
+from share.tests.second_attacks import ATTACKS
+from share.tests.second_sets import STEPS, ZERO_BITS, Branch, Set
 from share.text.names import Names
 
 SEEDS = st.integers(0, 2**16 - 1)
@@ -38,7 +42,7 @@ def tries(count: int) -> settings:
 def sets() -> st.SearchStrategy[Typed]:
     """Sets of entries, some claims and some chains first."""
     first = st.tuples(*(st.tuples(st.just(what), SEEDS) for what in ["claim"] * 6 + ["begin"] * 3))
-    others = st.lists(st.tuples(st.sampled_from(STEPS + TYPING), SEEDS), min_size=5, max_size=25)
+    others = st.lists(st.tuples(st.sampled_from(STEPS + TYPING + ATTACKS), SEEDS), min_size=5, max_size=25)
     return st.builds(lambda one, two, has_base: Typed([*one, *two], has_base), first, others, st.booleans())
 
 
@@ -116,6 +120,27 @@ class Agreement(unittest.TestCase):
             counting.judge.add(each)
             self.assertEqual(counting.judge.count(), {})
         self.assertEqual(len(counting.judge.sayings), messages)
+
+    def test_of_what_builds_on_many_numbers(self) -> None:
+        one, chance, typed_by = Set([], False), random.Random(3), dict[int, Branch]()
+        for number in range(30):
+            author = Author.of(number.to_bytes(32, "big"), PLAIN)
+            counter, site = searched(one.note.identity, author.name, ZERO_BITS)
+            letter = inserting(1, site, 1, chance.randrange(1, 100), None, 0, b"x")
+            typed_by.setdefault(site, Branch(author, site, 1).gone_on(one.note, letter))
+            one.raws += [claimed(one.note, author, counter, site), typed_by[site].raw(one.note, 0, 1)]
+        *others, site = sorted(typed_by)
+        speaks = Message(DELETE, 1, site, 2, 100, tuple((other, 0, 1) for other in others))
+        hashes = [typed_by[other].said[0].hash for other in others]
+        branches = [typed_by[site].gone_on(one.note, speaks, one.note.built_on(some)) for some in (hashes, hashes[::-1], hashes[1:])]
+        reader, letters, counted = Reader(one), [*one.raws], list[Why | None]()
+        for branch in branches:
+            one.raws = [*letters, branch.raw(one.note, 1, 2)]
+            some = chance.sample(one.raws, len(one.raws))
+            answer = agrees(one, reader, some, chance)
+            agrees_on_records(one, answer, some, chance)
+            counted.append(answer.left_out[branch.said[1].hash][1] if branch.said[1].hash in answer.left_out else None)
+        self.assertEqual(counted, [None, Why.OTHERS, Why.OTHERS])
 
     def test_in_bulk_sets_have_all_that_can_be(self) -> None:
         found, through = agreed(1_500 * max(TIMES, 1), 7)
@@ -235,6 +260,19 @@ class Told(unittest.TestCase):
         self.judge = MessageJudge(digest, [*begin, *found])
         self.turn()
         self.assertEqual(self.reasons(*found), [None] * 5)
+
+    def test_what_builds_on_a_thousand_numbers_has_them_in_their_order(self) -> None:
+        sites = range(3, 1_003)
+        letters = [typed(site.to_bytes(32, "big"), site, b"x")[0] for site in sites]
+        names, hashes = tuple(Names(site, 0, 1) for site in sites), [one.hashes[0] for one in letters]
+        claims = [claim(BOB, 2), *(claim(each.author, each.site) for each in letters)]
+        for some, why in (hashes, None), (hashes[::-1], Reason.OTHERS), (hashes[1:], Reason.OTHERS), (hashes[:-1], Reason.OTHERS):
+            one = said(BOB, ZEROS, Operation(DELETE, 2, 1, 9, 1, names), digest(b"\2" + b"".join(some)))
+            self.judge = MessageJudge(digest, [opening(), one, *claims, *letters[1:]])
+            self.turn()
+            self.assertEqual(self.reasons(one), [Reason.LACKS])
+            self.turn(letters[0])
+            self.assertEqual(self.reasons(one), [why])
 
     def test_what_says_nothing_of_what_it_builds_on_is_wrong_and_so_is_what_needlessly_does(self) -> None:
         letters, bobs = typed(ADA, 1, b"abc"), [claim(BOB, 2), *typed(BOB, 2, b"b")]

@@ -96,8 +96,7 @@ class Numbers(Case):
         self.back()
         text = self.assert_meet(first, second)
         self.assertEqual(sorted(text.split()), sorted(b"two three F0 F1 F2 S0 S1 S2".split()))
-        notices = [note.notice for note in (first, second) if "Made anew" in note.notice]
-        self.assertGreaterEqual(len(notices), 1)
+        wait_for(lambda: (first.take_in(), second.take_in(), "Made anew" in str(first.told + second.told))[2], "it to be told")
         self.assertNotEqual(first.session.number, second.session.number)
         third = self.opened(self.person("third"), link=link)
         self.assertEqual(self.assert_meet(third, first), text)
@@ -108,6 +107,7 @@ class Numbers(Case):
         first = self.opened(self.anna)
         written(first, "first ")
         second = self.opened(copy)
+        self.assert_comes_to(second, b"one two three first ")
         written(second, "second ")
         self.assertEqual(self.assert_meet(first, second), b"one two three first second ")
         self.assertNotEqual(first.session.number, second.session.number)
@@ -478,7 +478,8 @@ class OnAServer(Case):
         with mock.patch.object(Rebaser, "say_what_was_rebased"):
             # As if she were killed before she says so.
             wait_for(lambda: (other.take_in(), berta.take_in(), b"after" in berta.text)[2], "it to come")
-            self.assertEqual((other.text, berta.session.status().waiting), (berta.text, 1))
+            wait_for(lambda: (other.take_in(), berta.take_in(), (other.text, berta.session.status().waiting) == (berta.text, 1))[2],
+                     "it to be the same, and one to wait")
             other.session.close()
         self.assert_meet(self.opened(self.person("anna")), berta)
 

@@ -17,6 +17,7 @@ from share.store.locks import Locks
 from share.tests.editors import Editor
 from share.tests.support import NOTE, Case, Person, engine_of, type_at_the_end, wait_for, written
 from share.tests.terminals import Answering
+from share.tests.waiting import PATIENCE
 from share.text.errors import Trouble
 
 # More than renaming or deleting makes that change the disk.
@@ -137,7 +138,7 @@ class UpToDate(OfFiles):
         self.assertEqual(self.run_as(self.person("ann"), "sync").stdout, "note  all sent\n")
         server.kill()
         editor.type("two\n")
-        editor.wait_for(lambda: editor.mirror.state.get("log") == "away", "the log to be away")
+        editor.wait_for(lambda: (editor.mirror.state.get("log"), editor.mirror.state.get("unsent")) == ("away", 1), "the log to be away")
         self.assertIn("1 edit kept", self.run_as(self.person("ann"), "sync", status=3).stdout)
 
     def test_a_note_that_is_opened_without_its_log(self) -> None:
@@ -275,7 +276,7 @@ class Named(OfFiles):
         for turn in range(2):
             names = [f"{letter}{turn}" for letter in "abcd"]
             runs = [subprocess.Popen([NOTE, "rename", "note", name], stderr=subprocess.DEVNULL) for name in names]
-            won = [name for name, run in zip(names, runs) if run.wait(120) == 0]
+            won = [name for name, run in zip(names, runs) if run.wait(PATIENCE) == 0]
             self.assertEqual((len(won), notes.names()), (1, won))
             self.assertEqual(ann.text(won[0]), b"one two\r")
             naming.rename_note(won[0], "note")

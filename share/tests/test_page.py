@@ -23,7 +23,7 @@ from share.text.rope import swapped
 try:
     from selenium.webdriver.common.keys import Keys
 
-    from share.tests.browser import CHROMIUM, DRIVER, MIRROR, Browser, Window
+    from share.tests.browser import CHROMIUM, CLOCK_GOES_ON, CLOCK_STANDS, DRIVER, MIRROR, Browser, Window
     IS_HERE = bool(CHROMIUM and DRIVER)
 except ModuleNotFoundError:
     IS_HERE = False
@@ -63,8 +63,11 @@ KEPT_KEYS = """((keys) => {
   const before = performance.now;
   performance.now = () => before.call(performance) + 600;
   const field = document.activeElement;
-  const kept = keys.map((key) => !field.dispatchEvent(new KeyboardEvent("keydown", {
-    key, keyCode: { Backspace: 8, Enter: 13 }[key] ?? 0, bubbles: true, cancelable: true })));
+  const kept = keys.map((words) => {
+    const [key, ctrlKey] = [words.replace("Ctrl-", ""), words.startsWith("Ctrl-")];
+    return !field.dispatchEvent(new KeyboardEvent("keydown", {
+      key, ctrlKey, keyCode: { Backspace: 8, Enter: 13, z: 90, F2: 113, F8: 119 }[key] ?? 0, bubbles: true, cancelable: true }));
+  });
   performance.now = before;
   return [MIRROR.getValue(), kept];
 })(arguments[0])"""
@@ -297,7 +300,9 @@ class Writing(Pages):
         first, second = self.first, self.second
         engine = engine_of(self.data)
         os.kill(engine, signal.SIGSTOP)
+        self.addCleanup(os.kill, engine, signal.SIGCONT)
         first.type("a")
+        first.shows("a")
         # Half a second later the next keys wait, for 0.2 seconds at most.
         self.assertEqual(first.run(KEPT_KEYS.replace("MIRROR", MIRROR), ["b", "Backspace", "\u6f22", "Enter"]), ["a", [True] * 4])
         first.shows("a\u6f22\n")
@@ -307,6 +312,28 @@ class Writing(Pages):
         second.shows("a\u6f22\nc")
         second.type("others' ")
         first.shows("others' a\u6f22\nc")
+
+    def test_kept_keys_are_done_before_what_comes_after_them(self) -> None:
+        first, second = self.first, self.second
+        engine, keys = engine_of(self.data), KEPT_KEYS.replace("MIRROR", MIRROR)
+        first.run(f"{MIRROR}.setValue('one')")
+        second.shows("one")
+        first.press("changed")
+        first.wait_for("!document.getElementById('since').hidden && !document.getElementById('change-after').disabled")
+        first.to(3)
+        # F8 goes to what changed, at the front; F2 does nothing, and ends the waiting in the midst of a command.
+        for pressed, text in (["b", "F8"], "oneab"), (["b", "Ctrl-z", "F2"], "one"):
+            os.kill(engine, signal.SIGSTOP)
+            first.type("a")
+            first.run(keys, pressed)
+            os.kill(engine, signal.SIGCONT)
+            first.run(f"{MIRROR}.setCursor({MIRROR}.posFromIndex({MIRROR}.getValue().length))")
+            first.type("!")
+            second.shows(f"{text}!")
+            first.run(f"{MIRROR}.setValue('one')")
+            second.shows("one")
+            first.to(3)
+        first.press("unchanged")
 
     def test_typing_goes_on_while_the_engine_is_slow(self) -> None:
         first, second = self.first, self.second
@@ -324,6 +351,8 @@ class Writing(Pages):
 
     def test_an_input_method_and_others_text_don_t_hurt_each_other(self) -> None:
         first, second = self.first, self.second
+        first.run(CLOCK_STANDS)
+        self.addCleanup(first.run, CLOCK_GOES_ON)
         for text, at in (("a\u00a0b\rc\u200f d ", 2), ("x\ty", 2), ("x\t", 2), ("a\r", 2), ("a\nb", 1)):
             first.run(f"{MIRROR}.setValue(arguments[0])", text)
             second.shows(text)
@@ -390,9 +419,12 @@ class Alone(Pages):
         self.addCleanup(window.close)
         for address in (f"http://{server.host}/", f"http://{server.host}/#{'0' * 32}"):
             window.driver.get(address)
-            window.state("This page can't be opened so")
+            # Where the address differs in its end alone the page is loaded anew a moment later.
+            window.wait_for("!window.isOld && document.getElementById('state').textContent.includes(words[0])",
+                            "This page can't be opened so")
             self.assertEqual([window.text(), window.run("document.title"), window.driver.current_url],
                              ["", "Note", f"http://{server.host}/"])
+            window.run("(window.isOld = true)")
 
     def test_a_page_of_another_origin_gets_nothing(self) -> None:
         server = self.server()
@@ -432,7 +464,7 @@ class Alone(Pages):
         type_at_the_end(other, "theirs\n")
         window.type("mine")
         window.state("offline, ")
-        self.assertEqual(window.text(), "mine")
+        window.shows("mine")
         redis.start()
         wait_for(lambda: (other.take_in(), b"mine" in other.text and b"theirs" in other.text)[1], "both to meet")
         window.shows(swapped(bytes(other.text)).decode())
@@ -466,9 +498,9 @@ class Alone(Pages):
         window.wait_for("document.getElementById('at').max > document.getElementById('at').value")
         window.press("later")
         window.wait_for("document.querySelector('#past-text .CodeMirror').CodeMirror.getValue() === 'theirs\\n'")
-        self.assertEqual(window.element("#step").text,
-                         f"left out, since others hold its place: 7 characters of site {other.session.number}")
-        self.assertEqual(window.element("#authors").text, f"site {other.session.number}")
+        window.gives("document.getElementById('step').innerText",
+                     f"left out, since others hold its place: 7 characters of site {other.session.number}")
+        window.gives("document.getElementById('authors').innerText", f"site {other.session.number}")
 
     def test_an_engine_that_ended_is_started_again(self) -> None:
         server = self.server()
@@ -481,8 +513,8 @@ class Alone(Pages):
         os.kill(engine, signal.SIGKILL)
         window.state("kept here alone")
         window.shows("answered")
-        window.element("#words p button").click()
-        self.assertEqual(window.run("document.querySelector('#past-text .CodeMirror').CodeMirror.getValue()"), "answered or not")
+        window.click_on("#words p button")
+        window.gives("document.querySelector('#past-text .CodeMirror').CodeMirror.getValue()", "answered or not")
         window.press("back")
         window.type("again")
         self.assert_kept(self.data, window)
@@ -530,17 +562,18 @@ class Alone(Pages):
         window.wait_for(f"{past} === 'heirs mine'")
         window.wait_for("document.querySelector('#past-text .of-1')?.textContent === 'mine'")
         window.wait_for("document.querySelector('#past-text .of-0')?.textContent === 'heirs '")
-        self.assertRegex(window.element("#step").text, "step 3 of 3: .*, 1 deleted")
+        window.wait_for("/step 3 of 3: .*, 1 deleted/.test(document.getElementById('step').innerText)")
         window.press("earlier")
         window.wait_for(f"{past} === 'theirs mine'")
         window.element("#at").send_keys(Keys.ARROW_LEFT)
         window.wait_for(f"{past} === 'theirs '")
-        self.assertEqual([one.text for one in window.driver.find_elements("css selector", "#authors li")][1:], [])
+        window.wait_for("document.querySelectorAll('#authors li').length <= 1")
         window.element("#at").send_keys(Keys.HOME)
         window.wait_for(f"{past} === '' && document.getElementById('step').textContent === 'at the beginning, of 3 steps'")
         window.press("back")
+        window.wait_for("document.activeElement.getAttribute('role') === 'textbox'")
         window.type("!")
-        self.assertEqual(window.text(), "!heirs mine")
+        window.shows("!heirs mine")
 
 
 def load_tests(loader: unittest.TestLoader, tests: unittest.TestSuite, _: object) -> unittest.TestSuite:

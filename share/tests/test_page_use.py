@@ -11,7 +11,7 @@ import tempfile
 import threading
 import unittest
 
-from share.tests.pages import FAULTS_OF_LOOKS, Pages, Server
+from share.tests.pages import FAULTS_OF_LOOKS, LOOKS_SO, Pages, Server
 from share.tests.support import NOTE, wait_for
 
 try:
@@ -36,6 +36,25 @@ TIDY = """(() => {
 })()"""
 FAMILY = "\U0001f469‍\U0001f469‍\U0001f467"
 FLAG = "\U0001f1eb\U0001f1f7"
+# Another element has the focus while the line of the cursor is drawn anew, after a pointer was lost perhaps; then the text has it again as
+# by keys, so late that CodeMirror is to look for the browser's cursor at once. It is counted how often it does.
+AWAY_AND_BACK = """((cm, isPointed) => {
+  const { input } = cm.display;
+  const polls = input.constructor.prototype.pollSelection;
+  window.polled = 0;
+  input.pollSelection = function () {
+    window.polled += 1;
+    return polls.call(this);
+  };
+  const kinds = isPointed ? ['pointerdown', 'pointercancel'] : [];
+  for (const kind of kinds) document.body.dispatchEvent(new PointerEvent(kind, { bubbles: true }));
+  document.getElementById('undo').focus();
+  const { line } = cm.getCursor();
+  cm.markText({ line, ch: 0 }, { line, ch: 1 }, { className: 'x' }).clear();
+  const end = Date.now() + 300;
+  while (Date.now() < end);
+  cm.getInputField().focus();
+})(%s, arguments[0])""" % (MIRROR if IS_HERE else "")
 # Where a name is, and where the ink of the line above it ends: its letters that go below the line.
 NAME_PLACE = """((flag) => {
   const line = document.querySelectorAll('main .CodeMirror-line')[0].firstChild;
@@ -187,7 +206,7 @@ class Using(Pages):
         first.wait_for(MATCHES, "2 of 2")
         first.run("document.getElementById('exact').click()")
         first.element("#sought").send_keys("s", Keys.ESCAPE)
-        self.assertEqual([first.run(f"{MIRROR}.getSelection()"), first.run("document.getElementById('finding').hidden")], ["words", True])
+        first.gives(f"[{MIRROR}.getSelection(), document.getElementById('finding').hidden]", ["words", True])
         first.type("!")
         self.second.shows("a word, a Word\nand !\n")
         first.type(Keys.CONTROL, "f")
@@ -204,12 +223,12 @@ class Using(Pages):
         first.type("tea")
         first.element("#other").send_keys("$& \\1")
         first.wait_for(MATCHES, "1 of 4")
-        first.element("#one").click()
+        first.press("one")
         self.second.shows(text.replace("tea", "$& \\1", 1))
         first.wait_for(MATCHES, "1 of 3")
         self.second.run(f"{MIRROR}.replaceRange('more tea\\n', {{ line: 0, ch: 0 }})")
         first.wait_for(MATCHES, "2 of 4")
-        first.element("#all").click()
+        first.press("all")
         first.wait_for(MATCHES, "4 replaced")
         self.second.shows("more $& \\1\n$& \\1, $& \\1 and $& \\1\n($& \\1)\n")
         first.type(Keys.ESCAPE)
@@ -263,6 +282,19 @@ class Using(Pages):
         first.command("Input.dispatchKeyEvent", type="keyDown", key=cake, text=cake)
         self.second.shows(cake + party)
 
+    def test_who_comes_back_by_keys_goes_on_where_the_cursor_was(self) -> None:
+        first = self.first
+        for is_pointed in [False, True] * 4:
+            self.put("one\ntwo\nthree\n")
+            first.run(f"{MIRROR}.focus()")
+            first.select(4, 7)
+            first.type_over("p")
+            first.run(AWAY_AND_BACK, is_pointed)
+            first.wait_for("window.polled > 3")
+            first.type_over("016.")
+            first.wait_for(f"{MIRROR}.getValue().includes('016.')")
+            self.assertEqual(first.text(), "one\np016.\nthree\n")
+
     def test_a_line_is_from_right_to_left_where_its_words_are(self) -> None:
         first = self.first
         self.put("left\n\u05e9\u05dc\u05d5\u05dd 12 abc\n")
@@ -312,7 +344,7 @@ class Using(Pages):
         first.type(Keys.TAB)
         self.second.shows("x\t\n")
         first.type(Keys.ESCAPE, Keys.SHIFT + Keys.TAB)
-        self.assertEqual(first.run("document.activeElement.id"), "name")
+        first.gives("document.activeElement.id", "name")
         reached = []
         for _ in range(20):
             first.type(Keys.SHIFT + Keys.TAB)
@@ -357,8 +389,8 @@ class Using(Pages):
         self.put(f"see http://{self.host}/a?b=c#d, and javascript:alert(1) or ftp://x.example/\n"
                  f"The last line ends in http://{self.host}/\n")
         first.wait_for("document.querySelector('main .cm-link')?.textContent === words[0]", f"http://{self.host}/a?b=c#d")
-        self.assertEqual(first.run("document.querySelectorAll('main .cm-link').length"), 2)
-        first.element("main .cm-link").click()
+        first.gives("document.querySelectorAll('main .cm-link').length", 2)
+        first.click_on("main .cm-link")
         self.assertFalse(first.run(DIALOG))
         first.click_with_control("main .cm-link")
         first.wait_for(f"{DIALOG} && document.getElementById('address').textContent === words[0]", f"http://{self.host}/a?b=c#d")
@@ -372,7 +404,7 @@ class Using(Pages):
         first.type(Keys.ENTER)
         wait_for(lambda: Asked.asked, "the other server to be asked")
         self.assertEqual(Asked.asked[0], ("/a?b=c", None))
-        (opened,) = set(first.driver.window_handles) - before
+        (opened,) = wait_for(lambda: set(first.driver.window_handles) - before, "the other window")
         first.driver.switch_to.window(opened)
         self.assertEqual(BROWSER.driver.execute_script("return [window.opener, document.referrer]"), [None, ""])
         BROWSER.driver.close()
@@ -383,7 +415,7 @@ class Using(Pages):
         first = self.first
         self.assertEqual(self.diary.wait(), 0)
         first.press("notes")
-        first.wait_for("document.querySelectorAll('#list li').length === 2")
+        first.wait_for("document.querySelectorAll('#list li').length === 2 && document.activeElement.id === 'wanted'")
         first.type("dia")
         first.wait_for("document.querySelectorAll('#list li').length === 1")
         first.element("#wanted").clear()
@@ -400,7 +432,7 @@ class Using(Pages):
         first.type(Keys.TAB, Keys.TAB, Keys.TAB, Keys.ENTER)
         opened = f"typeof CodeMirror === 'function' && document.title === words[0] && !{MIRROR}.getOption('readOnly')"
         first.wait_for(opened, "diary")
-        self.assertEqual(first.text(), "It rained.\n")
+        first.shows("It rained.\n")
         first.driver.back()
         first.wait_for(opened, "note")
 
@@ -478,6 +510,7 @@ class Using(Pages):
             first.command("Emulation.setDeviceMetricsOverride", width=width, height=height, deviceScaleFactor=1, mobile=width < 500)
             for scheme in "light", "dark":
                 first.command("Emulation.setEmulatedMedia", features=[{"name": "prefers-color-scheme", "value": scheme}])
+                first.wait_for(LOOKS_SO, width, scheme)
                 for button, away in (("format", "format"), ("replace", "found"), ("writers", "writers"), ("history", "back"),
                                      ("notes", "unlisted")):
                     first.run(f"document.getElementById('{button}').click()")

@@ -10,6 +10,7 @@ from contextlib import closing
 from share.format.operation import DELETE
 from share.tests.naive import about, entry_of
 from share.tests.support import NOTE, Case, Person, change, claim_of, type_at_the_end, written
+from share.tests.waiting import PATIENCE
 
 INCOMPLETE = 3
 SOMEBODY = 65_534
@@ -156,7 +157,7 @@ class ReadOnly(Case):
         for path in [self.folder, *self.folder.rglob("*")]:
             path.chmod(0o555 if path.is_dir() else 0o444)
         words = ["setpriv", f"--reuid={SOMEBODY}", f"--regid={SOMEBODY}", "--clear-groups", NOTE, "note", "--print"]
-        return subprocess.run(words, capture_output=True, text=True, check=False, timeout=120,
+        return subprocess.run(words, capture_output=True, text=True, check=False, timeout=PATIENCE,
                               env={**os.environ, "TMPDIR": "/tmp"})
 
     def test_a_note_that_is_closed(self) -> None:

@@ -178,7 +178,8 @@ class Agreement(unittest.TestCase):
             if record.kind is RecordKind.CLAIM:
                 names.append(judged.form.keys.claim_name(record.author, record.site))
             elif record.kind is RecordKind.BASE:
-                names += record.linked(Founding(*one.made.founding)).links
+                # What is no part of it nobody asks for.
+                names += {*record.linked(Founding(*one.made.founding)).links}.intersection(said.hash for said in one.made.base)
             elif record.kind is RecordKind.OPENING:
                 names.append(judged.form.keys.opening_name())
             for name in names:

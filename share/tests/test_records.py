@@ -27,7 +27,7 @@ from share.format.second import claim, signature
 from share.format.second.append import challenged, may_append
 from share.format.second.claim import found_among, number_of_rank, rank_of
 from share.format.second.form import PlainRecords, RecordForm, SealedRecords
-from share.format.second.key_link import KeyLink, is_origin, read_key_link
+from share.format.second.key_link import KeyLink, read_key_link
 from share.format.second.keys import Founding, NoteKeys, derived, key_of_founding, new_founding
 from share.format.second.record import RECORD_HEAD, RECORD_KINDS, Record, RecordKind
 from share.tests import naive_second as second
@@ -555,7 +555,8 @@ class Links(unittest.TestCase):
             with self.assertRaises(Trouble, msg=url) as told:
                 read_key_link(KeyLink("sealed", bytes(32), url).spelled())
             self.assertNotIn("hush", str(told.exception))
-        self.assertTrue(all(map(is_origin, ("https://h", "https://h:8443", "https://[::1]:1", "https://xn--bcher-kva.example"))))
+        for url in "https://h", "https://h:8443", "https://[::1]:1", "https://xn--bcher-kva.example", "http://localhost:7007":
+            self.assertEqual(read_key_link(KeyLink("sealed", bytes(32), url).spelled()).url, url)
 
     def test_nothing_goes_to_a_server_unsealed_and_no_key_is_printed(self) -> None:
         for url in "redis://h:1", "https://h", "unix:///a.sock":

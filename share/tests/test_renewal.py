@@ -16,6 +16,7 @@ from share.store.read_only import found_in
 from share.tests.editors import Editor
 from share.tests.note import Note
 from share.tests.support import NOTE, Case, Person, type_at_the_end, wait_for, written
+from share.tests.waiting import PATIENCE
 from share.text.errors import Trouble
 from share.text.looks import Looks
 
@@ -31,7 +32,7 @@ class Renewing(Case):
 
     def run_as(self, person: Person, *words: str, status: int = 0) -> str:
         """What bin/note prints for somebody, with this status."""
-        done = subprocess.run([NOTE, *words], capture_output=True, timeout=120, check=False, stdin=subprocess.DEVNULL,
+        done = subprocess.run([NOTE, *words], capture_output=True, timeout=PATIENCE, check=False, stdin=subprocess.DEVNULL,
                               env={**os.environ, "VIALSHOAL_DATA": str(person.data), "VIALSHOAL_NAME": "Ann"})
         self.assertEqual(done.returncode, status, (words, done.stdout, done.stderr))
         self.said = done.stderr.decode()

@@ -2,20 +2,25 @@
 import json
 import os
 import unittest
+from collections.abc import Mapping
 from typing import Any
 from unittest import mock
 
 from share.engine import thread_lines
+from share.engine.by_name import ByName
 from share.engine.margins import Stood
 from share.engine.protocol import serialize
 from share.engine.spots import Spot
 from share.review.margin import Remark, Thread
 from share.review.record import Anchor, MarginKind, MarginState
 from share.tests.editors import EngineHere
+from share.tests.support import TOP
 from share.tests.waiting import wait_for
 from share.text.line import Line
 from share.text.rope import Measured
 from share.text.units import UNITS
+
+PAGE = TOP / "docs" / "REVIEW.md"
 
 
 def second_form(case: unittest.TestCase) -> None:
@@ -178,6 +183,18 @@ class Remarks(Reviewed):
         answer = self.ask("remarks", **{"from": 2, "most": 2})
         self.assertEqual([one["body"] for one in answer["threads"]], ["four", "five"])
 
+    def test_no_more_are_shown_than_there_is_room_for(self) -> None:
+        with mock.patch("share.engine.margins.MOST_THREADS", 3):
+            self.type(0, 0, "one two three\n")
+            made = [self.remark("two", f"remark {number}") for number in range(5)]
+            self.assertEqual((self.ask("remarks")["of"], [one["id"] for one in self.threads()]), (3, made[:3]))
+            # What is said of another one is kept, and typing goes on.
+            self.assertNotIn("error", self.ask("resolve", to=made[4]))
+            self.type(0, 0, "zero ")
+            self.shows("zero one two three\n")
+        self.session().margin.forget()
+        self.assertEqual([(one["id"], one["state"]) for one in self.threads()[3:]], [(made[3], "open"), (made[4], "resolved")])
+
     def test_line_ends_and_characters_of_several_bytes(self) -> None:
         self.type(0, 0, "ä\n🍰 é\n")
         self.remark("🍰 é\n")
@@ -225,6 +242,65 @@ class Suggestions(Reviewed):
         # The replacement was never an edit of this editor.
         self.ask("undo")
         self.shows("")
+
+    def test_what_was_accepted_is_settled_when_its_text_is_deleted_later(self) -> None:
+        for at, new in ("two ", "2 and "), ("two ", ""), ("", "and "):
+            with self.subTest(at=at, new=new):
+                self.type(0, len(self.text), "one two three\n")
+                begin = self.text.index("two")
+                thread = self.ask("suggest", begin=begin, end=begin + len(at), new=new)["thread"]
+
+                def state() -> tuple[str, int]:
+                    answer = self.ask("remarks", open=True)
+                    return next(one["state"] for one in self.threads() if one["id"] == thread), answer["of"]
+                self.assertEqual(state(), ("open", 1))
+                self.ask("accept", to=thread)
+                self.assertEqual(state(), ("accepted", 0))
+                self.type(0, len(self.text) - 1, "all is new")
+                self.assertEqual(state(), ("accepted" if at and not new else "resolved", 0))
+                self.ask("undo")
+                self.assertEqual(state(), ("accepted", 0))
+                for _ in range(2):
+                    self.ask("undo")
+                    self.shows("one two three\n")
+                    self.assertEqual(state(), ("open", 1))
+                    self.ask("redo")
+                    self.assertEqual(state(), ("accepted", 0))
+                self.ask("undo")
+                # What was said before is so again, and what is said since stays.
+                self.ask("reject", to=thread)
+                self.ask("accept", to=thread)
+                self.assertEqual(state(), ("accepted", 0))
+                self.ask("undo")
+                self.assertEqual(state(), ("rejected", 0))
+                self.ask("redo")
+                self.ask("resolve", to=thread)
+                self.ask("undo")
+                self.assertEqual(state(), ("resolved", 0))
+
+    def test_what_is_taken_back_is_open_before_others_see_its_text(self) -> None:
+        self.type(0, 0, "one two three\n")
+        site, _, at = self.suggest("two", "2").partition(":")
+        self.ask("accept", to=f"{site}:{at}")
+        make, states = ByName.make, list[MarginState | None]()
+
+        def makes(*given: Any, **more: Any) -> Any:
+            states.append(self.session().margin.said.thread((int(site), int(at))).state)
+            return make(*given, **more)
+        with mock.patch.object(ByName, "make", makes):
+            self.ask("undo")
+            self.ask("redo")
+        self.assertEqual(states, [MarginState.OPEN] * 2)
+
+    def test_an_acceptance_of_which_nothing_is_left_stays(self) -> None:
+        self.type(0, 0, "one two\n")
+        thread = self.ask("suggest", begin=4, end=4, new="and ")["thread"]
+        self.ask("accept", to=thread)
+        self.type(4, 8, "", number=1)
+        # That takes back what this one typed, since nothing else is left.
+        self.ask("undo")
+        self.shows("")
+        self.assertEqual(self.one()["state"], "resolved")
 
     def test_what_would_insert_or_delete(self) -> None:
         self.type(0, 0, "one two three\n")
@@ -386,6 +462,46 @@ class Notices(Reviewed):
     def _sends(self, what: str, **more: Any) -> None:
         mirror, asked = self.editors[0][1], self.editors[0][3]
         asked.append(json.dumps({"do": what, "version": mirror.version, **more}).encode())
+
+
+class OnThePage(Reviewed):
+    """What an editor is told, as the page of reviews has it."""
+
+    def test_the_page_has_lines_that_go_so(self) -> None:
+        recorded = [line[4:] for line in PAGE.read_text(encoding="utf-8").split("## As lines")[1].splitlines() if line.startswith("    ")]
+        peer, _, _, asked = self.editors[0]
+        peer.sees_remarks = True
+        self.type(0, 0, "one two three\n")
+        self.meet()
+        # By the ids on the page those of now.
+        got, ids = list[Line](), dict[str, str]()
+        for line in recorded:
+            wanted = json.loads(line[2:])
+            if line[0] == ">":
+                self.assertEqual(got, [])
+                asked.append(json.dumps(_named(wanted, ids)).encode())
+                got = self.meet()[0]
+            else:
+                found = got.pop(0)
+                ids |= {wanted[name]: found[name] for name in ("thread", "record") if name in wanted}
+                self.assertEqual(_without_moment(found), _without_moment(_named(wanted, ids)))
+        self.assertEqual(got, [])
+
+
+def _named(value: Any, ids: Mapping[str, str]) -> Any:
+    """A value with other ids."""
+    if isinstance(value, dict):
+        return {name: _named(each, ids) for name, each in value.items()}
+    if isinstance(value, list):
+        return [_named(each, ids) for each in value]
+    return ids.get(value, value) if isinstance(value, str) else value
+
+
+def _without_moment(value: Any) -> Any:
+    """A value without what is otherwise each time."""
+    if isinstance(value, dict):
+        return {name: None if name in ("site", "time") else _without_moment(each) for name, each in value.items()}
+    return [*map(_without_moment, value)] if isinstance(value, list) else value
 
 
 class Long(unittest.TestCase):

@@ -233,6 +233,22 @@ class Apart(ReviewEngines):
         for one in ann, bob:
             self.assertEqual((one.text, self.one(one)["state"], self.one(one)["passage"]), (TEXT, "rejected", "two"))
 
+    def test_an_acceptance_that_is_taken_back_before_another_s_rejection_comes(self) -> None:
+        ann, bob = self.people("ann", "bob")
+        thread = self.suggest(ann, "two", "2")
+        self.meet(ann, bob)
+        with self.apart(ann, bob):
+            self.does(bob, "reject", to=thread)
+            self.does(ann, "accept", to=thread)
+            self.assertTrue(self.does(ann, "undo")["done"])
+            self.assertEqual([self.one(one)["state"] for one in (ann, bob)], ["open", "rejected"])
+        for one in ann, bob:
+            self.assertEqual((one.text, self.one(one)["state"]), (TEXT, "rejected"))
+        with self.apart(ann, bob):
+            self.assertTrue(self.does(ann, "redo")["done"])
+        for one in ann, bob:
+            self.assertEqual((one.text, self.one(one)["state"]), ("one 2 three four\n", "accepted"))
+
     def test_an_acceptance_that_is_taken_back_by_one_of_two(self) -> None:
         ann, bob = self.people("ann", "bob")
         thread = self.suggest(bob, "two three", "2 3")

@@ -19,6 +19,7 @@ from share.store import notes, read_only
 from share.tests.editors import Editor
 from share.tests.support import NOTE, Case
 from share.tests.test_critic import some_text
+from share.tests.waiting import PATIENCE
 from share.text.errors import Refused, Trouble
 from share.text.looks import Run
 
@@ -59,7 +60,7 @@ class ReviewCase(Case):
     def run_note(self, *words: str, given: str = "", name: str = "Ada") -> str:
         """What the real command prints."""
         environment = {"VIALSHOAL_DATA": str(self.folder / "data"), "VIALSHOAL_NAME": name}
-        done = subprocess.run([NOTE, *words], capture_output=True, input=given.encode(), timeout=120, check=False,
+        done = subprocess.run([NOTE, *words], capture_output=True, input=given.encode(), timeout=PATIENCE, check=False,
                               env={**os.environ, **environment})
         self.assertEqual(done.returncode, 0, (words, done.stderr))
         return done.stdout.decode()
@@ -294,6 +295,19 @@ class CriticFiles(ReviewCase):
         self.assertEqual(self.note("export", "copy", "-", "--format", "critic", data="other"),
                          written.replace("Bob: fig", "Ada: Bob: fig").replace("{>>Bob:<<}", "{>>Ada: Bob:<<}"))
         self.assertEqual(self.note("cat", "copy", data="other"), TEXT)
+
+    @unittest.skipUnless(shutil.which("pandoc"), "pandoc isn't here")
+    def test_pandoc_keeps_all_marks(self) -> None:
+        self.made()
+        self.note("reply", "note", self.note("remark", "note", "--on", "jam", "*which* one?").strip(), "fig", name="Bob")
+        self.note("suggest", "note", "--on", "honey", "fig & plum")
+        self.note("suggest", "note", "--on", "and ", "")
+        self.note("suggest", "note", "--at", "1", "green ")
+        written = self.note("export", "note", "-", "--format", "critic")
+        self.assertEqual([written.count(mark) for mark in ("{++", "{--", "{~~", "{==", "{>>")], [1, 1, 1, 1, 5])
+        read = subprocess.run(["pandoc", "-f", "commonmark", "-t", "plain", "--wrap=preserve"], input=written.encode(),
+                              capture_output=True, check=True)
+        self.assertEqual(read.stdout.decode(), written.replace("*which*", "which"))
 
     def test_of_another_text(self) -> None:
         self.made()

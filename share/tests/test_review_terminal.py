@@ -1,5 +1,6 @@
 """Remarks and suggestions in a terminal: a real one, of tmux, with bin/note in it."""
 import os
+import signal
 import unittest
 from unittest import mock
 
@@ -8,7 +9,7 @@ from share.editors.since import NoteChanges
 from share.editors.terminal.layout import AsideRow, asides
 from share.editors.threads import MOST_THREADS_KEPT, NoteThreads, PlacedThread, said_in_lines
 from share.tests.editors import Editor
-from share.tests.support import Case, wait_for
+from share.tests.support import Case, engine_of, wait_for
 from share.tests.terminals import HEIGHT, Terminal
 from share.text.change import Change
 from share.text.line import Line
@@ -37,6 +38,14 @@ class ReviewTerminals(Case):
         terminal.sees(text.split("\n", maxsplit=1)[0])
         return terminal, other
 
+    @staticmethod
+    def begins(one: Terminal, *lines: str) -> None:
+        """Waits until a screen begins with these lines, but for marks at their ends: it may be drawn in parts."""
+        try:
+            wait_for(lambda: [line.rstrip("*+- ") for line in one.lines()[:len(lines)]] == [*lines], "")
+        except AssertionError:
+            raise AssertionError(f"waited for {lines}, and saw {one.lines()}") from None
+
     def threads(self, other: Editor) -> list[Line]:
         """What is said of the note."""
         found: list[Line] = other.ask("remarks", version=other.mirror.version)["threads"]
@@ -59,9 +68,7 @@ class ReviewTerminals(Case):
         wait_for(lambda: one.lines()[1] == "jam and honey".ljust(69) + "*", "the mark")
         one.press("C-n")
         one.sees("remarks: open")
-        self.assertEqual([line.rstrip("* ") for line in one.lines()[:5]],
-                         ["so: tea", "jam and honey", f"  | site {found['site']} remarks: open", "  | | jam", "  | which?"])
-        self.assertEqual(one.lines()[5], "milk")
+        self.begins(one, "so: tea", "jam and honey", f"  | site {found['site']} remarks: open", "  | | jam", "  | which?", "milk")
         one.type("r")
         one.sees("Reply to")
         one.type("fig")
@@ -75,6 +82,22 @@ class ReviewTerminals(Case):
         one.shows("so: tea", "jam and honey", "milk")
         one.type("x")
         one.sees("xjam and honey")
+
+    def test_a_key_right_after_escape_is_done_however_late_both_are_read(self) -> None:
+        one, other = self.opened_with("tea\njam\n")
+        other.ask("remark", version=other.mirror.version, begin=0, end=3, body="which?")
+        one.shows("tea".ljust(69) + "*", "jam")
+        one.press("C-n")
+        one.sees("  | which?")
+        (editor,) = one.commands()
+        os.kill(editor, signal.SIGSTOP)
+        try:
+            one.press("Escape", "C-f")
+            one.type("jam\n")
+        finally:
+            os.kill(editor, signal.SIGCONT)
+        one.shows("tea".ljust(69) + "*", "jam")
+        one.cursor_is(0, 1)
 
     def test_suggestions(self) -> None:
         one, other = self.opened_with("tea\njam\n")
@@ -107,6 +130,41 @@ class ReviewTerminals(Case):
         one.sees("Suggest instead: jam")
         one.press("Escape", "Escape")
         self.assertEqual([line["state"] for line in self.threads(other)], ["open", "rejected"])
+
+    def test_a_list_of_open_ones_or_of_ones_of_an_author(self) -> None:
+        one, other = self.opened_with("tea\njam\n")
+        thread = other.ask("remark", version=other.mirror.version, begin=0, end=3, body="first")["thread"]
+        other.ask("resolve", to=thread)
+        other.ask("remark", version=other.mirror.version, begin=4, end=7, body="second")
+        one.press("C-Space", "Right", "C-t")
+        one.sees("Remark:")
+        one.type("third")
+        one.press("Enter")
+        one.sees("Remarked.")
+
+        def lists(*wanted: str) -> None:
+            """Waits for a list of these, of which one is chosen."""
+            def is_so() -> bool:
+                rows = [line for line in one.lines() if line.startswith(("  line", "> line"))]
+                return [row.split()[-1] for row in rows] == [*wanted] and any(row.startswith(">") for row in rows)
+            wait_for(is_so, f"a list of {wanted}")
+        one.press("C-o")
+        lists("first", "third", "second")
+        one.type("o")
+        lists("third", "second")
+        one.type("b")
+        lists("second")
+        one.type("b")
+        lists("third")
+        one.type("b")
+        lists("third", "second")
+        # What nobody says any more is in no list, and one that would be empty has all.
+        one.type("b")
+        lists("second")
+        other.ask("resolve", to=self.threads(other)[-1]["id"])
+        lists("first", "third", "second")
+        one.press("Escape")
+        one.shows("tea".ljust(69) + "*", "jam")
 
     def test_what_was_changed_since_is_asked_about(self) -> None:
         one, other = self.opened_with("tea and jam\n")
@@ -185,6 +243,35 @@ class ReviewTerminals(Case):
         one.send(b"nd")
         wait_for(lambda: [line["state"] for line in self.threads(other)] == ["open", "resolved"], "the second one to be resolved")
 
+    def test_all_of_a_thread_at_the_end_of_the_screen_is_seen(self) -> None:
+        lines = "".join(f"line {number}\n" for number in range(HEIGHT - 2))
+        one, other = self.opened_with(lines + "end")
+        other.ask("suggest", version=other.mirror.version, begin=len(lines), end=len(lines) + 3, new="fig")
+        wait_for(lambda: any(line.endswith("*") for line in one.lines()), "the mark")
+        one.press("C-n")
+        one.sees("  | - end")
+        one.sees("  | + fig")
+
+    def test_keys_for_what_is_gone_are_none_of_the_text(self) -> None:
+        one, other = self.opened_with("tea\njam\n")
+        thread = other.ask("remark", version=other.mirror.version, begin=0, end=3, body="which?")["thread"]
+        one.shows("tea".ljust(69) + "*", "jam")
+        one.press("C-n")
+        one.sees("  | which?")
+        engine = engine_of(self.folder / "data", "diary")
+        os.kill(engine, signal.SIGSTOP)
+        try:
+            other.send({"do": "withdraw", "to": thread})
+            one.type("d")
+            one.sees("Waiting for")
+            one.send(b"x\ry")
+        finally:
+            os.kill(engine, signal.SIGCONT)
+        one.sees("isn't there any more")
+        one.shows("tea", "jam")
+        one.type("n")
+        one.sees("ntea")
+
     def suggested(self, other: Editor) -> list[tuple[int, int, str]]:
         """What is suggested, and open."""
         return [(one["begin"], one["end"], one.get("new", "")) for one in self.threads(other) if one["state"] == "open"]
@@ -198,7 +285,7 @@ class ReviewTerminals(Case):
         one.type("honeyx")
         one.press("BSpace")
         one.sees("  | + honey")
-        self.assertEqual([line.rstrip("* ") for line in one.lines()[:4]], ["tea and jam", "  | - jam", "  | + honey", "milk"])
+        self.begins(one, "tea and jam", "  | - jam", "  | + honey", "milk")
         # Others' text moves it.
         other.edit((0, 0, "so: "))
         other.settle()
@@ -306,7 +393,7 @@ class ReviewTerminals(Case):
         wait_for(lambda: [line[-1:] for line in one.lines()[:3]] == ["a", "-", "+"], "the marks")
         one.press("F8")
         one.sees("1 of 2 changes")
-        self.assertEqual([line.rstrip("+- ") for line in one.lines()[1:4]], ["and honey", "  | Bob wrote what went", "  | - jam"])
+        self.begins(one, "tea", "and honey", "  | Bob wrote what went", "  | - jam")
         # Others' text before them moves them.
         other.edit((0, 0, "so: \n"))
         other.settle()

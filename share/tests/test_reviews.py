@@ -7,11 +7,13 @@ from typing import Any
 from unittest import mock
 
 from share.engine.engine import Engine
-from share.format.second.key_link import link_of
+from share.format.history import Messages
 from share.format.operation import MOST_OF_A_SITE
+from share.format.second.key_link import link_of
+from share.program.site import PACKED_NAME, Site
 from share.review.anchor import anchored
 from share.review.record import MARGIN, MarginKind, MarginRecord, sum_of
-from share.store import notes
+from share.store import notes, snapshot
 from share.store.guarded import Unkept
 from share.store.note_file import SECOND, Disk
 from share.store.renewal import fresh
@@ -134,13 +136,14 @@ class Reviews(Case):
     reviewers: list[Reviewer] = []
 
     def meet(self, *some: Reviewer) -> str:
-        """Waits until all show the same text and threads."""
+        """Waits until all show the same text and threads, and have as many records of them, also of those that say nothing now."""
         some = some or tuple(self.reviewers)
 
         def are_alike() -> bool:
             states = [one.session.status() for one in some]
             return (not any(state.unsent or state.offline or state.waiting for state in states) and len({one.shows() for one in some}) == 1
-                    and len({json.dumps(self.plain(one)) for one in some}) == 1)
+                    and len({json.dumps(self.plain(one)) for one in some}) == 1
+                    and len({one.session.margin.said.many_records() for one in some}) == 1)
         self.wait(are_alike, "all to show the same")
         return some[0].shows()
 
@@ -489,6 +492,33 @@ class Whole(Reviews):
             self.assertEqual(again.shows(), "two 3\n")
             again.close()
             self.reviewers.clear()
+
+    def test_gone_on_from_its_packed_file(self) -> None:
+        (ann,) = self.people("ann")
+        for number in range(3):
+            ann.ask("remark", **ann.on("two"), body=f"why {number}?")
+        ann.ask("reply", to=ann.threads()[0]["id"], body="because")
+        wanted, folder = self.plain(ann), ann.person.path().with_suffix(".packed") / f"{ann.session.number}-{MARGIN}"
+
+        def again() -> list[tuple[int, int, int]]:
+            """Of each text that goes on from a packed file how many messages that has, and how many are handed in beside."""
+            self.reviewers[-1].close()
+            handed, reopened = list[tuple[int, int, int]](), Site._reopen
+
+            def reopens(site: Site, packed: Messages, progress: Any) -> None:
+                with mock.patch.object(Site, "take", autospec=True) as takes:
+                    reopened(site, packed, progress)
+                handed.append((site.text_number, len(packed), sum(len(call.args[1]) for call in takes.call_args_list)))
+            with mock.patch.object(Site, "_reopen", reopens):
+                self.reviewers[:] = [one := Reviewer(self, ann.person)]
+                self.assertEqual(self.plain(one), wanted)
+            return handed
+        with mock.patch.object(snapshot, "AT_END", 1):
+            self.assertIn((MARGIN, 4, 0), again())
+            # One that is damaged is none.
+            (folder / PACKED_NAME).write_bytes(b"x")
+            self.assertNotIn(MARGIN, [text for text, _, _ in again()])
+            self.assertIn((MARGIN, 4, 0), again())
 
     def test_begun_anew_without_history(self) -> None:
         ann, bob = self.people("ann", "bob")

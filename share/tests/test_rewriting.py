@@ -11,7 +11,7 @@ from share.program.replay import as_line, steps
 from share.program.site import Rewrite, one_by_one
 from share.tests.crossing import Editor, Writer, settled
 from share.tests.note import Note
-from share.tests.support import Case, Person, take, wait_for, written
+from share.tests.support import Case, Person, take, type_at_the_end, wait_for, written
 from share.text.graphemes import inside
 from share.text.rope import readable, swapped
 
@@ -228,7 +228,10 @@ class Anew(Case):
         written(note, f"{PASSAGE}|{PASSAGE}")
         note.session.close()
         for person in self.bob, self.carol:
-            person.open(link=self.anna.link()).session.close()
+            note = person.open(link=self.anna.link())
+            self.assert_comes_to(note, f"{PASSAGE}|{PASSAGE}".encode())
+            type_at_the_end(note, "")
+            note.session.close()
 
     def opened_to_type(self, person: Person) -> Note:
         """The note, as soon as somebody can type."""

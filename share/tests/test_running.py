@@ -59,6 +59,20 @@ def some_of_either_form() -> unittest.TestSuite:
     return of(Either)
 
 
+def one_that_is_gone() -> unittest.TestSuite:
+    """A test that fails, and isn't there when it is to be run again."""
+
+    class Gone(unittest.TestCase):
+        """The same."""
+
+        def test_it(self) -> None:
+            marker.touch()
+            self.fail("it is there")
+
+    marker = pathlib.Path(os.environ["SHARE_TEST_TIMES"]) / "gone"
+    return unittest.TestSuite() if marker.exists() else of(Gone)
+
+
 def one_that_is_killed() -> unittest.TestSuite:
     """A test in which the process ends."""
 
@@ -108,6 +122,61 @@ def one_that_does_not_end() -> unittest.TestSuite:
     return of(Left)
 
 
+def some_that_fail_at_times() -> unittest.TestSuite:
+    """A test that fails once, one that fails the first and the last time, one of which a part fails once, and a class that begins the
+    second time."""
+
+    def fails(name: str, *times: int) -> bool:
+        """Whether this is one of the times at which it fails."""
+        with open(pathlib.Path(os.environ["SHARE_TEST_TIMES"]) / name, "a+", encoding="ascii") as file:
+            file.write("x")
+            return file.tell() in times
+
+    class Some(unittest.TestCase):
+        """The same."""
+
+        def test_once(self) -> None:
+            self.assertFalse(fails("once", 1), "it was the first time")
+
+        def test_again(self) -> None:
+            self.assertFalse(fails("again", 1, 1 + running.TIMES_AGAIN), "it was such a time")
+
+        def test_in_part(self) -> None:
+            with self.subTest("a part"):
+                self.assertFalse(fails("part", 1), "a part was")
+
+        def test_that_passes(self) -> None:
+            self.assertFalse(fails("passes"))
+
+    class Begins(unittest.TestCase):
+        """The same."""
+
+        @classmethod
+        def setUpClass(cls) -> None:
+            assert not fails("begins", 1), "it didn't begin"
+
+        def test_it(self) -> None:
+            pass
+
+    return unittest.TestSuite([of(Some), of(Begins)])
+
+
+def one_that_fails_once_and_leaves_a_thread() -> unittest.TestSuite:
+    """A test that ends nothing of what it began, the first time."""
+
+    class Left(unittest.TestCase):
+        """The same."""
+
+        def test_it(self) -> None:
+            file = pathlib.Path(os.environ["SHARE_TEST_TIMES"]) / "begun"
+            if not file.exists():
+                file.touch()
+                threading.Thread(target=threading.Event().wait, daemon=True).start()
+                self.fail("it was the first time")
+
+    return of(Left)
+
+
 class Modules(Case):
     """Modules that are run as share/tests/run does it."""
 
@@ -124,6 +193,40 @@ class Modules(Case):
         faults = ["FAIL: test_three .*: AssertionError: 'what' != 'else'", "FAIL: test_four .*: nothing is skipped", "FAIL: test_three "]
         for line, wanted in zip(said[-5:], faults):
             self.assertRegex(line, wanted)
+
+    def test_what_failed_is_run_again(self) -> None:
+        with mock.patch.dict(os.environ, SHARE_TEST_TIMES=str(self.folder)):
+            status, said = self.run_all("some_that_fail_at_times", "some_of_either_form:2")
+        self.assertEqual((status, said[-1]), (1, "5 passed, 1 failed"))
+        for line, wanted in zip(said[-6:], ["FAIL: test_again .*: AssertionError: .* it was such a time",
+                                            "UNSTEADY: test_in_part .*a part.*: AssertionError: .* a part was",
+                                            "UNSTEADY: test_once .*: AssertionError: .* it was the first time",
+                                            "UNSTEADY: setUpClass .*: AssertionError: it didn't begin", "3 unsteady: "]):
+            self.assertRegex(line, wanted)
+        # What it said at first is told in full, and what passed isn't run again.
+        self.assertTrue(any(line.startswith("Traceback") for line in said))
+        times = {"once": 4, "again": 4, "part": 4, "begins": 4, "passes": 1}
+        self.assertEqual({name: len((self.folder / name).read_text("ascii")) for name in times}, times)
+
+    def test_what_isnt_run_again_failed(self) -> None:
+        with mock.patch.dict(os.environ, SHARE_TEST_TIMES=str(self.folder)):
+            status, said = self.run_all("one_that_is_gone")
+        self.assertEqual((status, said[-1]), (1, "0 passed, 1 failed"))
+
+    def test_what_is_left_by_what_failed_is_looked_at_again_with_it(self) -> None:
+        with mock.patch.dict(os.environ, SHARE_TEST_TIMES=str(self.folder)), mock.patch("share.tests.left_open.ENDING_SECONDS", 0):
+            status, said = self.run_all("one_that_fails_once_and_leaves_a_thread")
+        self.assertEqual((status, said[-1]), (0, "1 passed, 0 failed"))
+        told = ["UNSTEADY: test_it .*it was the first time", "UNSTEADY: .* left 1 threads open", "2 unsteady: "]
+        for line, wanted in zip(said[-4:], told):
+            self.assertRegex(line, wanted)
+
+    def test_where_much_failed_nothing_is_run_again(self) -> None:
+        with mock.patch.dict(os.environ, SHARE_TEST_TIMES=str(self.folder)), mock.patch.object(running, "MOST_AGAIN", 3):
+            status, said = self.run_all("some_that_fail_at_times")
+        self.assertEqual((status, said[-1]), (1, "1 passed, 4 failed"))
+        self.assertEqual(sum(line.startswith("UNSTEADY") for line in said), 0)
+        self.assertEqual((self.folder / "once").read_text("ascii"), "x")
 
     def test_what_is_of_the_first_form_is_left_out_over_the_second(self) -> None:
         status, said = self.run_all("some_of_either_form:2", "some_of_either_form:2")

@@ -11,6 +11,7 @@ from share.tests.editors import Editor
 from share.tests.forms import is_second_form
 from share.tests.support import NOTE, Case, Person, raws_of, wait_for
 from share.tests.terminals import Answering
+from share.tests.waiting import PATIENCE
 from share.text.looks import Run
 
 
@@ -20,7 +21,7 @@ class Verbs(Case):
     def note(  # type: ignore[override]
             self, *words: str, data: str = "data", given: bytes = b"", status: int = 0) -> str:
         """What a command prints that ends with this status."""
-        done = subprocess.run([NOTE, *words], capture_output=True, input=given, timeout=120, check=False,
+        done = subprocess.run([NOTE, *words], capture_output=True, input=given, timeout=PATIENCE, check=False,
                               env={**os.environ, "VIALSHOAL_DATA": str(self.folder / data)})
         self.assertEqual(done.returncode, status, (words, done.stderr))
         self.said = done.stderr.decode()
@@ -106,7 +107,7 @@ class Verbs(Case):
                 with contextlib.suppress(subprocess.TimeoutExpired):
                     run.wait(number * 0.03)
                 run.send_signal(signal.SIGINT)
-                said = run.communicate(timeout=120)[1]
+                said = run.communicate(timeout=PATIENCE)[1]
             self.assertEqual((said, run.returncode in (0, -signal.SIGINT)), ("", True), number)
 
     def test_by_the_engine_that_runs_no_number_is_spent(self) -> None:

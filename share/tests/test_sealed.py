@@ -234,14 +234,16 @@ class Links(unittest.TestCase):
     def test_urls_have_one_spelling(self) -> None:
         for given, url in {"redis://Host.example:07000/": "redis://host.example:7000",
                            "REDISS://h:1": "rediss://h:1", "unix:///a/../b.sock": "unix:///b.sock",
-                           "/a//b.db": "/a/b.db", "redis://[::1]:7": "redis://[::1]:7"}.items():
+                           "/a//b.db": "/a/b.db", "redis://[::1]:7": "redis://[::1]:7", "HTTPS://Host.example:443/": "https://host.example",
+                           "https://h:0444": "https://h:444", "http://localhost:7007": "http://localhost:7007",
+                           "http://127.0.0.1:80": "http://127.0.0.1"}.items():
             self.assertEqual(url_of(given), url)
             self.assertEqual(url_of(url), url)
         self.assertEqual(url_of("b.db"), os.path.join(os.getcwd(), "b.db"))
 
     def test_no_password_is_let_through_or_repeated(self) -> None:
         for wrong in ("redis://:hush@h:1", "redis://u@h:1", "rediss://u:hush@h:1", "unix://u:hush@/a.sock",
-                      "redis://:hush", "http://u:hush@h", "redis:u:hush@h:1"):
+                      "redis://:hush", "http://u:hush@h", "redis:u:hush@h:1", "https://u:hush@h"):
             with self.assertRaises(Trouble) as told:
                 url_of(wrong)
             self.assertNotIn("hush", str(told.exception))
@@ -249,7 +251,9 @@ class Links(unittest.TestCase):
     def test_other_urls_are_refused(self) -> None:
         for wrong in ("", "http://h:1", "file:///x", "redis://h", "redis://h:0", "redis://h:65536", "redis://h:1/2",
                       "redis://h:1?ssl_cert_reqs=none", "redis://:1", "redis://h:1#x", "unix://a.sock",
-                      "unix:///a?db=1", "redis://h:1\n", "a\x1b[2Jb", "redis://"):
+                      "unix:///a?db=1", "redis://h:1\n", "a\x1b[2Jb", "redis://", "https://", "https://h:0", "https://h:65536",
+                      "https://h/x",
+                      "https://h?x", "https://h#x", "http://10.0.0.1", "http://localhost.example"):
             with self.assertRaises(Trouble, msg=wrong):
                 url_of(wrong)
 

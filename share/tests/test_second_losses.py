@@ -13,7 +13,7 @@ from types import SimpleNamespace
 from unittest import mock
 
 from share.format.chunk import Packed, packed
-from share.format.entry import GREATEST_SITE, NO_HASH, Author, Entry
+from share.format.entry import GREATEST_SITE, NO_HASH, Author, Copied, Entry
 from share.format.operation import INSERT, PLAIN_LOOKS, Operation
 from share.format.second import claim as claims
 from share.format.second.claim import found_among, number_of_rank, rank_of
@@ -23,6 +23,8 @@ from share.store import notes
 from share.store.note_file import SECOND
 from share.tests.note import Note
 from share.tests.support import NOTE, TOP, Case, Person, claim_against, claim_of, type_at_the_end, wait_for, written
+from share.tests.test_record_judge import Writer
+from share.tests.waiting import PATIENCE
 from share.text.names import Names
 
 NOTES_PAGE = TOP / "docs" / "NOTES.md"
@@ -51,7 +53,7 @@ class OfSecondForm(Case):
 
     def run_as(self, person: Person, *words: str, status: int = 0) -> str:
         """What bin/note prints for somebody, with this status."""
-        done = subprocess.run([NOTE, *words], capture_output=True, timeout=120, check=False, stdin=subprocess.DEVNULL,
+        done = subprocess.run([NOTE, *words], capture_output=True, timeout=PATIENCE, check=False, stdin=subprocess.DEVNULL,
                               env={**os.environ, "VIALSHOAL_DATA": str(person.data)})
         self.assertEqual(done.returncode, status, (words, done.stdout, done.stderr))
         self.said = done.stderr.decode()
@@ -96,8 +98,9 @@ class AfterRenewing(OfSecondForm):
         with self.ann.here():
             notes.renew("note", None, None, form_number=SECOND)
         ann = self.opened(self.ann)
-        type_at_the_end(ann, "four ")
+        written(ann, "four ")
         bob = self.opened(self.bob, link=self.ann.link())
+        self.assert_comes_to(bob, b"one two three four ")
         type_at_the_end(bob, "five ")
         self.assertEqual(self.assert_meet(ann, bob), b"one two three four five ")
         return ann, bob, numbers
@@ -209,6 +212,29 @@ class TakenOver(OfSecondForm):
         typed = next(one for one in self.entries(self.bob) if one.site == site and one.hashes)
         self.send(self.ann, fork(form, author, typed))
         self.assert_told_and_typed_again(site, text)
+
+
+class Unplaced(OfSecondForm):
+    """Somebody with the link says what became of messages before one that has no place, since it follows a message of another text."""
+
+    def test_editors_and_scripts_go_on(self) -> None:
+        ann = self.opened(self.ann, url=self.file_log())
+        type_at_the_end(ann, "one ")
+        form = self.form(self.ann)
+        authors = {site: form.new_author() for site in (65_000, 65_001)}
+        typed, again = (Writer(form, authors[site], site, text).type(b"abc") for site, text in ((65_000, 1), (65_001, 2)))
+        unplaced = form.messages(one_part(Operation(INSERT, 65_000, 4, 9, 1, (), 0, b"d", PLAIN_LOOKS, 2)), typed[-1].name, authors[65_000])
+        said = Copied(typed[0].author, 65_000, again[0].author, 65_001, ((2, 1, 1),), again[-1].name)
+        word = form.copies(said, authors[65_001], 65_001, unplaced.name, 2)
+        self.send(self.ann, *(claim_of(form, site, author) for site, author in authors.items()), *typed, unplaced, *again, word)
+        bob = self.opened(self.bob, link=self.ann.link())
+        for note in ann, bob:
+            wait_for(lambda one=note: (one.take_in(), word.hash in one.session._holdings.judge)[1], "the word")
+            type_at_the_end(note, "two ")
+        self.assertEqual(self.assert_meet(ann, bob).count(b"two "), 2)
+        for note in ann, bob:
+            note.session.close()
+        self.assertEqual(self.run_as(self.ann, "cat", "note").count("two "), 2)
 
 
 class Price(unittest.TestCase):

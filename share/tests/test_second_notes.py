@@ -74,6 +74,7 @@ class SecondForm(OfSecondForm):
         ann = self.opened(self.ann, url=url)
         written(ann, "one ")
         bob = self.opened(self.bob, link=self.ann.link())
+        self.assert_comes_to(bob, b"one ")
         type_at_the_end(bob, "two ")
         self.assert_meet(ann, bob)
         return ann, bob
@@ -109,6 +110,19 @@ class SecondForm(OfSecondForm):
         for text in 0, 17:
             with self.assertRaises(Trouble):
                 note.session.insert(0, b"x", text)
+
+    def test_each_text_goes_on_from_a_packed_file_of_its_own(self) -> None:
+        texts = {1: b"one ", MARGIN: b"a remark", 16: b"the last text"}
+        with mock.patch("share.store.snapshot.AT_END", 1):
+            note = self.ann.open()
+            for text, data in texts.items():
+                note.session.insert(0, data, text)
+            note.session.close()
+        again = self.opened(self.ann)
+        for text, data in texts.items():
+            shown, replica = again.session.text(text), again.session._texts[text].replica
+            self.assertEqual((shown, replica.packed), (data, len(replica.site.history)))
+            self.assertGreater(replica.packed, 0)
 
     def test_renewed_from_either_form_with_all_texts(self) -> None:
         for form in "1", "2":
@@ -317,7 +331,7 @@ class SecondForm(OfSecondForm):
         for note in notes:
             note.session.close()
         notes = [self.opened_to_type(person) for person in people]
-        wait_for(lambda: (self.assert_meet(*notes), {*map(self.margin_of, people)})[1] == {"a remark"}, "it to be there once", 30)
+        wait_for(lambda: (self.assert_meet(*notes), {*map(self.margin_of, people)})[1] == {"a remark"}, "it to be there once")
 
     def test_a_version_of_before_refuses_it_in_words(self) -> None:
         self.both(self.file_log())
@@ -329,13 +343,6 @@ class SecondForm(OfSecondForm):
         # Its file isn't one of those that it knows, so nothing in it is taken for damaged.
         with contextlib.closing(sqlite3.connect(self.ann.path())) as file:
             self.assertEqual(file.execute("PRAGMA application_id").fetchone()[0], NOTE_APPLICATIONS[SECOND])
-
-    def test_a_page_whose_log_cant_be_reached_is_told(self) -> None:
-        ann = self.ann.open(url=self.file_log())
-        ann.session.close()
-        page = read_key_link(self.ann.link())._replace(form="sealed", url="https://notes.example").page()
-        with self.bob.here(), self.assertRaisesRegex(Trouble, "server of pages"):
-            notes.open_note("note", None, read_key_link(page))
 
     def spares(self, person: Person) -> int:
         """How many numbers somebody can type under beside that of an editor."""
@@ -374,7 +381,7 @@ class SecondForm(OfSecondForm):
                     wait_for(lambda: (note.take_in(), tried.called)[1], "it to be tried")
                     self.assertFalse(note.session.can_type)
                     self.assertTrue(note.session.status().trouble)
-                wait_for(lambda: (note.take_in(), note.session.can_type)[1], "a number", 20)
+                wait_for(lambda: (note.take_in(), note.session.can_type)[1], "a number")
                 type_at_the_end(note, "three ")
 
     def test_who_loses_a_number_while_no_other_is_there_is_told_so(self) -> None:
@@ -388,6 +395,19 @@ class SecondForm(OfSecondForm):
                 self.assertNotIn(str(READING), " ".join(told))
                 self.assertIn("so you go on as soon as another number was found", " ".join(told))
             self.assertEqual(self.assert_meet(ann, bob), b"one two ")
+
+    def test_who_loses_a_number_makes_what_he_wrote_anew_in_all_texts(self) -> None:
+        ann, bob = self.both(self.file_log())
+        number, texts = bob.session.number, {1: b"one two ", MARGIN: b"a remark", 16: b"the last text"}
+        for text in MARGIN, 16:
+            bob.session.insert(0, texts[text], text)
+        self.assert_margin(ann, texts[MARGIN])
+        take(self.bob, number)
+        wait_for(lambda: (bob.take_in(), bob.session.can_type and bob.session.number != number)[1], "another number")
+        for note in ann, bob:
+            wait_for(lambda one=note: (ann.take_in(), bob.take_in(), {of: one.session.text(of) for of in texts})[2] == texts, "all of it")
+            wait_for(lambda one=note: (one.take_in(), not one.session.lost())[1], "nothing to be left out")
+        self.assertEqual({part.holder.site for of in texts for part in ann.session.messages(of).parts()} & {number}, set())
 
     def test_who_types_waits_for_no_search(self) -> None:
         note = self.opened(self.ann)
@@ -414,9 +434,10 @@ class ScriptsThatJoin(OfSecondForm):
         self.link = self.ann.link()
 
     def begun(self, *words: str, given: str = "", **environment: str) -> "subprocess.Popen[str]":
-        """A command of Bob's that is begun."""
+        """A command of Bob's that is begun, and can be interrupted, also where a shell in the background began the tests."""
         run = subprocess.Popen(words, text=True, stdin=subprocess.PIPE, stdout=subprocess.PIPE, stderr=subprocess.PIPE,
-                               env={**os.environ, "VIALSHOAL_DATA": str(self.bob.data), "VIALSHOAL_LINK": self.link, **environment})
+                               env={**os.environ, "VIALSHOAL_DATA": str(self.bob.data), "VIALSHOAL_LINK": self.link, **environment},
+                               preexec_fn=lambda: signal.signal(signal.SIGINT, signal.SIG_DFL))
         self.addCleanup(run.communicate)
         self.addCleanup(run.kill)
         assert run.stdin
@@ -442,7 +463,7 @@ class ScriptsThatJoin(OfSecondForm):
     def test_it_waits_for_a_number_at_its_price_and_changes_the_text_of_then(self) -> None:
         price = {"VIALSHOAL_ZERO_BITS": str(ZERO_BITS)}
         run = self.begun(python(), "-B", "-c", OPENS_AT_ONCE, "import", "note", "-", given="one\ntwo\n", **price)
-        said = run.communicate(timeout=PATIENCE)[1]
+        said = run.communicate(timeout=6 * PATIENCE)[1]  # searched for at the lowest priority there is
         self.assertLessEqual({*said.splitlines()}, {f"note: note: {words}" for words in (NONE_FOUND_YET, NOT_READ_YET)})
         self.assertEqual(run.returncode, 0)
         for one in self.bob, self.ann:

@@ -32,6 +32,7 @@ from share.tests.note import Note
 from share.tests.servers import Hostile
 from share.tests.servers import RedisServer as Server
 from share.tests.support import NOTE, TOP, Case, Person, claim_of, claim_order, python, raws_of, type_at_the_end, wait_for, written
+from share.tests.waiting import PATIENCE
 
 HUGE = 100_000_000
 # More than the 100 MB of one entry that must not be held.
@@ -45,14 +46,17 @@ import json, os, pathlib, re, sys
 from share.format.second.key_link import link_of
 from share.store import notes
 from share.sync.session import Session
-from share.tests.waiting import wait_for
+from share.log import channel, relay_line, resp
+from share.tests.waiting import PATIENCE, wait_for
+# A busy machine's server, which may have 100 MB to look at, isn't one that is gone.
+resp.REPLY_SECONDS = channel.REPLY_SECONDS = relay_line.REPLY_SECONDS = PATIENCE
 session = Session(notes.open_note("note", None, link_of(os.environ["VIALSHOAL_LINK"])))
 told = []
 def is_read():
     session.arrived()
     told.extend(session.notices())
     return session.text() == b"one two " and (told or sys.argv[1] == "quiet") and session._replicator.has_read()
-wait_for(is_read, "the log to be read")
+wait_for(is_read, "the log to be read", 2 * PATIENCE)
 most = int(re.search("VmHWM:\\s+(\\d+)", pathlib.Path("/proc/self/status").read_text())[1])
 print(json.dumps([session.text().decode(), most, told]))
 session.close()
@@ -105,6 +109,11 @@ class Shared(Case):
 
     def setUp(self) -> None:
         super().setUp()
+        # As for who joins in a process of its own.
+        for where in "resp", "channel", "relay_line":
+            patient = mock.patch(f"share.log.{where}.REPLY_SECONDS", PATIENCE)
+            patient.start()
+            self.addCleanup(patient.stop)
         self.server = Server(self.folder / "redis")
         self.addCleanup(self.server.close)
         self.ann = self.person("ann")
@@ -207,7 +216,7 @@ class Operators(Shared):
         self.append(*changed, *others, right[:-1], right + b"\0")
         bob = self.opened(self.person("bob"), link=self.link)
         self.assert_comes_to(bob, b"one ")
-        wait_for(lambda: (bob.take_in(), "left out" in bob.notice)[1], "it to be told")
+        wait_for(lambda: (bob.take_in(), "left out" in str(bob.told))[1], "it to be told")
         self.note_of_ann = self.opened(self.ann)
         wait_for(lambda: (bob.take_in(), bytes(bob.text) == b"one two ")[1], "the right entry from Ann's disk")
 
@@ -271,8 +280,8 @@ class Operators(Shared):
     def joined(self, *words: str) -> tuple[str, int, list[str]]:
         """What a process of its own shows that joins the note, its memory in KB, and what it told."""
         run = subprocess.run([python(), "-B", "-c", JOINS, *words], cwd=TOP, capture_output=True, text=True, check=True,
-                             timeout=240, env={**os.environ, "VIALSHOAL_LINK": self.link,
-                                               "VIALSHOAL_DATA": str(self.folder / "-".join(words))})
+                             timeout=3 * PATIENCE, env={**os.environ, "VIALSHOAL_LINK": self.link,
+                                                        "VIALSHOAL_DATA": str(self.folder / "-".join(words))})
         text, memory, told = json.loads(run.stdout)
         return text, memory, told
 
@@ -294,7 +303,7 @@ class Peers(Shared):
         claim = claim_of(other, 7, author)
         self.append(claim.raw, entry_of(other, claim, [insertion(7, 1, 1, 0, b"other")], author).raw)
         bob = self.assert_others_go_on()
-        self.assertRegex(bob.notice, "of another note|left out")
+        self.assertRegex(str(bob.told), "of another note|left out")
 
     def test_entries_without_a_signature_are_left_out(self) -> None:
         _, (claim, entry) = self.peer(7, insertion(7, 1, 1, 0, b"unsigned"))

@@ -16,6 +16,7 @@ from share.engine.protocol import Wrong
 from share.engine.transform import Transformer
 from share.tests.editors import EngineHere, Engines
 from share.tests.support import TOP, python
+from share.tests.waiting import PATIENCE
 from share.text.delta import of_changes
 from share.text.units import UNITS
 
@@ -150,7 +151,7 @@ class AtServer(Engines):
             line = serving.connected("note")
         assert line
         with line:
-            line.settimeout(120)
+            line.settimeout(PATIENCE)
             line.sendall(b'{"do":"open","protocol":1,"units":["utf-8"]}\n')
             yield line
 
@@ -164,7 +165,7 @@ class AtServer(Engines):
         for _ in range(115):
             first.edit((0, 0, "x"))
             first.settle()
-        second.wait_for(lambda: len(second.notices("text")) == 2, "the text")
+        second.wait_for(lambda: len(second.notices("text")) == len(second.notices("says")) == 2, "the text, and words")
         self.assertEqual([line["words"] for line in second.notices("says")], [LEFT_MUCH] * 2)
         second.edit((1, 5, "ORDS"))
         second.listens = True

@@ -54,7 +54,7 @@ class SlowLine(Case):
         patient.start()
         self.addCleanup(patient.stop)
         line, begin = self.slow(2_048), time.monotonic()
-        with mock.patch("share.sync.session.OPEN_SECONDS", PATIENCE), mock.patch("share.log.redis.LEAST_ROOM", 2**12):
+        with mock.patch("share.sync.session.OPEN_SECONDS", PATIENCE), mock.patch("share.log.page_size.LEAST_ROOM", 2**12):
             note = self.opened(ann, url=line.url)
         self.assertLess(time.monotonic() - begin, PATIENCE)
         self.assertTrue(note.session.status().can_type)

@@ -20,6 +20,7 @@ from share.sync.session import Session
 from share.tests.naive import entry_of, inserting
 from share.tests.note import Note
 from share.tests.support import TOP, Case, change, python, type_at_the_end, wait_for, written
+from share.tests.waiting import PATIENCE
 
 # Opens a note and closes it, and is killed where it comes to a point.
 DIES = """
@@ -145,7 +146,7 @@ class Packing(Case):
         text = "begin "
         for point in POINTS:
             run = subprocess.run([python(), "-B", "-c", DIES, point], cwd=TOP, capture_output=True, text=True, check=False,
-                                 env={**os.environ, "VIALSHOAL_DATA": str(self.ann.data)}, timeout=120)
+                                 env={**os.environ, "VIALSHOAL_DATA": str(self.ann.data)}, timeout=PATIENCE)
             self.assertEqual(run.returncode, -9, run.stderr)
             text += f"{point} "
             # As the program writes, it may have come to the file's end or not.

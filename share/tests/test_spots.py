@@ -1,5 +1,6 @@
 """Where threads are in the text: as it is when all is looked up anew, whatever was typed, deleted and brought back meanwhile."""
 import itertools
+import json
 import random
 import unittest
 from collections.abc import Callable
@@ -34,7 +35,8 @@ class Anew(Reviewed):
 
     def test_at_random(self) -> None:
         for seed in range(6):
-            with mock.patch.object(nearby, "MOST_FOLLOWED", (2_000, 3)[seed % 2]):
+            with (mock.patch.object(nearby, "MOST_FOLLOWED", (2_000, 3)[seed % 2]),
+                  mock.patch.object(margins, "MOST_IN_A_SLICE", (300, 1, 2)[seed % 3])):
                 self._goes_on_at_random(random.Random(seed))
 
     def _goes_on_at_random(self, chance: random.Random) -> None:
@@ -73,7 +75,8 @@ class Anew(Reviewed):
     def test_within_what_many_are_about_at_random(self) -> None:
         for seed in range(6):
             with (mock.patch.object(nearby, "MOST_FOLLOWED", (2_000, 2_000, 5)[seed % 3]),
-                  mock.patch.object(nearby, "MOST_TOLD_APART", (8, 1)[seed % 2])):
+                  mock.patch.object(nearby, "MOST_TOLD_APART", (8, 1)[seed % 2]),
+                  mock.patch.object(margins, "MOST_IN_A_SLICE", (300, 300, 2)[seed % 3])):
                 self._within_at_random(random.Random(seed))
 
     def _within_at_random(self, chance: random.Random) -> None:
@@ -95,7 +98,7 @@ class Anew(Reviewed):
                 self.ask(chance.choice(["accept", "accept", "reopen", "reject"]), number, to=to, anyway=True)
             note = self.engine._note
             assert note
-            note.reviewing.look()
+            note.reviewing.shown.look()
             wanted = self._anew()
             self.assertEqual(note.reviewing.shown.counts(), (len(wanted), sum(one["state"] == "open" for one in wanted)))
             for size in 0, 1, 3:
@@ -138,6 +141,93 @@ class Anew(Reviewed):
             note.reviewing.shown.close()
             note.reviewing.shown = before
             taken._taken_in._history, taken.of_text._history = texts
+
+    def test_keys_are_answered_while_all_are_first_looked_at(self) -> None:
+        worked = dict[int, list[int]]()
+        for most in 100, 400:
+            self._written(most)
+            with mock.patch.object(margins, "MOST_IN_A_SLICE", 20), mock.patch.object(nearby, "MOST_FOLLOWED", 90):
+                worked[most] = self._typing_as_all_are_looked_at()
+            self.assertEqual(self.threads(), self._anew())
+        (few, many) = worked.values()
+        self.assertGreater(len(many), 4 * len(few))
+        self.assertLess(max(many), 2 * max(few))
+
+    def test_a_further_part_of_all_costs_what_it_has(self) -> None:
+        worked = list[int]()
+        for most in 100, 400:
+            self._written(most)
+            self.threads(most=1)
+            peer, version = self.editors[0][0], self.editors[0][1].version
+            asked = [json.dumps({"do": "remarks", "id": 2, "version": version, "from": 50, "most": 1}).encode()]
+            worked.append(instructions(partial(self.engine.take, peer, asked)))
+            self.meet()
+            wanted = self._anew()
+            self.assertEqual(self.threads(), wanted)
+            thread = wanted[50]["id"]
+            self.ask("resolve", to=thread)
+            still = [one["id"] for one in wanted if one["id"] != thread and one["state"] == "open"]
+            self.assertEqual([one["id"] for one in self.threads(open=True)], still)
+            answer = self.ask("remarks", open=True, most=2, **{"from": 50})
+            self.assertEqual(([one["id"] for one in answer["threads"]], answer["of"]), (still[50:52], len(still)))
+        few, many = worked
+        self.assertLess(many, 1.5 * few)
+
+    def test_an_acceptance_is_taken_back_while_all_are_first_looked_at(self) -> None:
+        worked = list[int]()
+        for most in 100, 400:
+            self.type(0, 0, "tea\n")
+            thread = self.ask("suggest", begin=0, end=3, new="jam")["thread"]
+            self._written(most)
+            self.assertTrue(self.ask("accept", to=thread)["done"])
+            peer, asked = self.editors[0][0], [json.dumps({"do": "undo", "id": 2}).encode()]
+            with mock.patch.object(margins, "MOST_IN_A_SLICE", 20):
+                self.session().margin.forget()
+                worked.append(instructions(partial(self.engine.take, peer, asked)))
+                self.assertTrue(self.session().margin.has_more())
+            self.meet()
+            self.assertTrue(self.text.startswith("tea\n"))
+            self.assertEqual(next(one["state"] for one in self.threads() if one["id"] == thread), "open")
+            # Whoever says something of it meanwhile is heard.
+            self.ask("resolve", to=thread)
+            self.assertEqual(next(one["state"] for one in self.threads() if one["id"] == thread), "resolved")
+        few, many = worked
+        self.assertLess(many, 2 * few)
+
+    def _written(self, most: int) -> None:
+        """Somebody remarks on the begin of each of some new lines; nobody looks at that."""
+        session, names, end = self.session(), self.session().site.names, len(self.text)
+        self.type(end, end, "".join(f"{number:03}\n" for number in range(most)))
+        for number in range(most):
+            anchor = anchored(names(end + 4 * number, end + 4 * number + 3), None, [], "", session.margin.knows())
+            session.margin.write(MarginRecord(MarginKind.REMARK, "Ann", number, "", "?", anchor=anchor))
+
+    def _typing_as_all_are_looked_at(self) -> list[int]:
+        """An editor asks for what is remarked at the begin, and types until that is answered; how much work each key is with the turn in
+        which it is answered."""
+        note, peer, counts = self.engine._note, self.editors[0][0], list[int]()
+        assert note
+        note.reviewing.shown = margins.ShownMargin(self.session())
+        self.addCleanup(note.reviewing.shown.close)
+        self.session().margin.forget()
+        version = self.editors[0][1].version
+        self.engine.take(peer, [json.dumps({"do": "remarks", "id": 1, "version": version, "begin": 0, "end": 8}).encode()])
+        while peer.waits:
+            counts.append(instructions(self._key))
+        self.assertEqual(note.reviewing.shown.counts()[0], len(self.session().margin.said))
+        return counts
+
+    def _key(self) -> None:
+        """An editor types a character, which is answered."""
+        peer, mirror, sent, asked = self.editors[0]
+        mirror.edit([(len(mirror.text), len(mirror.text), "x")])
+        self.engine.take(peer, asked)
+        self.engine.turn()
+        lines = [*map(json.loads, sent)]
+        sent.clear()
+        self.assertEqual(lines[0], {"answer": "edit", "edits": mirror.made})
+        for line in lines:
+            mirror.take(line)
 
     def test_after_a_fault(self) -> None:
         self.type(0, 0, "one two three\n")

@@ -330,6 +330,7 @@ class Terminals(Case):
         one = Terminal(self, "data", "diary")
         one.type("abc")
         one.shows("abc")
+        wait_for(lambda: self.person("data").text("diary") == b"abc", "the words to be kept")
         for process in one.programs():
             os.kill(process, signal.SIGKILL)
         one.sees("engine has ended")

@@ -44,6 +44,7 @@ class OnAServer(Case):
             shutil.copytree(copy.data, anna.data)
             copy = anna
         notes = [self.opened(copy), berta, self.opened(anna)]
+        self.assert_comes_to(notes[0], b"begun\rTRAIN-1\rbetween\rTRAIN-2\rON\r")
         type_at_the_end(notes[0], "copy\n")
         text = self.assert_meet(*notes)
         self.assertEqual(text, b"begun\rTRAIN-1\rbetween\rTRAIN-2\rON\rcopy\r")

@@ -23,6 +23,7 @@ from share.editors.web.opening import redirect
 from share.editors.web.server import files, missing_package
 from share.tests.pages import Server, talking
 from share.tests.support import TOP, Case, Person, engine_of, python, wait_for
+from share.tests.waiting import PATIENCE
 from share.text.errors import Trouble
 from share.text.line import MOST_LINE, Assembler, Line
 
@@ -54,7 +55,7 @@ class Vectors(unittest.TestCase):
     """The page's client, in Node."""
 
     def test_the_client_does_with_lines_what_the_vectors_say(self) -> None:
-        done = subprocess.run(["node", VECTORS], capture_output=True, text=True, check=False, timeout=120)
+        done = subprocess.run(["node", VECTORS], capture_output=True, text=True, check=False, timeout=PATIENCE)
         self.assertEqual(done.returncode, 0, done.stdout + done.stderr)
         self.assertRegex(done.stdout, r"^[2-9][0-9] cases, 0 failed\n$")
 
@@ -519,6 +520,7 @@ class Ends(Served):
     async def test_the_server_s_end_ends_the_sockets(self) -> None:
         async with talking(self.server, opens=True) as talk:
             await talk.send({"do": "edit", "version": 0, "edits": 1, "changes": [[0, 0, "last"]]})
+            await talk.line(answer="edit")
             self.server.process.send_signal(signal.SIGINT)
             self.assertEqual(await talk.code(), aiohttp.WSCloseCode.GOING_AWAY)
         self.assertEqual(self.server.close(), 0)

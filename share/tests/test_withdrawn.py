@@ -54,6 +54,7 @@ class CopiedUnsent(Case):
     def assert_each_is_made_once(self, text: str) -> None:
         """That the copy shows a text and what is typed there, each word of which was typed only once."""
         notes = [self.opened(person, link=self.link) for person in (self.copy, self.person("berta"))]
+        self.assert_comes_to(notes[0], text.encode())
         type_at_the_end(notes[0], "copy ")
         self.assertEqual(self.assert_meet(*notes).decode(), f"{text}copy ")
         for word in text.split():

@@ -1,11 +1,18 @@
-// Runs what share/engine/vectors/client.json says of an editor that counts in UTF-16 by the page's client.
+// Runs what share/engine/vectors has of an editor that counts in UTF-16 by the page's client: lines, what is remarked, and typing that
+// suggests.
 import assert from "node:assert/strict";
 import { readFileSync } from "node:fs";
 import "./codemirror.mjs";
 import { changed, Client, Lines, pieces } from "../editors/web/client.js";
 import { Edited } from "../editors/web/edited.js";
+import { gathered } from "../editors/web/gathered.js";
+import { Stretches } from "../editors/web/stretches.js";
+import { Threads } from "../editors/web/threads.js";
 
-const VECTORS = new URL("../engine/vectors/client.json", import.meta.url);
+/** The cases of a file. */
+function casesOf(name) {
+  return JSON.parse(readFileSync(new URL(`../engine/vectors/${name}.json`, import.meta.url), "utf8")).cases;
+}
 
 /** What a page shows, as plain values. */
 class Shown {
@@ -20,6 +27,10 @@ class Shown {
   constructor(text) {
     this.#editor.change([[0, 0, text]], 0);
   }
+
+  get cm() { return this.#editor.cm; }
+
+  get places() { return this.#editor.places; }
 
   /** The page's text, which is the editor's. */
   get text() { return this.#editor.text; }
@@ -40,8 +51,8 @@ class Shown {
   }
 }
 
-/** A view that has a client's doings shown. */
-function viewOf(shown) {
+/** A view that has a client's doings shown, and hears of remarks. */
+function viewOf(shown, remarks = () => undefined) {
   return {
     change(changes, cursor) {
       shown.change(changes, cursor);
@@ -52,6 +63,7 @@ function viewOf(shown) {
     looks(list) { shown.looks = list; },
     state(line) { shown.state = line; },
     say(words) { shown.words = words; },
+    remarks,
     answered() {},
   };
 }
@@ -137,6 +149,63 @@ async function asks() {
   assert.deepEqual([(await asked[2]).error, shown.words], ["failed", "loud"]);
 }
 
+/** What is gathered, as the vectors have it: places are columns of one line. */
+function asGathered(one) {
+  return one && { from: { line: 0, ch: one[0] }, to: { line: 0, ch: one[1] }, put: one[2] };
+}
+
+/** That what is typed is gathered. */
+function gathers(one) {
+  const [from, to] = [one.from, one.to].map((ch) => ({ line: 0, ch }));
+  const { now, cursor, isElsewhere } = gathered(asGathered(one.gathered ?? undefined), { from, to, put: one.put, back: one.back ?? 0 });
+  assert.deepEqual([now, cursor.ch, isElsewhere], [asGathered(one.then ?? undefined), one.cursor, one.sends ?? false]);
+}
+
+/** A page that shows where threads are. */
+class Remarked extends Shown {
+  composing = { isOn: false };
+
+  constructor(text) {
+    super(text);
+    this.stretches = new Stretches(this);
+  }
+
+  inSight() { return [{ line: 0, ch: 0 }, { line: this.cm.lastLine(), ch: 0 }]; }
+
+  shows(threads) {
+    this.stretches.show(threads.filter(({ begin }) => begin !== undefined).map((one) => ({ ...one, className: "", put: "" })));
+  }
+}
+
+/** That threads are shown where they are. */
+async function remarks(one) {
+  const [shown, sent] = [new Remarked(one.open.text), []];
+  let isDue = false;
+  const client = new Client(one.open, (line) => sent.push(line), viewOf(shown, () => { isDue = true; }));
+  const threads = new Threads(shown, (request) => client.askOf(request), {
+    came: () => shown.shows(threads.inSight), isListed: () => false, kept: () => [],
+  });
+  threads.news = () => { isDue = true; };
+  let asked;
+  for (const step of one.steps) {
+    if ("asks" in step) {
+      assert.equal(isDue, step.asks !== null);
+      [isDue, asked] = [false, isDue && threads.now()];
+      if (asked) assert.deepEqual([sent.at(-1).do, sent.at(-1).version], ["remarks", step.asks]);
+    } else if ("answer" in step) {
+      client.take({ answer: "remarks", id: sent.findLast((line) => line.do === "remarks").id, ...step.answer });
+      await asked;
+    } else {
+      does(step, client, shown);
+    }
+    if ("then" in step) {
+      const found = Object.fromEntries(["8:0", "8:1", "8:2", "8:3"].map((id) => [id, shown.stretches.placeOf(id)]).filter(([, at]) => at)
+        .map(([id, { from, to }]) => [id, [shown.places.of(from), shown.places.of(to)]]));
+      assert.deepEqual(found, step.then);
+    }
+  }
+}
+
 let failed = 0;
 async function run(name, test) {
   try {
@@ -147,11 +216,14 @@ async function run(name, test) {
   }
 }
 
-const cases = JSON.parse(readFileSync(VECTORS, "utf8")).cases.filter((one) => ["any", "utf-16"].includes(one.units));
+const cases = casesOf("client").filter((one) => ["any", "utf-16"].includes(one.units));
 for (const one of cases) await run(one.name, () => play(one));
+const [suggesting, remarked] = [casesOf("suggesting"), casesOf("remarks")];
+for (const one of suggesting) await run(one.name, () => gathers(one));
+for (const one of remarked) await run(one.name, () => remarks(one));
 await run("lines in pieces", cut);
 await run("a reader", read);
 await run("very many changes", replaceAll);
 await run("answers", asks);
-console.log(`${cases.length} cases, ${failed} failed`);
+console.log(`${cases.length + suggesting.length + remarked.length} cases, ${failed} failed`);
 process.exit(failed ? 1 : 0);

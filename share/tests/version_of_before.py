@@ -25,6 +25,7 @@ from share.program.process import TOP, command
 from share.tests.editors import Editor
 from share.tests.servers import RedisServer
 from share.tests.support import Person, engine_of, type_at_the_end
+from share.tests.waiting import PATIENCE
 
 COMMIT = "5b0b828c8f5d98e2786367d98e7c3151dd0ff56a"
 NEEDED = "bin/note", "share", ":(exclude)share/tests"
@@ -58,7 +59,7 @@ def answers(note: str, data: pathlib.Path, asked: Sequence[list[str]], **environ
     """What commands come to over a data folder, whose name isn't told."""
     found = list[Answer]()
     for words in asked:
-        run = subprocess.run([note, *words], stdin=subprocess.DEVNULL, capture_output=True, text=True, timeout=120, check=False,
+        run = subprocess.run([note, *words], stdin=subprocess.DEVNULL, capture_output=True, text=True, timeout=PATIENCE, check=False,
                              env={**os.environ, **program(), "VIALSHOAL_DATA": str(data), **environment})
         printed, told = (one.replace(str(data), "DATA") for one in (run.stdout, run.stderr))
         found.append((words, run.returncode, printed, told))

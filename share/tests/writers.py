@@ -40,6 +40,8 @@ SERVING = """(progn
       :session (format "%%s" (process-id vialshoal--process)))) nil path nil 0))))
   (defun grow-old () (with-current-buffer "*note note*" (setq vialshoal--begun 0)))
   (vialshoal-open "note"))"""
+SHOWS_IN_EMACS = """(with-current-buffer "*note note*" (and (seq-some
+  (lambda (mark) (equal (plist-get (overlay-get mark 'vialshoal-thread) :text) "%s")) vialshoal-review--marks) t))"""
 NEOVIM = """
   vim.opt.runtimepath:prepend('%s')
   vim.o.cmdheight, vim.o.laststatus = 3, 2
@@ -52,6 +54,19 @@ NEOVIM = """
       quiet = #note.changes == 0 and not note.is_unsure and note.made == note.answered,
       types = note.is_open and vim.bo[note.buffer].modifiable, session = tostring(note.job and vim.fn.jobpid(note.job)) }
     return vim.fn.writefile({ vim.json.encode(state) }, path)
+  end
+  local meant
+  vim.ui.select = function(threads, _, chooses)
+    for _, each in ipairs(threads) do
+      if each.text == meant then return chooses(each) end
+    end
+  end
+  function shows_thread(word)
+    meant = word
+    for _, each in ipairs(require('vialshoal.review').shown(require('vialshoal').note())) do
+      if each.thread.text == word then return 1 end
+    end
+    return 0
   end
   function grow_old()
     require('vialshoal').note().begun = -60
@@ -69,7 +84,8 @@ SELECTING = """((word) => {
 })(arguments[0])""".replace("MIRROR", MIRROR)
 DELETING = SELECTING.replace("DOES", f'{MIRROR}.execCommand("delCharAfter");')
 
-# The keys of a thread that is looked at, in the terminal.
+# With what lines of a thread that is looked at begin in the terminal, and its keys.
+OF_A_THREAD = "  | "
 THREAD_KEYS = {"reply": "r", "resolve": "d", "accept": "a", "reject": "x"}
 # Goes to a card, once it is there, and clicks on a button of it.
 GOES_TO_CARD = """((card) => (card?.focus(), document.querySelector('.card.active')?.textContent.includes(words[0])))(
@@ -145,8 +161,9 @@ class Writer(ABC):
         """Remarks on a word, or suggests another one for it."""
 
     @abstractmethod
-    def answer(self, what: str, word: str, words: str) -> None:
-        """Replies to what was said of a word, or does something else about that."""
+    def answer(self, what: str, word: str, words: str, said: str) -> None:
+        """Replies to what was said of a word, which has these words, or does something else about that. There may be more at that place, of
+        what gave way to the word."""
 
     @abstractmethod
     def processes(self) -> list[int]:
@@ -228,6 +245,8 @@ class Writer(ABC):
                               timeout=CALL_SECONDS, check=False)
         # One that is killed while it answers says nothing, and the command takes that for an answer.
         if done.returncode or not done.stdout.strip():
+            if self.is_cut:
+                raise Cut
             raise Silent(f"{words}: {done.stdout}")
         return done.stdout
 
@@ -293,6 +312,19 @@ class InTerminal(Writer):
             return ""
         wait_for(is_told, f"{self.tag} to take {words}", PATIENCE)
 
+    def waits_until(self, is_so: Callable[[], bool], what: str) -> None:
+        """Waits until something is shown, as its user does. Cut where it is killed meanwhile."""
+        def is_shown() -> bool:
+            if self.is_cut:
+                raise Cut
+            with contextlib.suppress(Silent):
+                return is_so()
+            return False
+        try:
+            wait_for(is_shown, f"{self.tag} to show {what}", PATIENCE)
+        except AssertionError as why:
+            raise AssertionError(f"{why}: {self.looks()}") from why
+
     def saved(self, path: pathlib.Path, *words: str) -> State:
         """What it has, which a command has it write into a file: of a long answer Neovim shows only both ends, and of one of
         an Emacs that is killed meanwhile a part is printed."""
@@ -351,13 +383,25 @@ class OwnEditor(InTerminal):
         self.type(f"{words}\n")
         self.press("Escape")
 
-    def answer(self, what: str, word: str, words: str) -> None:
+    def answer(self, what: str, word: str, words: str, said: str) -> None:
         self._find(word)
+        self.waits_until(lambda: any(word in line and line.endswith("*") for line in self.terminal.lines()), f"a mark beside {word}")
         self.press("Right", "C-n")
+        shown = self._thread([], word)
+        while not any(said in line for line in shown):
+            self.press("n")
+            shown = self._thread(shown, word)
         self.type(f"{THREAD_KEYS[what]}{words}")
         if words:
             self.press("Enter")
         self.press("Escape")
+
+    def _thread(self, before: list[str], word: str) -> list[str]:
+        """The lines of the thread that is looked at, once that is another one than before."""
+        def lines() -> list[str]:
+            return [line for line in self.terminal.lines() if line.startswith(OF_A_THREAD)]
+        self.waits_until(lambda: lines() not in ([], before), f"what is said of {word}")
+        return lines()
 
     def _find(self, word: str) -> None:
         self.press("C-f")
@@ -410,9 +454,12 @@ class Emacs(InTerminal):
     def begin(self, what: str, word: str, words: str) -> None:
         self._evaluates(word, f'(vialshoal-{what} (match-beginning 0) (match-end 0) "{words}")')
 
-    def answer(self, what: str, word: str, words: str) -> None:
-        does = f'(vialshoal-reply (vialshoal-review--thread "none") "{words}")' if words else f"(call-interactively 'vialshoal-{what})"
-        self._evaluates(word, f"(backward-char 3) {does}")
+    def answer(self, what: str, word: str, words: str, said: str) -> None:
+        self.waits_until(lambda: self.called(
+            "emacsclient", "-s", str(self._socket / "server"), "--eval", SHOWS_IN_EMACS % word).strip() == "t", f"what is said of {word}")
+        thread = f'(vialshoal-review--thread "none" (lambda (one) (equal (plist-get one :text) "{word}")))'
+        body = f' "{words}"' if words else ""
+        self._evaluates(word, f"(backward-char 3) (vialshoal-{what} {thread}{body})")
 
     def _evaluates(self, word: str, does: str) -> None:
         self.press("M-:")
@@ -478,7 +525,8 @@ class Neovim(InTerminal):
         self.type(f"/\\V{word}\n")
         self.type(f"gn:Vialshoal{what.capitalize()} {words}\n")
 
-    def answer(self, what: str, word: str, words: str) -> None:
+    def answer(self, what: str, word: str, words: str, said: str) -> None:
+        self.waits_until(lambda: self._says(f"luaeval('shows_thread(_A)', '{word}')") == "1", f"what is said of {word}")
         self.press(*NORMAL)
         self.type(f"/\\V{word}\n")
         self.type(f"l:Vialshoal{what.capitalize()} {words}".rstrip() + "\n")
@@ -552,7 +600,7 @@ class PageInChromium(Writer):
             self._window.wait_for("!document.querySelector('.draft')")
             self._window.run(f"{MIRROR}.focus()")
 
-    def answer(self, what: str, word: str, words: str) -> None:
+    def answer(self, what: str, word: str, words: str, said: str) -> None:
         with self.pressing(), self._driven():
             # Only cards of what is in sight are there.
             self._window.run(SELECTING.replace("DOES", f"{MIRROR}.scrollIntoView(null, 50);"), word)

@@ -39,7 +39,7 @@
      (ignore-errors (delete-directory vialshoal-engine--folder t))
      (not (file-exists-p vialshoal-engine--folder)))))
 
-(defconst vialshoal-engine--patience 120
+(defconst vialshoal-engine--patience 300
   "How many seconds are waited for what has to come.")
 
 (defun vialshoal-engine--wait (condition)

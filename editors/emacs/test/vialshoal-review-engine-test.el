@@ -120,18 +120,58 @@
       (goto-char 10)
       (vialshoal-engine--command #'insert "X"))
     (vialshoal-review-engine--shows ada '(9 13 vialshoal-suggestion))
-    (let (shown)
-      (cl-letf (((symbol-function 'y-or-n-p)
-                 (lambda (_)
-                   (setq shown (vialshoal-support--text "*accept*"))
-                   t)))
-        (vialshoal-review-engine--do ada 10 #'vialshoal-accept)
-        (vialshoal-engine--wait (lambda () shown)))
+    (vialshoal-review-engine--do ada 10 #'vialshoal-accept)
+    (let ((name (with-current-buffer ada
+                  (vialshoal-review--name-of-changed
+                   (overlay-get (car vialshoal-review--marks)
+                                'vialshoal-thread)))))
+      (vialshoal-engine--wait (lambda () (get-buffer name)))
       (should (string-match-p "was:\njam\n\n.*now:\njXam\n\n.*is:\nhoney\n"
-                              shown)))
+                              (vialshoal-support--text name))))
+    (should-not (string-search "honey" (vialshoal-support--text bo)))
+    (vialshoal-review-engine--do ada 10 #'vialshoal-accept-anyway)
     (vialshoal-engine--wait
      (lambda () (string-search "honey" (vialshoal-support--text bo))))
     (vialshoal-engine--meet (list ada bo))))
+
+(ert-deftest vialshoal-review-engine-what-is-typed-accepts-nothing ()
+  (vialshoal-engine-with-folder
+    (let ((process-environment
+           (append '("VIALSHOAL_FORM=2" "VIALSHOAL_ZERO_BITS=0")
+                   process-environment))
+          (log (expand-file-name "shared/note.log" vialshoal-engine--folder)))
+      (vialshoal-terminal-with "Ada" (log)
+        (let ((bo (vialshoal-engine--open
+                   "Bo" nil (vialshoal-engine--link "Ada"))))
+          (vialshoal-terminal--type child "tea and jam\r")
+          (vialshoal-engine--shows bo "tea and jam\n")
+          (with-current-buffer bo
+            (vialshoal-suggest 9 12 "honey")
+            (goto-char 10)
+            (vialshoal-engine--command #'insert "X"))
+          (vialshoal-engine--wait
+           (lambda ()
+             (vialshoal-terminal--eval
+              '(cl-some (lambda (mark)
+                          (equal (plist-get
+                                  (overlay-get mark 'vialshoal-thread) :changed)
+                                 t))
+                        vialshoal-review--marks))))
+          ;; The answer comes while Ada types, and asks nothing.
+          (vialshoal-terminal--type
+           child "\e<\ef\ef\C-f\exvialshoal-accept\ry y y\r")
+          (vialshoal-engine--wait
+           (lambda ()
+             (vialshoal-terminal--eval
+              '(cl-some (lambda (buffer)
+                          (string-prefix-p "*accept " (buffer-name buffer)))
+                        (buffer-list)))))
+          (vialshoal-terminal--type child "a y y\r")
+          (vialshoal-engine--shows bo "tea and y y y\na y y\njXam\n")
+          (vialshoal-terminal--type child "\C-f\exvialshoal-accept-anyway\r")
+          (vialshoal-engine--wait
+           (lambda ()
+             (string-search "honey" (vialshoal-support--text bo)))))))))
 
 (ert-deftest vialshoal-review-engine-nothing-of-a-body-is-obeyed ()
   (vialshoal-review-engine-with-two "tea\n"

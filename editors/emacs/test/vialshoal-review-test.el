@@ -257,34 +257,36 @@
                          '(:do "suggest" :new "a\nb" :version 0
                                :begin 2 :end 4))))))))
 
-(ert-deftest vialshoal-review-what-changed-is-accepted-where-one-says-so ()
-  (dolist (is-wanted '(nil t))
-    (vialshoal-support-with-note vialshoal-support--open
-      (vialshoal-review-test--show
-       (vialshoal-review-test--thread "8:1" 0 3 :kind "suggestion" :new "jam"))
-      (goto-char 2)
+(ert-deftest vialshoal-review-what-changed-is-accepted-by-a-command ()
+  (vialshoal-support-with-note vialshoal-support--open
+    (vialshoal-review-test--show
+     (vialshoal-review-test--thread "8:1" 0 3 :kind "suggestion" :new "jam"))
+    (goto-char 2)
+    (let ((inhibit-message t) (note (current-buffer)))
+      (should-error (call-interactively #'vialshoal-accept-anyway)
+                    :type 'user-error)
       (call-interactively #'vialshoal-accept)
       (vialshoal-support--sent)
-      (let ((inhibit-message t) shown)
-        (cl-letf (((symbol-function 'run-at-time)
-                   (lambda (_ _ function &rest arguments)
-                     (cl-letf (((symbol-function 'y-or-n-p)
-                                (lambda (_)
-                                  (setq shown (with-current-buffer "*accept*"
-                                                (buffer-string)))
-                                  is-wanted)))
-                       (apply function arguments)))))
-          (vialshoal-review-test--answer
-           :answer "accept" :error "changed" :words "It has changed."
-           :was "tea" :now "te\e[1ma" :new "jam"))
-        (should (equal vialshoal--words "It has changed."))
+      (vialshoal-review-test--answer
+       :answer "accept" :error "changed" :words "It has changed."
+       :was "tea" :now "te\e[1ma" :new "jam")
+      (should (string-prefix-p "It has changed." vialshoal--words))
+      ;; The user types on in the note, and nothing is asked.
+      (should (eq (current-buffer) note))
+      (should-not (equal (buffer-name (window-buffer)) "*accept 8:1*"))
+      (should-not (active-minibuffer-window))
+      (should-not (vialshoal-support--sent))
+      (with-current-buffer "*accept 8:1*"
+        (should (get-buffer-window))
         (should (string-match-p
-                 "was:\ntea\n\n.*now:\nte\ufffd\\[1ma\n\n.*is:\njam" shown)))
-      (should-not (get-buffer "*accept*"))
-      (if is-wanted
-          (should (equal (vialshoal-review-test--sent)
-                         '(:do "accept" :to "8:1" :anyway t)))
-        (should-not (vialshoal-support--sent))))))
+                 "was:\ntea\n\n.*now:\nte\ufffd\\[1ma\n\n.*is:\njam"
+                 (buffer-string)))
+        (should (eq (lookup-key (current-local-map) "a")
+                    #'vialshoal-accept-anyway))
+        (call-interactively #'vialshoal-accept-anyway))
+      (should-not (get-buffer "*accept 8:1*"))
+      (should (equal (vialshoal-review-test--sent)
+                     '(:do "accept" :to "8:1" :anyway t))))))
 
 (ert-deftest vialshoal-review-one-goes-from-remark-to-remark ()
   (vialshoal-support-with-note vialshoal-support--open

@@ -7,6 +7,7 @@
 ;;; Code:
 
 (require 'vialshoal-support)
+(require 'vialshoal-review)
 
 (defconst vialshoal-vectors--folder
   (expand-file-name "../../../share/engine/vectors/"
@@ -116,6 +117,43 @@ A user's replacement is two changes here, of which the first deletes."
       (vialshoal-vectors--check step)
       (unless vialshoal--changes
         (vialshoal-support--check-mirror)))))
+
+(defun vialshoal-vectors--places-of-threads ()
+  "Return where the threads are that are shown, by their ids, in their order."
+  (sort (mapcar (lambda (mark)
+                  (list (plist-get (overlay-get mark 'vialshoal-thread) :id)
+                        (1- (overlay-start mark)) (1- (overlay-end mark))))
+                vialshoal-review--marks)
+        (lambda (one other) (string< (car one) (car other)))))
+
+(defun vialshoal-vectors--remarks-step (step)
+  "Do STEP of what is remarked."
+  (cond
+   ((plist-member step :asks)
+    (vialshoal-support--sent)
+    (vialshoal-review--in-time (current-buffer))
+    (should (equal (mapcar (lambda (line) (list (plist-get line :do)
+                                                (plist-get line :version)))
+                           (vialshoal-support--sent))
+                   (and (plist-get step :asks)
+                        (list (list "remarks" (plist-get step :asks)))))))
+   ((plist-get step :answer)
+    (apply #'vialshoal-support--take :answer "remarks" :id vialshoal--asked
+           (append (vialshoal-vectors--with-vectors
+                    (plist-get step :answer)) nil)))
+   (t (vialshoal-vectors--step step)))
+  (when (plist-member step :then)
+    (should (equal (vialshoal-vectors--places-of-threads)
+                   (cl-loop for (id (begin end)) on (plist-get step :then)
+                            by #'cddr
+                            collect (list (substring (symbol-name id) 1)
+                                          begin end))))))
+
+(ert-deftest vialshoal-vectors-what-is-remarked ()
+  (dolist (case (plist-get (vialshoal-vectors--file "remarks.json") :cases))
+    (ert-info ((plist-get case :name))
+      (vialshoal-support-with-note (plist-get case :open)
+        (mapc #'vialshoal-vectors--remarks-step (plist-get case :steps))))))
 
 ;; A test for each case, so that each has its name in what is told.
 (let ((cases (vialshoal-vectors--cases)))

@@ -48,12 +48,12 @@ for name, of in pairs({
   Withdraw = { 'withdraw', 'Take back your own remark or reply at the cursor' },
   Resolve = { 'resolve', 'Say that the remark at the cursor is resolved' },
   Reopen = { 'reopen', 'Open the remark at the cursor again' },
-  Accept = { 'accept', 'Accept the suggestion at the cursor' },
+  Accept = { 'accept', 'Accept the suggestion at the cursor; with ! though its text has changed', bang = true },
   Reject = { 'reject', 'Reject the suggestion at the cursor' },
   Read = { 'read', 'Show all that the remark at the cursor says' },
   Next = { 'next', 'Go to the next open remark, or so many further', count = 1 },
   Previous = { 'previous', 'Go to the previous open remark, or so many back', count = 1 },
-  Remarks = { 'list', 'List the open remarks; with ! all', bang = true },
+  Remarks = { 'list', 'List the open remarks, or those of an author; with ! all', nargs = '*', bang = true },
   Changed = { 'changed', 'Show what changed since you looked, or since so many hours; with ! no more', nargs = '?', bang = true },
 }) do
   command('Vialshoal' .. name, function(given)

@@ -117,15 +117,18 @@ with_two('what has changed is asked about', 'tea and jam', function(ada, bo)
   shows(ada, { { 0, 8, 0, 11, 'VialshoalSuggestion', ' Bo -> "honey"' } })
   ada:type('0wwaX<Esc>')
   support.wait(function() return ada:is_quiet() end)
-  ada:run([[
-    vim.fn.confirm = function()
-      asked = vim.api.nvim_buf_get_lines(0, 0, -1, false)
-      return 1
-    end
+  ada:type(':VialshoalAccept<CR>iy y <Esc>')
+  support.wait(function() return ada:run("return require('vialshoal').note().shown_changed ~= nil") end, 'what has changed')
+  local words = ada:run([[
+    local shown = require('vialshoal').note().shown_changed.window
+    return table.concat(vim.api.nvim_buf_get_lines(vim.api.nvim_win_get_buf(shown), 0, -1, false), '\n')
   ]])
-  ada:type(':VialshoalAccept<CR>')
+  assert(words:find('It was:\njam\n', 1, true) and words:find('Suggested is:\nhoney\n', 1, true), words)
+  ada:type('iy y <Esc>')
+  support.wait(function() return bo:text():find('y y', 1, true) end, 'what was typed')
+  support.same(nil, bo:text():find('honey', 1, true))
+  ada:type(':VialshoalAccept!<CR>')
   support.wait(function() return bo:text():find('honey', 1, true) end, 'the text')
-  support.same({ 'It was:', 'jam', '', 'It is now:', 'jXam', '', 'Suggested is:', 'honey' }, ada:run('return asked'))
   Child.meet({ ada, bo })
 end)
 

@@ -276,24 +276,26 @@ test('a text that is suggested is no keys', function()
   vim.cmd('bwipeout!')
 end)
 
-test('what changed is accepted where one says so', function()
-  for _, is_wanted in ipairs({ false, true }) do
-    local note, shown = fake.with('tea'), nil
-    show(note, { thread('8:1', 0, 3, { kind = 'suggestion', new = 'jam' }) })
-    give(note, 'accept')
-    fake.sent(note)
-    support.with(vim.fn, 'confirm', function()
-      shown = vim.api.nvim_buf_get_lines(0, 0, -1, false)
-      return is_wanted and 1 or 2
-    end, function()
-      answer(note, { answer = 'accept', error = 'changed', words = 'It has changed.', was = 'tea', now = 'te\27a', new = 'jam' })
-      support.wait(function() return shown end, 'a question')
-    end)
-    same('It has changed.', note.told.words)
-    same({ 'It was:', 'tea', '', 'It is now:', 'te\239\191\189a', '', 'Suggested is:', 'jam' }, shown)
-    support.wait(function() return vim.api.nvim_get_current_buf() == note.buffer end, 'the window to go')
-    same(is_wanted and { { ['do'] = 'accept', to = '8:1', anyway = true } } or {}, sent(note))
-  end
+test('what changed is accepted by a command, and by nothing that is typed', function()
+  local note = fake.with('tea')
+  show(note, { thread('8:1', 0, 3, { kind = 'suggestion', new = 'jam' }) })
+  give(note, 'accept', { bang = true })
+  same('First :VialshoalAccept, which shows what has changed.', note.told.words)
+  give(note, 'accept')
+  fake.sent(note)
+  local window = vim.api.nvim_get_current_win()
+  answer(note, { answer = 'accept', error = 'changed', words = 'It has changed.', was = 'tea', now = 'te\27a', new = 'jam' })
+  support.wait(function() return note.shown_changed end, 'what has changed')
+  same('It has changed.', note.told.words)
+  -- The user goes on where he is.
+  same({ window, note.buffer }, { vim.api.nvim_get_current_win(), vim.api.nvim_get_current_buf() })
+  local shown = note.shown_changed.window
+  same({ 'It was:', 'tea', '', 'It is now:', 'te\239\191\189a', '', 'Suggested is:', 'jam', '', ':VialshoalAccept! accepts it' },
+    vim.api.nvim_buf_get_lines(vim.api.nvim_win_get_buf(shown), 0, -1, false))
+  same({}, sent(note))
+  give(note, 'accept', { bang = true })
+  same(false, vim.api.nvim_win_is_valid(shown))
+  same({ { ['do'] = 'accept', to = '8:1', anyway = true } }, sent(note))
 end)
 
 test('one goes from remark to remark', function()
@@ -362,6 +364,19 @@ test('the list has what is open, or all', function()
       table.insert(wanted, 2, { 2, 2, 1, '(resolved) Bo: Why?' })
     end
     same(wanted, items)
+    vim.cmd('cclose')
+  end
+end)
+
+test('the list has what one author began', function()
+  local note = fake.with('tea\nmilk\n')
+  for author, wanted in pairs({ Bo = { 'Bo: Why?' }, ['site 9'] = { 'site 9: lost' }, you = { 'you: Mine' }, Cy = {} }) do
+    give(note, 'list', { args = author })
+    sent(note)
+    answer(note, { answer = 'remarks', of = 4, threads = { thread('8:1', 0, 1), thread('8:2', 5, 6, { state = 'resolved' }),
+      { id = '9:3', kind = 'remark', site = 9, body = 'lost', state = 'open', elsewhere = true },
+      thread('7:1', 5, 6, { own = true, body = 'Mine' }) } })
+    same(wanted, vim.tbl_map(function(item) return item.text end, vim.fn.getqflist()))
     vim.cmd('cclose')
   end
 end)

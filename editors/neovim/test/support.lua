@@ -2,7 +2,7 @@
 local M = { passed = 0, failed = 0 }
 
 -- So many milliseconds are waited for what has to come; a busy machine can be slow.
-M.PATIENCE = 120000
+M.PATIENCE = 300000
 
 M.top = vim.fn.fnamemodify(debug.getinfo(1, 'S').source:sub(2), ':p:h:h')
 

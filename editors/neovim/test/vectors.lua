@@ -1,6 +1,7 @@
 --- What an editor does with which lines: the cases that editors in all languages run.
 local fake = require('test.fake')
 local support = require('test.support')
+local review = require('vialshoal.review')
 local Suggesting = require('vialshoal.suggesting')
 local text = require('vialshoal.text')
 
@@ -74,6 +75,48 @@ support.test('what is typed is gathered as the vectors say', function()
     support.same({ as_gathered(case['then']) or false, case.cursor, case.sends or false }, { found or false, cursor, is_done }, case.name)
   end
 end)
+
+--- Where the threads are that are shown.
+local function places_of_threads(note)
+  local found = vim.empty_dict()
+  for _, each in ipairs(review.shown(note)) do
+    local first, last = each.first, each.last
+    found[each.thread.id] = { text.offset(note.lines, first[1]) + first[2], text.offset(note.lines, last[1]) + last[2] }
+  end
+  return found
+end
+
+--- Plays a case of what is remarked.
+local function play_remarks(case)
+  local note, asked = fake.note(case.open)
+  for _, step in ipairs(case.steps) do
+    local of = case.name .. ': ' .. vim.inspect(step)
+    fake.sent(note)
+    if step.answer then
+      note:take(vim.tbl_extend('force', { answer = 'remarks', id = asked }, step.answer))
+    elseif step.line then
+      note:take(step.line)
+    elseif step.user then
+      for _, each in ipairs(step.user) do
+        change(note, unpack(each))
+      end
+      note:flush_command()
+    else
+      review.look(note)
+      local sent = fake.sent(note)
+      support.same(step.asks and { { 'remarks', step.asks } } or {},
+        vim.tbl_map(function(line) return { line['do'], line.version } end, sent), of)
+      asked = sent[1] and sent[1].id
+    end
+    if step['then'] then
+      support.same(step['then'], places_of_threads(note), of)
+    end
+  end
+end
+
+for _, case in ipairs(read(support.top .. '/../../share/engine/vectors/remarks.json').cases) do
+  support.test(case.name, function() play_remarks(case) end)
+end
 
 -- Else a cursor can't be behind a line's last character, where one is typing.
 vim.o.virtualedit = 'onemore'

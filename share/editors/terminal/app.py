@@ -200,8 +200,10 @@ class Editor:
     def draw(self, words: str = "") -> None:
         """Draws all, with these words or those that the moment has."""
         rows = self._rows()
-        asks = self._prompts.asks and not words
-        said = (words or self._prompts.words(), "") if words or asks else self._line.words(
+        asks, question = self._prompts.asks and not words, self._prompts.words()
+        # What became of the question that came between is still to be read.
+        question = self._line.before(question) if self._prompts.is_again else question
+        said = (words or question, "") if words or asks else self._line.words(
             self.work.status, self._waiting.silent, self.work.failure, self._review.help(), self._view.many_open)
         self._screen.draw(rows, self._view.cursor, said, asks, self._view.others, self._view.selected(), self._view.marked())
 

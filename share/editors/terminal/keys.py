@@ -119,13 +119,15 @@ _CONTROLS = {"\r": Key.ENTER, "\n": Key.ENTER, "\b": Key.BACKSPACE, "\x7f": Key.
              "\x16": Key.PUT, "\x01": Key.HOME, "\x05": Key.END, "\x0b": Key.KILL,
              "\x14": Key.REMARK, "\x15": Key.SUGGEST, "\x0f": Key.THREADS, "\x0e": Key.NEXT_THREAD,
              "\x06": Key.FIND, "\x13": Key.SAVE, "\x11": Key.QUIT, "\x03": Key.ESCAPE, "\x07": Key.ESCAPE}
+# Those that are pressed with Alt, too.
+_WITH_ALT = Key.ENTER, Key.BACKSPACE
 # By the last letter of a sequence, and by the number of one that ends in ~.
 _LETTERS = {"A": Key.UP, "B": Key.DOWN, "C": Key.RIGHT, "D": Key.LEFT, "H": Key.HOME, "F": Key.END}
 _NUMBERS = {1: Key.HOME, 3: Key.DELETE, 4: Key.END, 5: Key.PAGE_UP, 6: Key.PAGE_DOWN, 7: Key.HOME, 8: Key.END, 19: Key.NEXT_CHANGE,
             32: Key.PREVIOUS_CHANGE}
 _BY_WORDS = {Key.LEFT: Key.WORD_LEFT, Key.RIGHT: Key.WORD_RIGHT}
 _BY_SHIFT = {Key.NEXT_CHANGE: Key.PREVIOUS_CHANGE}
-_ALT: dict[str, Key] = {"w": Key.COPY, "u": Key.SUGGESTING, "b": Key.WORD_LEFT, "f": Key.WORD_RIGHT, "\x11": Key.QUIT, "\x13": Key.SAVE}
+_ALT = {"w": Key.COPY, "u": Key.SUGGESTING, "b": Key.WORD_LEFT, "f": Key.WORD_RIGHT}
 # The keys of a number pad that is switched to sequences.
 _PAD: dict[str, Event] = {"M": Key.ENTER, "X": "=", **dict(zip("jklmnopqrstuvwxy", "*+,-./0123456789"))}
 _SHIFT = 1
@@ -272,7 +274,7 @@ class Keyboard:
         elif found[0] == _PASTE_END:
             pass
         elif found["alt"] is not None:
-            yield _ALT.get(found["alt"].decode("utf-8", "ignore"), Key.OTHER)
+            yield from _of_alt(found["alt"].decode("utf-8", "ignore"))
         elif found["pad"] is not None:
             last = found["pad"].decode()
             yield _PAD.get(last) or _with(found[0], _LETTERS.get(last.upper()), found["pad_numbers"],
@@ -293,6 +295,12 @@ class Keyboard:
         while place < len(data) and data[place] in b"[O0123456789;:<=>?":
             place += 1
         return place
+
+
+def _of_alt(key: str) -> list[Event]:
+    """Alt with a key; or Esc, then a control key, which nobody presses with Alt: both may come at once where nobody looked for a while."""
+    control = _CONTROLS.get(key)
+    return [Key.ESCAPE, control] if control and control not in _WITH_ALT else [_ALT.get(key, Key.OTHER)]
 
 
 def _of_sequence(sequence: bytes, numbers: bytes, last: str) -> Event:

@@ -22,42 +22,53 @@ class Prompt:
 
 
 class Prompts:
-    """The question that is being asked, if there is one."""
+    """The question that is being asked, if there is one. A file can be named in the midst of another question, which is asked again after
+    that, so that keys which wait for it don't come to the text."""
 
     def __init__(self) -> None:
-        self._prompt: Prompt | None = None
+        # The last one is being asked; perhaps again, since another one came between.
+        self._prompts: list[Prompt] = []
+        self.is_again = False
 
     def ask(self, question: str, then: Callable[[str], object], answer: str = "", needs_no_note: bool = False) -> None:
-        """Asks a question, in place of another; an answer may be given that is then changed."""
-        self._prompt = Prompt(question, answer, then, needs_no_note)
+        """Asks a question, in place of another, but before one that needs the note where this one doesn't; an answer may be given that is
+        then changed."""
+        if self._prompts and not (needs_no_note and not self.needs_no_note):
+            self._prompts.pop()
+        self._prompts.append(Prompt(question, answer, then, needs_no_note))
+        self.is_again = False
 
     @property
     def asks(self) -> bool:
         """Whether there is a question."""
-        return self._prompt is not None
+        return bool(self._prompts)
 
     @property
     def needs_no_note(self) -> bool:
         """Whether there is one whose answer needs no note."""
-        return self._prompt is not None and self._prompt.needs_no_note
+        return self.asks and self._prompts[-1].needs_no_note
 
     def words(self) -> str:
         """The question, with the answer as it is."""
-        return f"{self._prompt.question}: {self._prompt.answer}" if self._prompt else ""
+        return f"{self._prompts[-1].question}: {self._prompts[-1].answer}" if self.asks else ""
 
     def press(self, key: Event) -> None:
         """Goes on with an answer. A line end that is pasted doesn't end it."""
-        prompt = self._prompt
-        if not prompt:
+        if not self.asks:
             return
+        prompt = self._prompts[-1]
         if key is Key.ENTER:
-            self._prompt = None
+            self._end()
             prompt.then(prompt.answer)
         elif key is Key.ESCAPE:
-            self._prompt = None
+            self._end()
         elif key is Key.BACKSPACE:
             prompt.answer = "".join(clusters(prompt.answer)[:-1])
         elif isinstance(key, Pasted):
             prompt.answer += key.text.strip("\r").replace("\r", " ")
         elif isinstance(key, str):
             prompt.answer += key
+
+    def _end(self) -> None:
+        self._prompts.pop()
+        self.is_again = self.asks

@@ -2,7 +2,7 @@
 people say is drawn as text, whatever it is."""
 from collections.abc import Callable, Sequence
 
-from share.editors.terminal.keys import Event, Key, safe_for_terminal
+from share.editors.terminal.keys import Event, Key, Pasted, safe_for_terminal
 from share.editors.terminal.layout import ScreenRow, asides
 from share.editors.terminal.prompts import Prompts, is_yes
 from share.editors.terminal.requests import Requests
@@ -15,9 +15,13 @@ from share.text.change import boundary
 from share.text.line import Line
 from share.text.rope import readable, swapped
 
-HELP_LIST = "Up and Down choose, Enter goes there, Esc leaves."
+HELP_LIST = "Up and Down choose, Enter goes there, o {}, b {}, Esc leaves."
 HELP_THREAD = "r reply  d done, or open again  a accept  x reject  s suggest  e edit, w take back yours  n, p next, last  Esc leaves"
+NONE_OPEN = "None of them is open."
 NONE = "Nothing is remarked on here: ^T remarks on what is selected, or on this place."
+GONE = "What you looked at isn't there any more."
+# The keys that would change the text, besides characters.
+OF_THE_TEXT = Key.ENTER, Key.BACKSPACE, Key.DELETE
 # How many characters of the words are in a line of the list, and in a question.
 MOST_IN_A_LINE, MOST_ASKED = 200, 20
 
@@ -29,6 +33,8 @@ class Review:
         self._view, self._line, self._prompts, self._screen, self._ask = view, line, prompts, screen, requests.ask
         # The thread that is shown below its line, or that is chosen in the list.
         self._of, self._lists = "", False
+        # What the list leaves out: those that aren't open, and those of others than this one.
+        self._only_open, self._author = False, ""
         self._keys: dict[str, Callable[[PlacedThread], None]] = {
             "r": self._ask_for_reply, "d": self._settle, "a": self._accept, "x": self._reject, "s": self._ask_for_suggestion_there,
             "e": lambda one: self._ask_for_own(one, self._ask_for_other_words),
@@ -71,6 +77,7 @@ class Review:
             self._line.say(NONE)
         else:
             self._lists, self._of, self._view.below = True, near.of, None
+            self._only_open, self._author = False, ""
 
     def open_next(self) -> None:
         """Goes to the first open thread at the cursor or after it, and shows it."""
@@ -87,6 +94,33 @@ class Review:
     def _here(self) -> list[PlacedThread]:
         return [one for one in self._all() if one.begin is not None]
 
+    def _in_list(self) -> list[PlacedThread]:
+        """Those that the list has."""
+        return [one for one in self._open_ones() if self._author in ("", speaker(one.line))]
+
+    def _open_ones(self) -> list[PlacedThread]:
+        return [one for one in self._all() if one.is_open or not self._only_open]
+
+    def _leave_out(self, key: str) -> None:
+        """Has the list leave out others than before: those that aren't open, or those of others than the next author."""
+        if key == "o":
+            self._only_open, self._author = not self._only_open, ""
+            if not self._open_ones():
+                self._line.say(NONE_OPEN)
+        elif key == "b":
+            self._author = self._next_author()
+
+    def _choose_in_list(self) -> None:
+        """Has one be chosen that the list has. Where it would have none it leaves out nothing."""
+        if not self._in_list():
+            self._only_open, self._author = False, ""
+        if self._of not in (found := [one.of for one in self._in_list()]):
+            self._of = found[0] if found else ""
+
+    def _next_author(self) -> str:
+        """Whose threads the list has after those that it has now; nobody's alone after the last one's."""
+        return next((one for one in sorted({speaker(one.line) for one in self._open_ones()}) if one > self._author), "")
+
     def _nearest(self) -> PlacedThread | None:
         """The thread at the cursor, or the first one after it, or else the last one."""
         every = self._all()
@@ -97,7 +131,7 @@ class Review:
 
     def _go_by(self, step: int) -> None:
         """Goes to another thread, in the list or in the text."""
-        every = self._all() if self._lists else self._here()
+        every = self._in_list() if self._lists else self._here()
         number = next((number for number, one in enumerate(every) if one.of == self._of), 0) + step
         if 0 <= number < len(every):
             self._of = every[number].of
@@ -114,25 +148,38 @@ class Review:
     def press(self, key: Event) -> bool:
         """Does what a key says of the list or the thread; whether it was one of theirs."""
         one = self._chosen()
-        if key is Key.ESCAPE or one is None or key is Key.THREADS and self._lists:
+        if one is None:
+            self._screen.keys.appendleft(key)
+            self._lose()
+        elif key is Key.ESCAPE or key is Key.THREADS and self._lists:
             self._leave()
         elif key in (Key.UP, Key.DOWN) and self._lists:
             self._go_by(-1 if key is Key.UP else 1)
         elif key is Key.ENTER and self._lists:
             self._go_to(one)
-        elif isinstance(key, str) and not self._lists:
+        elif isinstance(key, str):
             # What was typed after a key is for what that has begun.
             if rest := key[1:]:
                 self._screen.keys.appendleft(rest)
-            if does := self._keys.get(key[0]):
+            if self._lists:
+                self._leave_out(key[0])
+            elif does := self._keys.get(key[0]):
                 does(one)
-        elif isinstance(key, Key) and key not in (Key.ENTER, Key.BACKSPACE, Key.DELETE):
+        elif isinstance(key, Key) and key not in OF_THE_TEXT:
             self._leave()
             return False
         return True
 
     def _leave(self) -> None:
-        self._lists, self._of, self._view.below = False, "", None
+        self._lists, self._of, self._view.below, self._view.covered = False, "", None, 0
+
+    def _lose(self) -> None:
+        """Leaves what isn't there any more. Keys that were pressed before that is seen were for it, and are none of the text."""
+        self._leave()
+        self._line.say(GONE)
+        keys = self._screen.keys
+        while keys and (isinstance(keys[0], str | Pasted) or keys[0] in OF_THE_TEXT):
+            keys.popleft()
 
     def _ask_for_reply(self, one: PlacedThread) -> None:
         self._prompts.ask(f"Reply to {speaker(one.line)}",
@@ -188,18 +235,22 @@ class Review:
 
     def rows(self) -> list[ScreenRow] | None:
         """The list, where that is shown; None where the text is, with the thread that is looked at."""
+        if self._lists:
+            self._choose_in_list()
         one = self._chosen()
         if one is None:
-            self._leave()
+            if self.is_on:
+                self._lose()
         elif self._lists:
             return self._listed()
         else:
             place = self._view.cursor if one.end is None else min(one.end, len(self._view.text))
             self._view.below = place, [f"  | {_safe(line)}" for line in self._lines(one)]
+            self._view.covered = len(asides([HELP_THREAD], self._screen.width)) - 1
         return None
 
     def _listed(self) -> list[ScreenRow]:
-        every, height = self._all(), self._screen.height
+        every, height = self._in_list(), self._screen.height
         number = next((number for number, one in enumerate(every) if one.of == self._of), 0)
         first = max(0, min(number - height // 2, len(every) - height))
         lines = (self._in_a_line(one) for one in every[first:first + height])
@@ -218,7 +269,9 @@ class Review:
 
     def help(self) -> str:
         """Which keys there are meanwhile."""
-        return HELP_LIST if self._lists else HELP_THREAD if self._of else ""
+        if self._lists:
+            return HELP_LIST.format("all" if self._only_open else "open ones", _safe(self._next_author()) or "everybody's")
+        return HELP_THREAD if self._of else ""
 
 
 def _begin_of(record: Line) -> str:

@@ -66,6 +66,10 @@ class StatusLine:
         """Shows more behind the notice that there is."""
         self.say(f"{self._notice} {words}".strip())
 
+    def before(self, words: str) -> str:
+        """Words behind the notice that there is."""
+        return f"{self._notice} {words}".strip()
+
     def forget_notice(self) -> None:
         """Drops the notice, once it could be read."""
         if time.monotonic() >= self._noticed_at + NOTICE_SECONDS:

@@ -17,8 +17,9 @@ class View:
         self._note, self._screen = note, screen
         # The rows that were drawn last.
         self._shown: list[ScreenRow] = []
-        # What is shown below a position, in lines.
+        # What is shown below a position, in lines; and how many rows of the text the status line takes meanwhile.
         self.below: tuple[int, Sequence[str]] | None = None
+        self.covered = 0
         self.look()
 
     def look(self) -> None:
@@ -115,8 +116,8 @@ class View:
         if self.below is None:
             return rows
         place, lines = self.below
-        height = self._screen.height
+        height = max(2, self._screen.height - self.covered)
         number = next((number for number, row in reversed([*enumerate(rows)]) if row.begin <= place <= row.end), len(rows) - 1)
         said = asides(lines, self._screen.width)[:height - 1]
         first = max(0, min(number, number + 1 + len(said) - height))
-        return [*rows[first:number + 1], *said, *rows[number + 1:]][:height]
+        return [*rows[first:number + 1], *said, *rows[number + 1:]][:self._screen.height]

@@ -24,13 +24,28 @@ export function isHeard(cm, label) {
     tell("Tab leaves the text.");
   });
   cm.on("blur", () => cm.removeKeyMap(leaving));
-  // Who comes by keys finds the cursor where it was; the browser would have it at the front.
+  keepsPlace(cm, field);
+}
+
+/**
+ * Who comes back to a text by keys finds the cursor where it was. The browser has it at the front, or at the begin of a line that was drawn
+ * anew meanwhile, and CodeMirror would take it over from there.
+ */
+function keepsPlace(cm, field) {
+  const { input } = cm.display;
   let isPointed = false;
-  for (const kind of ["pointerdown", "pointerup"]) addEventListener(kind, () => { isPointed = kind === "pointerdown"; }, true);
-  field.addEventListener("focus", () => setTimeout(() => {
-    const { input } = cm.display;
-    if (!isPointed && document.activeElement === field) input.showSelection(input.prepareSelection(), true);
-  }));
+  for (const kind of ["pointerdown", "pointerup", "pointercancel"]) {
+    addEventListener(kind, () => { isPointed = kind === "pointerdown"; }, true);
+  }
+  field.addEventListener("focus", () => {
+    if (isPointed) return;
+    // What looks for the browser's cursor may be due before the browser has put it somewhere.
+    input.gracePeriod ||= true;
+    setTimeout(() => {
+      if (input.gracePeriod === true) input.gracePeriod = false;
+      if (!isPointed && document.activeElement === field) input.showSelection(input.prepareSelection(), true);
+    });
+  });
 }
 
 /** Tells, when others have stopped typing, which lines they changed. */

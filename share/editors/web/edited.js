@@ -70,12 +70,15 @@ export class Edited {
       const end = this.places.of(to);
       gather(this.#gathered, this.places.of(from), end, text.join("\n"));
     });
-    cm.on("changes", () => {
-      const changes = this.#gathered;
-      this.#gathered = [];
-      if (changes.length) told.edit(changes);
-    });
+    cm.on("changes", () => this.tell());
     cm.on("cursorActivity", () => { if (this.#isOwn) told.moved(); });
+  }
+
+  /** Hands on what was changed until now, also in the midst of a command: what is asked then comes after it. */
+  tell() {
+    const changes = this.#gathered;
+    this.#gathered = [];
+    if (changes.length) this.#told.edit(changes);
   }
 
   get text() {

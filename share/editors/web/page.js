@@ -53,7 +53,7 @@ class Page {
     const ask = (request) => this.#ask(request);
     this.present = new Present(ask);
     const colourOfSite = (site) => this.present.colourOf(site);
-    this.since = new Since(this.editor, (request) => this.#askOf(request, false), colourOfSite);
+    this.since = new Since(this.editor, (request) => this.#askOf(request, false), colourOfSite, () => this.#settle());
     this.past = new Past(ask, colourOfSite, { left: () => this.editor.show(), since: (at) => this.since.show({ at }) });
     this.finding = new Finding(cm, () => this.#settle());
     this.formatted = new Formatted(() => this.editor.text);
@@ -140,11 +140,13 @@ class Page {
   }
 
   async #ask(request, isQuiet = false) {
+    this.editor.tell();
     return this.#client ? this.#client.ask(request, isQuiet) : { error: "away" };
   }
 
   /** Asks about places of the text. */
   async #askOf(request, isQuiet) {
+    this.editor.tell();
     return this.#client ? this.#client.askOf(request, isQuiet) : { error: "away" };
   }
 

@@ -27,6 +27,7 @@ export class Since {
   #editor;
   #askOf;
   #colourOf;
+  #settle;
   // In their order: what came has an end, what went a text.
   #changes = [];
   #sites = new Map();
@@ -38,9 +39,9 @@ export class Since {
   #marked = [];
   #isDue = false;
 
-  /** `askOf` asks about places of the text, and `colourOf` has the colour of a site that is on. */
-  constructor(editor, askOf, colourOf) {
-    [this.#editor, this.#askOf, this.#colourOf] = [editor, askOf, colourOf];
+  /** `askOf` asks about places of the text, `colourOf` has the colour of a site that is on, and `settle` does what waits. */
+  constructor(editor, askOf, colourOf, settle) {
+    [this.#editor, this.#askOf, this.#colourOf, this.#settle] = [editor, askOf, colourOf, settle];
     editor.cm.on("beforeChange", (_, change) => { if (!change.canceled) this.#moves(change); });
     for (const event of ["scroll", "update", "refresh"]) editor.cm.on(event, () => this.#soon());
     element("changed").addEventListener("click", () => (this.isShown ? this.close() : this.show("looked")));
@@ -166,6 +167,8 @@ export class Since {
     const { cm, places } = this.#editor;
     const many = this.#changes.length;
     if (!many) return;
+    // Keys that are kept are for where the cursor is still.
+    this.#settle();
     const at = places.of(cm.getCursor("from"));
     const isThere = this.#changes[this.#at]?.begin === at;
     // How many are before the cursor.

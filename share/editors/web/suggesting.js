@@ -1,4 +1,5 @@
 // Typing that suggests: what is typed and deleted isn't done, but gathered, as long as it goes on at one place, into one suggestion.
+import { gathered } from "./gathered.js";
 import { withoutLast } from "./graphemes.js";
 import { mark, placeOf } from "./stretches.js";
 
@@ -84,26 +85,18 @@ export class Suggesting {
 
   #gathers({ from, to, put, isBack }) {
     const { cm } = this.#editor;
-    let at = this.#place();
-    if (at && (isBefore(at.to, from) || isBefore(to, at.from))) {
-      this.end();
-      at = undefined;
-    }
-    if (at && isBack && !put && this.#put && isSame(to, at.to)) {
-      this.#shows(at.from, at.to, withoutLast(this.#put));
-      cm.setCursor(at.to);
-      return;
-    }
-    const [begin, end] = [at && isBefore(at.from, from) ? at.from : from, at && isBefore(to, at.to) ? at.to : to];
-    this.#shows(begin, end, this.#put + put);
-    cm.setCursor(put ? end : isBack ? from : to);
+    const [at, isOneSign] = [this.#place(), isBack && withoutLast(cm.getRange(from, to)) === ""];
+    const { now, cursor, isElsewhere } = gathered(at && { ...at, put: this.#put }, { from, to, put, back: isBack ? (isOneSign ? 1 : 2) : 0 });
+    if (isElsewhere) this.end();
+    this.#shows(now);
+    cm.setCursor(cursor);
   }
 
   /** Shows what is gathered, if that is anything. */
-  #shows(from, to, put) {
+  #shows(one) {
     this.#mark?.clear();
-    this.#put = put;
-    this.#mark = isSame(from, to) && !put ? undefined : mark(this.#editor.cm, from, to, { className: "suggestion open own", put });
+    this.#put = one?.put ?? "";
+    this.#mark = one && mark(this.#editor.cm, one.from, one.to, { className: "suggestion open own", put: one.put });
     // The browser may show what it typed.
     if (!this.#mark) this.#editor.cm.refresh();
   }

@@ -95,6 +95,8 @@ export class Threads {
     const { cm, places } = this.#editor;
     const ends = this.#editor.inSight(1);
     const [begin, end] = ends.map((place) => places.of(place));
+    // Others' text may come in before the answer, and lines go.
+    const seen = ends.map(({ line }) => cm.getLineHandle(line));
     const range = { begin, end };
     const answer = await this.#ask({ ...range, most: MOST_IN_SIGHT });
     this.isKnown ||= answer.error !== "away";
@@ -105,7 +107,7 @@ export class Threads {
     const list = this.#told.isListed() ? await this.#listed() : { threads: this.list, hasMore: this.hasMore };
     const kept = await this.#keptOf(answer.threads, range);
     if (!list || answer.isOld() || this.#editor.composing.isOn) return false;
-    this.#seen = ends.map(({ line }) => cm.getLineHandle(line));
+    this.#seen = seen;
     [this.inSight, this.many, this.kept] = [answer.threads.filter((one) => this.#isSought(one)), answer.of, kept];
     [this.list, this.hasMore] = [list.threads, list.hasMore];
     return true;

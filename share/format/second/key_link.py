@@ -2,7 +2,7 @@
 
 It is spelled `vialshoal:2:s:SECRET@URL`, with a `p` in place of the `s` for a plain note. SECRET is base64url of the key and of a
 checksum of all of the link. A page's is `https://HOST/#vialshoal:2:s:SECRET`, with the checksum of the link to `https://HOST`: what
-comes after # goes to no server.
+comes after # goes to no server. At a page of another server than the relay all of the link is after the #.
 """
 import base64
 import binascii
@@ -10,21 +10,20 @@ import hashlib
 import re
 from typing import NamedTuple
 
-from share.format.link import CHECK_BYTES, FORMS, GREATEST_PORT, MISTAKEN, UNSEALED, FormName, Link, is_network, read_link, url_of
+from share.format.link import CHECK_BYTES, FORMS, MISTAKEN, UNSEALED, FormName, Link, is_network, read_link, url_of
 from share.format.second.keys import NOTE_KEY_BYTES
 from share.text.errors import Trouble
 
 KEY_LINK = re.compile(r"vialshoal:2:([ps]):([A-Za-z0-9_-]{48})@(.+)")
-PAGE_LINK = re.compile(r"(https://[^/#@]+)/#vialshoal:2:s:([A-Za-z0-9_-]{48})")
+# An address of a page, to which a service by which it was sent may have added words of its own; and what its link lacks before the URL.
+PAGE_ADDRESS = re.compile(r"(https?://[^/#@?]+)/(?:\?[^#]*)?#(vialshoal:2:s:.*)")
+WITHOUT_URL = re.compile(r"vialshoal:2:s:[A-Za-z0-9_-]{48}")
 # What such a link, or such an address, begins with.
-OF_SECOND_FORM = re.compile(r"(https://[^/]+/#)?vialshoal:2:")
-# A server of pages as browsers spell where it is: in small letters, and the port unless it is the one that is meant without.
-ORIGIN = re.compile(r"https://([a-z0-9.-]+|\[[0-9a-f:.]+\])(?::([1-9][0-9]{0,4}))?")
-PORT_OF_HTTPS = 443
+OF_SECOND_FORM = re.compile(r"(https?://[^/]+/(\?[^#]*)?#)?vialshoal:2:")
 
 
 class KeyLink(NamedTuple):
-    """What a link says: the form of the note's records, its key, and its log's URL or path, or the origin of a page."""
+    """What a link says: the form of the note's records, its key, and its log's URL or path, or the origin of a relay."""
 
     form: FormName
     key: bytes
@@ -70,27 +69,21 @@ def link_of(text: str) -> AnyLink:
 def read_key_link(text: str) -> KeyLink:
     """The link that is spelled so, or a page's address, with space around it or none."""
     text = text.strip()
-    if found := PAGE_LINK.fullmatch(text):
-        form, secret, url = "s", found[2], found[1]
-    elif found := KEY_LINK.fullmatch(text):
-        form, secret, url = found.groups()
-    else:
+    if page := PAGE_ADDRESS.fullmatch(text):
+        text = page[2] + (f"@{page[1]}" if WITHOUT_URL.fullmatch(page[2]) else "")
+    found = KEY_LINK.fullmatch(text)
+    if not found:
         raise Trouble("That isn't a note's link, which begins with vialshoal:2: and ends with its log's URL. Copy it whole, in one line.")
+    form, secret, url = found.groups()
     try:
         link = KeyLink(FORMS[form], base64.urlsafe_b64decode(secret)[:NOTE_KEY_BYTES], url)
     except binascii.Error as why:
         raise Trouble(MISTAKEN) from why
     # Also what is right but for its spelling has another checksum.
-    if text not in (link.spelled(), link.page()):
+    if text != link.spelled():
         raise Trouble(MISTAKEN)
-    if not is_origin(url) and url_of(url) != url:
+    if url_of(url) != url:
         raise Trouble("That link isn't spelled as bin/note link prints it. Copy it whole, in one line.")
-    if form == "p" and (is_origin(url) or is_network(url)):
+    if form == "p" and is_network(url):
         raise Trouble(UNSEALED)
     return link
-
-
-def is_origin(url: str) -> bool:
-    """Whether this is where a server of pages is, as browsers spell it."""
-    found = ORIGIN.fullmatch(url)
-    return bool(found and (not found[2] or int(found[2]) <= GREATEST_PORT and int(found[2]) != PORT_OF_HTTPS))

@@ -235,33 +235,55 @@ local function show(words)
   return buffer
 end
 
-local accept
-
---- Asks the user whether a suggestion is accepted although its text has changed.
-local function ask_anyway(note, thread, answer)
-  local buffer = show(('It was:\n%s\n\nIt is now:\n%s\n\nSuggested is:\n%s'):format(text.words(answer.was),
-    text.words(answer.now), text.words(answer.new)))
-  vim.cmd('redraw')
-  local is_wanted = vim.fn.confirm('The text has changed since. Accept it anyway?', '&Yes\n&No', 2) == 1
-  api.nvim_buf_delete(buffer, { force = true })
-  if is_wanted then
-    accept(note, thread, true)
+--- Puts away what is shown of how the text of a suggestion has changed; whether that was this suggestion's.
+local function put_away(note, thread)
+  local shown = note.shown_changed or {}
+  note.shown_changed = nil
+  if shown.window and api.nvim_win_is_valid(shown.window) then
+    api.nvim_win_close(shown.window, true)
   end
+  return shown.id == thread.id
 end
 
-function accept(note, thread, anyway)
+--- Shows how the text of a suggestion has changed, in a window beside: the user may be typing, so nothing is asked.
+local function show_changed(note, thread, answer)
+  put_away(note, thread)
+  local words = ('It was:\n%s\n\nIt is now:\n%s\n\nSuggested is:\n%s\n\n:VialshoalAccept! accepts it'):format(
+    text.words(answer.was), text.words(answer.now), text.words(answer.new))
+  local lines, buffer = vim.split(words, '\n', { plain = true }), api.nvim_create_buf(false, true)
+  vim.bo[buffer].bufhidden = 'wipe'
+  api.nvim_buf_set_lines(buffer, 0, -1, false, lines)
+  vim.bo[buffer].modifiable = false
+  local width = 1
+  for _, line in ipairs(lines) do
+    width = math.max(width, vim.fn.strdisplaywidth(line))
+  end
+  note.shown_changed = { id = thread.id, window = api.nvim_open_win(buffer, false, { relative = 'editor', anchor = 'NE', row = 0,
+    col = vim.o.columns, width = math.max(1, math.min(width, vim.o.columns - 2)),
+    height = math.max(1, math.min(#lines, vim.o.lines - 4)), style = 'minimal', border = 'single' }) }
+end
+
+local function accept(note, thread, anyway)
   note:ask({ ['do'] = 'accept', to = thread.id, anyway = anyway }, function(answer)
     if answer.error == 'changed' then
       -- Not while lines are taken in.
-      vim.schedule(function() ask_anyway(note, thread, answer) end)
+      vim.schedule(function() show_changed(note, thread, answer) end)
     elseif not answer.error and not answer.done then
       note.shows.words('It was accepted already.')
     end
   end)
 end
 
-function M.accept(note)
-  with_suggestion(note, function(thread) accept(note, thread) end)
+function M.accept(note, given)
+  with_suggestion(note, function(thread)
+    if not given.bang then
+      return accept(note, thread)
+    end
+    if not put_away(note, thread) then
+      return note.shows.words('First :VialshoalAccept, which shows what has changed.')
+    end
+    accept(note, thread, true)
+  end)
 end
 
 --- Shows all that the thread at the cursor says.
@@ -304,24 +326,26 @@ local function as_list(note, threads)
   return { title = 'Remarks of ' .. (note.name or ''), items = items, context = { vialshoal = { buffer = note.buffer, ids = ids } } }
 end
 
---- Calls a function with the list of open threads, or of all.
-local function with_list(note, is_all, call)
+--- Calls a function with the list of open threads, or of all; where an author is given, of those alone that this one began.
+local function with_list(note, given, call)
   review.ask_for_all(note, function(threads)
-    local listed = vim.tbl_filter(function(thread) return is_all or thread.state == 'open' end, threads)
+    local listed = vim.tbl_filter(function(thread)
+      return (given.bang or thread.state == 'open') and (given.args == '' or given.args == history.author(thread))
+    end, threads)
     note.review.listed = listed
     call(as_list(note, listed))
   end)
 end
 
 --- Has the list of a note, where that is shown, have what is so now.
-local function list_anew(note, is_all)
+local function list_anew(note, given)
   local shown = vim.fn.getqflist({ context = 0, winid = 0 })
   local context = type(shown.context) == 'table' and shown.context.vialshoal
   if not context or context.buffer ~= note.buffer or shown.winid == 0 then
     note.review.lists_anew = nil
     return
   end
-  with_list(note, is_all, function(list)
+  with_list(note, given, function(list)
     local now = vim.fn.getqflist({ context = 0, winid = 0 })
     if vim.deep_equal(now.context, shown.context) and now.winid ~= 0 then
       local cursor = api.nvim_win_get_cursor(now.winid)
@@ -337,14 +361,14 @@ end
 
 --- Lists open threads, or all, as Vim lists errors.
 function M.list(note, given)
-  with_list(note, given.bang, function(list)
+  with_list(note, given, function(list)
     vim.fn.setqflist({}, ' ', list)
     if #list.items == 0 then
       note.shows.words('There are no remarks.')
     else
       vim.cmd('copen')
     end
-    note.review.lists_anew = function() list_anew(note, given.bang) end
+    note.review.lists_anew = function() list_anew(note, given) end
   end)
 end
 

@@ -1,0 +1,99 @@
+// What is known of a note without its text: who founded it, whose the numbers are, how much there is.
+import { equal, hex, numberAt } from "./bytes.js";
+import { KIND, counterOf, headOf, opened } from "./entry.js";
+import { rankOf } from "./rank.js";
+
+const FOUNDER_AT = 64;
+// What isn't shown as it is: signs that change where text stands.
+const NO_NAME = /[\p{Cc}\u061c\u200e\u200f\u2028-\u202e\u2066-\u2069\p{Cs}]/gu;
+const MOST_NAME = 40;
+
+/** A number that somebody has, and how many messages stand under it.
+ * @typedef {{ site: number, author: string, messages: number, isFounder: boolean }} Numbered */
+
+export class Facts {
+  entries = 0;
+  bytes = 0;
+  /** Who said that the note goes on under another link.
+   * @type {string[]} */
+  renewedBy = [];
+  /** @type {{ author: string, site: number } | null} */
+  founder = null;
+  /** Whether it began as a copy. */
+  isCopy = false;
+  #keys;
+  /** @type {Map<number, { author: string, rank: Uint8Array }>} */
+  #holders = new Map();
+  /** The greatest seqs of each text, by author and number.
+   * @type {Map<string, Map<number, number>>} */
+  #lasts = new Map();
+  /** @type {Set<number>} */
+  #copied = new Set();
+
+  /** @param {import("./keys.js").NoteKeys} keys */
+  constructor(keys) {
+    this.#keys = keys;
+  }
+
+  /** Takes over an entry that was found right.
+   * @param {Uint8Array} raw */
+  async add(raw) {
+    const head = headOf(raw);
+    const { kind, site, text, first, count } = head;
+    const author = hex(head.author);
+    this.entries += 1;
+    this.bytes += raw.length;
+    if (kind === KIND.claim) {
+      this.#claimed(site, author, await rankOf(this.#keys.identity, head.author, counterOf(head)));
+    } else if (kind === KIND.messages) {
+      const lasts = this.#lasts.get(`${author} ${site}`) ?? new Map();
+      this.#lasts.set(`${author} ${site}`, lasts.set(text, Math.max(lasts.get(text) ?? 0, first + count - 1)));
+    } else if (kind === KIND.base) {
+      this.#copied.add(site);
+      this.isCopy = true;
+    } else if (kind === KIND.opening) {
+      const { body } = await opened(this.#keys, raw);
+      this.founder = { author: hex(body.subarray(FOUNDER_AT, FOUNDER_AT + 32)), site: numberAt(body, FOUNDER_AT + 32, 2) };
+    } else if (kind === KIND.renewed) {
+      this.#renewed((await opened(this.#keys, raw)).body);
+    }
+  }
+
+  /** Whose the numbers are, the lowest first. */
+  numbers() {
+    const holders = new Map([...this.#holders].map(([site, { author }]) => [site, author]));
+    if (this.founder?.site) holders.set(this.founder.site, this.founder.author);
+    /** @type {Numbered[]} */
+    const found = [...holders].filter(([site]) => !this.#copied.has(site)).map(([site, author]) => (
+      { site, author, messages: this.#messages(author, site), isFounder: site === this.founder?.site }));
+    return found.sort((one, other) => one.site - other.site);
+  }
+
+  /** The numbers that somebody has, or that were copied. */
+  taken() {
+    return new Set([...this.#holders.keys(), ...this.#copied, ...(this.founder?.site ? [this.founder.site] : [])]);
+  }
+
+  /** @param {string} author @param {number} site */
+  #messages(author, site) {
+    return [...this.#lasts.get(`${author} ${site}`)?.values() ?? []].reduce((sum, last) => sum + last, 0);
+  }
+
+  /** @param {number} site @param {string} author @param {Uint8Array} rank */
+  #claimed(site, author, rank) {
+    const held = this.#holders.get(site);
+    if (!held || isBelow(rank, held.rank)) this.#holders.set(site, { author, rank });
+  }
+
+  /** @param {Uint8Array} body */
+  #renewed(body) {
+    const name = new TextDecoder().decode(body).replace(NO_NAME, "").trim().slice(0, MOST_NAME) || "somebody";
+    if (!this.renewedBy.includes(name)) this.renewedBy.push(name);
+  }
+}
+
+/** @param {Uint8Array} one @param {Uint8Array} other */
+function isBelow(one, other) {
+  const at = one.findIndex((byte, place) => byte !== other[place]);
+  return !equal(one, other) && one[at] < other[at];
+}

@@ -1,0 +1,5 @@
+// Takes the link out of the address before anything else is loaded, so that nobody reads it there, and no history keeps it.
+"use strict";
+
+/** @type {any} */ (window).given = location.hash;
+if (location.hash || location.search) history.replaceState(null, "", location.pathname);
