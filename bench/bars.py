@@ -1,5 +1,6 @@
-"""What bench/slow and bench/hostile may count of each of their kinds, with --bars, by the program as ordinary Rust: upper bounds, half as
-much again as was counted. So a new square is seen, and what is a square already can't become worse unseen."""
+"""What bench/slow, bench/hostile and bench/run may count of each of their kinds, with --bars, by the program as ordinary Rust: upper
+bounds, half as much again as was counted, or of traces a twenty-fifth. So a new square is seen, and what is a square already can't become
+worse unseen."""
 from __future__ import annotations
 
 from typing import NamedTuple
@@ -33,7 +34,9 @@ STRAIGHT = {
     "typed by turns, where half is": Bar(5_000, 1_000),
     "typed by turns, all cut": Bar(4_000, 1_000),
     "typed by turns, all given a colour": Bar(4_000, 1_000),
+    "20 n letters typed one after the other, chunks": Bar(1_600, 500),
     "since the last but one": Bar(11_000, 1_000),
+    "since the last but one, the library": Bar(135_000, 20_000),
     "pack from the last but one": Bar(13_000, 1_000),
 }
 # A step takes the longer the more there is, so that the whole is a square.
@@ -100,4 +103,13 @@ UNPACKED = {
 # The same as chunks that the library takes in, where noting has ended.
 UNNOTED = {
     "letters before all others, deleted and restored by turns": 60,
+}
+
+# The bytes that are resident an edit, where two sites share so many edits of a trace. What is reserved and never written doesn't show here.
+EDITS = 100_000
+KEPT = {
+    "at the end": 59,
+    "at random": 396,
+    "in bursts": 184,
+    "in prose": 92,
 }

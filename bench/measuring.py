@@ -3,6 +3,7 @@ from __future__ import annotations
 
 import ctypes
 import dataclasses
+import functools
 import os
 import pathlib
 import re
@@ -93,9 +94,10 @@ def ordinary() -> list[str] | None:
     return [str(TOP / "out" / "rust" / "site_cli")]
 
 
+@functools.cache
 def unnoted() -> list[str]:
     """What takes chunks in by the library as ordinary Rust, which cargo builds, where noting has ended."""
     workspace = TOP / "rust"
     subprocess.run(["cargo", "build", "--quiet", "--release", "--offline", "--locked", "-p", "vialshoal_c"], cwd=workspace, check=True)
     library = workspace / "target" / "release" / "libvialshoal_c.so"
-    return ["env", f"VIALSHOAL_LIBRARY={library}", sys.executable, "-B", str(TOP / "bench" / "unnoted.py")]
+    return [sys.executable, "-B", str(TOP / "bench" / "unnoted.py"), str(library)]

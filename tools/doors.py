@@ -49,6 +49,8 @@ GIVEN = {
 
 # The calls that give refused memory where a limit is passed, by file.
 WITHIN = {
+    # No message has a seq beyond 32 bits, which entries as a definition sees them may have.
+    "note_admission/src/text_admission.rt": {"front as usize, u32::MAX as usize - 1"},
     "op_log/src/op_list.rt": {
         "self.len + 1, MAX_OPS",
         "self.len.saturating_add(len), MAX_OPS",
@@ -66,7 +68,7 @@ ASKED = {
     "piece_list/src/list/changing.rt": {"2 * ranges.len(); ranges = names.ranges()"},
     "piece_list/src/list/placing.rt": {"2"},
     "rank_index/src/chunk.rt": {"alloc, MOST"},
-    "rank_index/src/index.rt": {"wanted; wanted = (self.homes.len() + n) / HALF"},
+    "rank_index/src/index.rt": {"wanted; wanted = ((self.homes.len() + n) / HALF).min(self.chunks.len() + n)"},
     "script_io/src/input.rt": {"alloc, HELD, reader"},
     "script_runs/src/desks.rt": {"alloc, MAX_LINE"},
     "script_runs/src/running.rt": {"alloc, MAX_LINE"},

@@ -65,8 +65,9 @@ class Doors(unittest.TestCase):
         self.is_refused(TAGS, "let most = n * n;", "let wanted = most + 1;", "self.tags.reserve(wanted)?;")
         self.is_refused(TAGS, "let mut wanted = n;", "wanted = 1 << 20;", "self.tags.reserve(wanted)?;")
         self.is_refused(TAGS, "let mut wanted = n;", "wanted <<= 20;", "self.tags.reserve(wanted)?;")
-        self.is_right("rank_index/src/index.rt", "let wanted = (self.homes.len() + n) / HALF;", "self.groups.reserve(wanted)?;")
-        self.is_refused("rank_index/src/index.rt", "let wanted = (self.homes.len() + n) * HALF;", "self.groups.reserve(wanted)?;")
+        wanted = "let wanted = ((self.homes.len() + n) / HALF).min(self.chunks.len() + n);"
+        self.is_right("rank_index/src/index.rt", wanted, "self.groups.reserve(wanted)?;")
+        self.is_refused("rank_index/src/index.rt", wanted.replace("/", "*"), "self.groups.reserve(wanted)?;")
 
     def test_what_asks_for_memory_is_called_and_not_named(self) -> None:
         self.is_refused(TAGS, "let ask = Vec::reserve;", "ask(&mut self.tags, most)?;")

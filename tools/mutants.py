@@ -106,9 +106,13 @@ def write_apart(bodies: list[WrongBody], folder: Path) -> None:
 
 def told_by_tool(top: Path, crates: list[str]) -> list[str]:
     """Has the prover's tool try what lies in must-fail/ of the crates, and returns the lines that it printed. Its gate does
-    that over what an earlier gate on this machine proved."""
+    that over what an earlier gate on this machine proved; that of `rattle-kit-13b` takes no names of crates, and prints nothing."""
+    return printed(["rt", "ci", *crates], top) or printed(["rt", "must-fail", *crates], top)
+
+
+def printed(command: list[str], top: Path) -> list[str]:
+    """The lines that a command prints, which are shown as they come."""
     lines: list[str] = []
-    command = ["rt", "ci", *crates]
     with subprocess.Popen(command, cwd=top, stdin=subprocess.DEVNULL, stdout=subprocess.PIPE, text=True) as tool:
         for line in tool.stdout or ():
             print(line, end="", flush=True)

@@ -12,6 +12,7 @@ import subprocess
 import sys
 from collections.abc import Iterator, Sequence
 from pathlib import Path
+from typing import NamedTuple
 
 from tools import TOP
 
@@ -27,12 +28,31 @@ class Lacking(Exception):
     """What is needed isn't installed."""
 
 
-def sysroot() -> Path:
-    """Where Rust's libraries are."""
-    if shutil.which("cargo") is None or shutil.which("rustc") is None:
-        raise Lacking("there is no Rust")
-    ran = subprocess.run(["rustc", "--print", "sysroot"], stdout=subprocess.PIPE, text=True, check=True, cwd=RUST)
-    return Path(ran.stdout.strip())
+class Toolchain(NamedTuple):
+    """Rust's compiler, the cargo beside it, and where its libraries are."""
+
+    rustc: Path
+    cargo: Path
+    root: Path
+
+
+def folders() -> Iterator[Path]:
+    """Where commands are looked for."""
+    yield from (Path(folder) for folder in os.environ.get("PATH", "").split(os.pathsep) if folder)
+
+
+def installed() -> Iterator[Toolchain]:
+    """Those that are installed, the first on the path first."""
+    roots = set()
+    for folder in folders():
+        rustc, cargo = folder.absolute() / "rustc", folder.absolute() / "cargo"
+        if shutil.which(rustc) is None or shutil.which(cargo) is None:
+            continue
+        ran = subprocess.run([rustc, "--print", "sysroot"], stdout=subprocess.PIPE, text=True, check=False, cwd=RUST)
+        root = Path(ran.stdout.strip())
+        if ran.returncode == 0 and root not in roots:
+            roots.add(root)
+            yield Toolchain(rustc, cargo, root)
 
 
 def words_for_std(root: Path) -> tuple[list[str], dict[str, str]]:
@@ -52,8 +72,7 @@ def linkers() -> Iterator[str]:
     """LLVM's linkers for WebAssembly that are installed: the one without a version, and then the newest first."""
     if shutil.which("wasm-ld"):
         yield "wasm-ld"
-    folders = [Path(folder) for folder in os.environ.get("PATH", "").split(os.pathsep) if folder]
-    names = {path.name for folder in folders for path in folder.glob("wasm-ld-*")}
+    names = {path.name for folder in folders() for path in folder.glob("wasm-ld-*")}
     found = [name for name in names if re.fullmatch(r"wasm-ld-\d+", name)]
     yield from sorted(found, key=lambda name: -int(name.rpartition("-")[2]))
 
@@ -73,16 +92,32 @@ def flags(root: Path) -> dict[str, str]:
     return {"CARGO_ENCODED_RUSTFLAGS": "\x1f".join(f"--remap-path-prefix={at}={name}" for at, name in places.items())}
 
 
+def words_for(rust: Toolchain) -> tuple[list[str], dict[str, str]]:
+    """What its cargo is told, and in which environment."""
+    words, environment = words_for_std(rust.root)
+    return words, {"RUSTC": str(rust.rustc), **flags(rust.root), **linker(rust.root), **environment}
+
+
+def chosen() -> tuple[Toolchain, list[str], dict[str, str]]:
+    """The first Rust that can compile for the target, and what its cargo is told."""
+    lacking = Lacking("there is no Rust")
+    for number, rust in enumerate(installed()):
+        try:
+            return rust, *words_for(rust)
+        except Lacking as why:
+            lacking = lacking if number else why
+    raise lacking
+
+
 def compiled() -> Path:
     """The library as WebAssembly."""
-    root = sysroot()
-    words, environment = words_for_std(root)
+    rust, words, environment = chosen()
     kept = {name: value for name, value in os.environ.items() if not name.endswith("RUSTFLAGS")}
     to = Path(os.environ.get("WASM_TARGET_DIR", RUST / "target"))
     subprocess.run(
-        ["cargo", "build", "--offline", "--locked", "--quiet", "--profile", "wasm", "--target", TARGET,
+        [rust.cargo, "build", "--offline", "--locked", "--quiet", "--profile", "wasm", "--target", TARGET,
          "--target-dir", str(to), "--package", "vialshoal_wasm", *words],
-        cwd=RUST, env={**kept, **flags(root), **linker(root), **environment}, check=True,
+        cwd=RUST, env={**kept, **environment}, check=True,
     )  # fmt: skip
     return to / TARGET / "wasm" / "vialshoal_wasm.wasm"
 

@@ -334,7 +334,7 @@ class Files(Packed):
 
 def main() -> int:
     tested = ["packed.tests", "packed.chunk_tests", "converging.tests", "rust.tests", "build_tests"]
-    tested += ["counts_tests", "doors_tests", "mutants_tests"]
+    tested += ["chain_tests", "counts_tests", "doors_tests", "mutants_tests"]
     modules = [f"tools.{name}" for name in tested]
     result = unittest.TextTestRunner().run(unittest.defaultTestLoader.loadTestsFromNames(modules))
     failed = len({str(test) for test, _ in [*result.failures, *result.errors]})
