@@ -44,6 +44,8 @@ class Player {
         this.editors = editors;
         this.stacks = editors.map(() => ({ done: [], undone: [] }));
         this.counts = { edits: 0, undos: 0, meetings: 0, away: 0 };
+        // (lines out of view, and the cursors in them, wouldn't be drawn)
+        editors.forEach(({ cm }) => cm.setOption('viewportMargin', Infinity));
     }
 
     // A range of an editor, and what is put in its place; now and then a half of a pair alone.
