@@ -1,9 +1,8 @@
 """Chromium with the two editors of library/node/example/editors.html, over the package that bin/library --wasm makes or VIALSHOAL_PACKAGE
 names: keys, undo, cursors, away and back, a page that is loaded again; and at random against plain models, for VIALSHOAL_SECONDS
-(20) from the seed VIALSHOAL_SEED on. The last line is 'N passed, M failed'."""
+(20) from the seed VIALSHOAL_SEED (1) on. The last line is 'N passed, M failed'."""
 import contextlib
 import os
-import random
 import re
 import shutil
 import subprocess
@@ -209,7 +208,7 @@ class Editors(page.Browser):
         self.wait_for("document.querySelector('iframe')?.contentWindow.editors?.every(({ provider }) => provider.isSynced)")
 
     def test_at_random(self) -> None:
-        seed, left, steps = int(os.environ.get("VIALSHOAL_SEED", random.randrange(1, 1 << 31))), SECONDS, 0
+        seed, left, steps = int(os.environ.get("VIALSHOAL_SEED", "1")), SECONDS, 0
         counts = dict.fromkeys(("edits", "undos", "meetings", "away"), 0)
         while left > 0:
             self.open(f"room{seed}", "&capture=0")
