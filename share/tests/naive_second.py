@@ -281,7 +281,7 @@ def opened(note: Note, raw: bytes, zero_bits: int = ZERO_BITS) -> Entry:
     if not 1 <= head.site <= GREATEST_SITE:
         raise Bad("no number")
     if head.kind in (Kind.BASE, Kind.MESSAGES):
-        return _with_messages(note, head, body)
+        return with_messages(note, head, body)
     return _without_messages(note, head, body, zero_bits)
 
 
@@ -306,7 +306,7 @@ def _without_messages(note: Note, head: Head, body: bytes, zero_bits: int) -> En
     return entry
 
 
-def _with_messages(note: Note, head: Head, body: bytes) -> Entry:
+def with_messages(note: Note, head: Head, body: bytes) -> Entry:
     """An entry of messages, each with its hash."""
     if not (1 <= head.text <= GREATEST_TEXT and head.size and head.first) or (head.kind == Kind.BASE and head.author != note.public):
         raise Bad("of no place")

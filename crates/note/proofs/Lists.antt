@@ -7,7 +7,8 @@ use Rattle.note_entries.specs.Kept.{with_claim, with_saying}
 use Rattle.note_hashes.specs.Hashes.{digest_of}
 use Rattle.note_admission.specs.Growing.{IsOfLost, IsReplaced, StaysAdmitted}
 use Rattle.note_admission.specs.Standing.{AreChainsOf, ChainsSeen}
-use Rattle.note.specs.Notes.{AreNumberedTexts, MOST_TEXTS}
+use Rattle.note_bodies.specs.declared.messages.TheConstants.{TEXTS}
+use Rattle.note.specs.Notes.{AreNumberedTexts}
 use Rattle.note.specs.Texts.{ArePairs, EachText, HasFollowed, HasAdmittedMore, IsSameText, IsTextOfNote, NoteText}
 use Rattle.note.proofs.Following.{place_then}
 use Rattle.note.proofs.Coming.{other_text, text_grown, text_with_claim, text_with_message}
@@ -104,7 +105,7 @@ module _ (note : Note) (entries : Entries) (old new : List NoteText) (len : leng
         ]
 
     -- a message of a text that the note hasn't
-    pub texts_unheard : new ≡ old → length old ≡ MOST_TEXTS → MOST_TEXTS < m.op.text
+    pub texts_unheard : new ≡ old → length old ≡ TEXTS → TEXTS < m.op.text
         → EachText (λ k t. IsTextOfNote note (with_saying entries m) t) new
     texts_unheard same many past k d lt =
         let below : k < length old = omega arith in

@@ -1,15 +1,14 @@
 -- A note as a value.
-use Rattle.std.specs.Prelude.{◌≡◌, ℕ, ◌+◌, List, length}
+use Rattle.std.specs.Prelude.{◌≡◌, ℕ, ◌+◌, List, ◌++◌, ◌⊎◌, length}
 use Rattle.note_laws.specs.Note.{Note, Entries, Saying, Claim}
 use Rattle.note_laws.specs.Laws.{AreToldApart}
 use Rattle.note_entries.specs.Kept.{with_claim, with_saying}
 use Rattle.note_hashes.specs.Hashes.{digest_of}
 use Rattle.note_admission.specs.Standing.{AreChainsOf, ChainsSeen}
+use Rattle.note_bodies.specs.Bodies.{AreMessagesOf}
+use Rattle.note_bodies.specs.declared.messages.Head.{Head}
+use Rattle.note_bodies.specs.declared.messages.TheConstants.{TEXTS}
 use Rattle.note.specs.Texts.{EachText, IsTextOfNote, IsUpToDate, NoteText}
-
--- the texts of a note have the numbers from 1 up to this one
-abbrev pub MOST_TEXTS : ℕ
-MOST_TEXTS = 16
 
 -- what is seen of a note: its key, its chains, and its texts
 pub record NoteSeen : Type 0 where
@@ -19,7 +18,7 @@ pub record NoteSeen : Type 0 where
 
 -- the texts have the numbers from 1 on
 pub record AreNumberedTexts (texts : List NoteText) : Type 0 where
-  pub many : length texts ≡ MOST_TEXTS
+  pub many : length texts ≡ TEXTS
   pub numbers : EachText (λ k t. t.admission.text ≡ k + 1) texts
 
 -- it is of this note, and these entries came
@@ -40,6 +39,26 @@ KeepsEntries old new = (note : Note) (entries : Entries) → IsOfEntries old not
 abbrev pub TakesSaying : (old : NoteSeen) → Saying → (new : NoteSeen) → Type 0
 TakesSaying old s new = (note : Note) (entries : Entries) → AreToldApart (with_saying entries s)
     → IsOfEntries old note entries → IsOfEntries new note (with_saying entries s)
+
+-- more messages, in this order
+abbrev pub with_sayings : Entries → List Saying → Entries
+with_sayings entries more = record { claims = entries.claims; said = entries.said ++ more }
+
+-- they came
+abbrev pub TakesSayings : (old : NoteSeen) → List Saying → (new : NoteSeen) → Type 0
+TakesSayings old more new = (note : Note) (entries : Entries) → AreToldApart (with_sayings entries more)
+    → IsOfEntries old note entries → IsOfEntries new note (with_sayings entries more)
+
+-- the messages of an entry with this head and this body came
+abbrev pub TakesEntry : (old : NoteSeen) → Head → (body : List ℕ) → (new : NoteSeen) → Type 0
+TakesEntry old head body new =
+    (sayings : List Saying) × AreMessagesOf old.key head body sayings × TakesSayings old sayings new
+
+-- nothing of it came, or only the first of its messages
+abbrev pub TakesSomeOf : (old : NoteSeen) → Head → (body : List ℕ) → (new : NoteSeen) → Type 0
+TakesSomeOf old head body new =
+    KeepsEntries old new
+    ⊎ ((came rest : List Saying) × AreMessagesOf old.key head body (came ++ rest) × TakesSayings old came new)
 
 -- one claim more came
 abbrev pub TakesClaim : (old : NoteSeen) → Claim → (new : NoteSeen) → Type 0

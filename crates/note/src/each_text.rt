@@ -6,16 +6,17 @@ ghost use Rattle.note_laws.specs.Note.{Note, Entries, IsOfBase};
 ghost use Rattle.note_admission.specs.Growing.{AreAdmitted, IsOfLost, IsReplaced, StaysAdmitted};
 ghost use Rattle.note.specs.Notes.{AreNumberedTexts};
 ghost use Rattle.note.specs.Texts.{ArePairs, EachText, HasFollowed, HasAdmittedMore, IsSameText, IsUpToDate, NoteText as Seen};
+ghost use Rattle.note.specs.Editing.{FitsText, HasEditedText};
 
 use crate::note_text::NoteText;
+use crate::own_edit::OwnEdit;
 use char_files::{SiteNo, TextNo};
 use looks::Refusal;
 use note_admission::NoteChains;
+use note_bodies::TEXTS;
 use note_hashes::NoteKey;
 use std::alloc::Global;
-
-/// The texts of a note have the numbers from 1 up to this one.
-pub const TEXTS: u16 = 16;
+use texts::{EditRefusal, Outbox};
 
 // Of no text anything came; the base has messages of these numbers. Refused `OutOfMemory` alone.
 pub(crate) fn begin(alloc: Global, site: SiteNo, base: &[SiteNo]) -> Result<Vec<NoteText>, Refusal>
@@ -34,6 +35,23 @@ pub(crate) fn begin(alloc: Global, site: SiteNo, base: &[SiteNo]) -> Result<Vec<
         texts.push(NoteText::new(alloc, text, site, base)?)?;
     }
     Ok(texts)
+}
+
+// Edits a text as its site, and puts the messages after those that were sent.
+pub(crate) fn edit(
+    texts: &mut [NoteText],
+    at: usize,
+    edit: &OwnEdit,
+    outbox: &mut Outbox,
+) -> Result<u32, EditRefusal>
+    requires at { at < length texts.old }
+    requires fits { (d : Seen) → FitsText edit.now (slice_index_or texts.old at d).replica }
+    ensures len { length texts.new ≡ length texts.old }
+    ensures others { (k : ℕ) (d : Seen) → k ≢ at → slice_index_or texts.new k d ≡ slice_index_or texts.old k d }
+    ensures own { (d : Seen) → HasEditedText edit.now (slice_index_or texts.old at d) result (slice_index_or texts.new at d)
+        outbox.old outbox.new }
+{
+    texts[at].edit(edit, outbox)
 }
 
 // A message of this number may come to a text. Refused `OutOfMemory` alone.

@@ -1,25 +1,33 @@
-ghost use Rattle.std.specs.Prelude.{◌≡◌, ◌+◌, ◌<◌, IfNone, IfOk, IfSome, OnErr, OnOk};
+ghost use Rattle.std.specs.Prelude.{◌≡◌, ◌+◌, ◌<◌, ◌≤◌, ◌⊎◌, List, Err, IfErr, IfNone, IfOk, IfSome, OnErr, OnOk, length};
+ghost use Rattle.looks.specs.declared.refusal.Refusal.TheVariants as refusal;
 ghost use Rattle.looks.specs.Refusal.{RefusedForMemoryAlone};
-ghost use Rattle.note_laws.specs.Note.{Note as Definition, Entries};
+ghost use Rattle.note_laws.specs.Note.{Note as Definition, Entries, Saying as Said};
 ghost use Rattle.note_laws.specs.Laws.{IsBaseIdentified};
 ghost use Rattle.note_convergence.specs.Replicas.{TookWhatCounts};
 ghost use Rattle.note_entries.specs.Kept.{no_entries};
 ghost use Rattle.note_hashes.specs.Hashes.{digest_of};
 ghost use Rattle.note_admission.specs.Standing.{BeginsNote};
+ghost use Rattle.note_bodies.specs.Bodies.{AreMessagesOf};
+ghost use Rattle.note_bodies.specs.declared.messages.TheConstants.{TEXTS};
 ghost use Rattle.note.specs.Texts.{ArePairs, EachText, IsSameText};
-ghost use Rattle.note.specs.Notes.{IsOfEntries, KeepsEntries, MOST_TEXTS, ShowsWhatCounts, TakesClaim, TakesSaying};
+ghost use Rattle.note.specs.Notes.{IsOfEntries, KeepsEntries, ShowsWhatCounts, TakesClaim, TakesEntry, TakesSaying, TakesSomeOf};
+ghost use Rattle.note.specs.Texts.{NoteText as NoteTextSeen};
+ghost use Rattle.note.specs.Editing.{FitsText, HasEditedText, IsLastOfText, IsOtherwiseAsBefore, IsSaidWell, numbered_text};
 
-use crate::each_text::{self, TEXTS};
+use crate::each_text;
 use crate::note_text::NoteText;
+use crate::own_edit::OwnEdit;
 use char_files::{SiteNo, TextNo};
 use looks::Refusal;
 use note_admission::{NoteChains, Opening};
-use note_entries::{Claim, Saying};
+use note_bodies::{Head, TEXTS, messages_of};
+use note_entries::{Claim, Hash, Saying};
 use note_hashes::NoteKey;
 use note_replicas::laws::lemma_what_was_admitted_was_taken;
+use operations::Op;
 use std::alloc::Global;
 use std::marker::Model;
-use texts::Replica;
+use texts::{EditRefusal, Outbox, Replica};
 
 /// A note, as a site has it: what counts of its entries, in whatever order they came, decides what its texts show.
 #[derive(Drop)]
@@ -89,8 +97,8 @@ impl Note {
 
     // The place of a text, if the note has it.
     fn place(&self, text: TextNo) -> Option<usize>
-        ensures some { IfSome result (λ at. (at + 1 ≡ text) × (at < MOST_TEXTS)) }
-        ensures none { IfNone result (MOST_TEXTS < text) }
+        ensures some { IfSome result (λ at. (at + 1 ≡ text) × (at < TEXTS)) }
+        ensures none { IfNone result (TEXTS < text) }
     {
         if text.get() <= TEXTS {
             Some(text.get() as usize - 1)
@@ -102,6 +110,7 @@ impl Note {
     /// A message came, which counts after the next `update`. Refused `OutOfMemory` alone, and then it didn't.
     pub fn say(&mut self, saying: Saying) -> Result<(), Refusal>
         ensures ok { OnOk result (TakesSaying self.old saying self.new) }
+        ensures many { length self.new.texts ≡ length self.old.texts }
         ensures place { ArePairs (λ was t. IsSameText was t) self.old.texts self.new.texts }
         ensures err { OnErr result (KeepsEntries self.old self.new) }
         ensures errors { RefusedForMemoryAlone result }
@@ -120,12 +129,79 @@ impl Note {
         Ok(())
     }
 
+    /// An entry of messages came, which count after the next `update`.
+    ///
+    /// Refused `Malformed`, and nothing came, where the body isn't one of such an entry. Refused `OutOfMemory` where a part of its messages
+    /// may have come; once a further call comes through, all have.
+    pub fn add(&mut self, alloc: Global, head: &Head, body: &[u8]) -> Result<(), Refusal>
+        ensures ok { OnOk result (TakesEntry self.old head.now body.now self.new) }
+        ensures place { ArePairs (λ was t. IsSameText was t) self.old.texts self.new.texts }
+        ensures malformed { result ≡ Err refusal.Malformed
+            → (self.new ≡ self.old) × ((sayings : List Said) → ¬ AreMessagesOf self.old.key head.now body.now sayings) }
+        ensures err { OnErr result (TakesSomeOf self.old head.now body.now self.new) }
+        ensures errors { IfErr result (λ why. (why ≡ refusal.Malformed) ⊎ (why ≡ refusal.OutOfMemory)) }
+    {
+        for saying in messages_of(alloc, &self.key, head, body)? {
+            self.say(saying)?;
+        }
+        Ok(())
+    }
+
+    /// Edits a text as the note's site, and puts the messages after those that were sent. What was edited is shown at once; the next
+    /// `update` takes it back unless its messages are said before.
+    pub fn edit(
+        &mut self,
+        text: TextNo,
+        edit: &OwnEdit,
+        outbox: &mut Outbox,
+    ) -> Result<u32, EditRefusal>
+        requires has { text ≤ TEXTS }
+        requires fits { (d : NoteTextSeen) → FitsText edit.now (numbered_text self.old text d).replica }
+        ensures own { (d : NoteTextSeen) → HasEditedText edit.now (numbered_text self.old text d) result (numbered_text self.new text d)
+            outbox.old outbox.new }
+        ensures rest { IsOtherwiseAsBefore text self.old self.new }
+        ensures keeps { KeepsEntries self.old self.new }
+    {
+        let Some(at) = self.place(text) else {
+            unreachable!()
+        };
+        each_text::edit(&mut self.texts, at, edit, outbox)
+    }
+
+    /// The hash of the last message that counts of a number in a text, as of the last `update`; zeros for none. The number's next message
+    /// is said after it.
+    pub fn last(&self, text: TextNo, site: SiteNo) -> Hash
+        requires { text ≤ TEXTS }
+        ensures { (d : NoteTextSeen) → IsLastOfText (numbered_text self.now text d) site result }
+    {
+        let Some(at) = self.place(text) else {
+            unreachable!()
+        };
+        self.texts[at].last(site)
+    }
+
+    /// What an author says by an operation of his own, after the message of this hash: to be put into an entry, and said. Of several
+    /// messages of an edit each is said after the one before it.
+    ///
+    /// Refused `Behind` where it mentions another's character that doesn't count, and `OutOfMemory`.
+    pub fn own_saying(&self, author: Hash, before: Hash, op: Op) -> Result<Saying, Refusal>
+        requires { op.text ≤ TEXTS }
+        ensures ok { IfOk result (λ s. (d : NoteTextSeen)
+            → IsSaidWell self.now.key author before op (numbered_text self.now op.text d) s) }
+        ensures errors { IfErr result (λ why. (why ≡ refusal.Behind) ⊎ (why ≡ refusal.OutOfMemory)) }
+    {
+        let Some(at) = self.place(op.text()) else {
+            unreachable!()
+        };
+        self.texts[at].own_saying(&self.key, author, before, op)
+    }
+
     /// A text, `None` where the note has no such text. After an `update` that came through it shows what counts of the entries that came.
     pub fn text(&self, text: TextNo) -> Option<&Replica>
         ensures some { IfSome result (λ r. (note : Definition) (entries : Entries) → IsOfEntries self.now note entries
             → ShowsWhatCounts self.now → TookWhatCounts note entries r.now) }
         ensures number { IfSome result (λ r. r.now.text ≡ text) }
-        ensures none { IfNone result (MOST_TEXTS < text) }
+        ensures none { IfNone result (TEXTS < text) }
     {
         lemma_what_was_admitted_was_taken();
         let replica = self.texts[self.place(text)?].replica();

@@ -1,20 +1,25 @@
 //! A text of a note.
 
-ghost use Rattle.std.specs.Prelude.{◌≡◌, ℕ, ◌<◌, ◌↔◌, [], length, slice_get, Contains, IfOk, IsTrue, OnErr, OnOk};
+ghost use Rattle.std.specs.Prelude.{◌≡◌, ℕ, ◌<◌, ◌↔◌, ◌⊎◌, [], length, slice_get, Contains, IfErr, IfOk, IsTrue, OnErr, OnOk};
+ghost use Rattle.looks.specs.declared.refusal.Refusal.TheVariants as refusal;
 ghost use Rattle.looks.specs.Refusal.{RefusedForMemoryAlone};
 ghost use Rattle.note_laws.specs.Note.{Note, Entries, IsOfBase};
 ghost use Rattle.note_admission.specs.Growing.{AreAdmitted, IsOfLost, IsReplaced, StaysAdmitted};
 ghost use Rattle.note_replicas.specs.Following.{HasTakenJust};
 ghost use Rattle.note.specs.Texts.{HasFollowed, HasAdmittedMore, IsSameText, IsUpToDate};
+ghost use Rattle.note.specs.Editing.{FitsText, HasEditedText, IsLastOfText, IsSaidWell};
 
+use crate::own_edit::OwnEdit;
 use char_files::{SiteNo, TextNo};
 use looks::Refusal;
 use note_admission::{NoteChains, TextAdmission};
+use note_entries::{Hash, Saying};
 use note_hashes::NoteKey;
 use note_replicas::take_rest;
+use operations::Op;
 use std::alloc::Global;
 use std::marker::Model;
-use texts::Replica;
+use texts::{EditRefusal, Outbox, Replica};
 
 // A replica that takes in what is admitted of its text.
 #[derive(Drop)]
@@ -65,6 +70,48 @@ impl NoteText {
         ensures text { result.now.text ≡ self.now.admission.text }
     {
         &self.replica
+    }
+
+    // Edits the replica as its site, and puts the messages after those that were sent.
+    pub(crate) fn edit(&mut self, edit: &OwnEdit, outbox: &mut Outbox) -> Result<u32, EditRefusal>
+        requires { FitsText edit.now self.old.replica }
+        ensures { HasEditedText edit.now self.old result self.new outbox.old outbox.new }
+    {
+        match edit {
+            OwnEdit::Insert { pos, buffer } => self.replica.insert(*pos, buffer, outbox),
+            OwnEdit::Delete { beg, end } => self.replica.delete(*beg, *end, outbox),
+            OwnEdit::ChangeLooks {
+                beg,
+                end,
+                sel,
+                looks,
+            } => { self.replica.change_looks(*beg, *end, *sel, looks, outbox) }
+            OwnEdit::ByNames { what, names } => { self.replica.edit_by_names(*what, names, outbox) }
+        }
+    }
+
+    // The hash of the last message that is admitted of a number, zeros for none.
+    pub(crate) fn last(&self, site: SiteNo) -> Hash
+        ensures { IsLastOfText self.now site result }
+    {
+        self.admission.last(site)
+    }
+
+    // What an author says by this operation, after the message of this hash.
+    //
+    // Refused `Behind` where it mentions another's character that isn't admitted, and `OutOfMemory`.
+    pub(crate) fn own_saying(
+        &self,
+        key: &NoteKey,
+        author: Hash,
+        before: Hash,
+        op: Op,
+    ) -> Result<Saying, Refusal>
+        ensures ok { IfOk result (λ s. IsSaidWell key.now author before op self.now s) }
+        ensures errors { IfErr result (λ why. (why ≡ refusal.Behind) ⊎ (why ≡ refusal.OutOfMemory)) }
+    {
+        let on = self.admission.builds_on(key, &op)?;
+        key.saying(self.alloc, author, before, op, on)
     }
 
     // A message of this number may come. Refused `OutOfMemory` alone, and then all is as before.

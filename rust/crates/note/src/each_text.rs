@@ -2,14 +2,14 @@
 //! What is done with each text of a note.
 
 use crate::note_text::NoteText;
+use crate::own_edit::OwnEdit;
 use char_files::{SiteNo, TextNo};
 use fallible::{Global, Vec};
 use looks::Refusal;
 use note_admission::NoteChains;
+use note_bodies::TEXTS;
 use note_hashes::NoteKey;
-
-/// The texts of a note have the numbers from 1 up to this one.
-pub const TEXTS: u16 = 16;
+use texts::{EditRefusal, Outbox};
 
 // Of no text anything came; the base has messages of these numbers. Refused `OutOfMemory` alone.
 pub(crate) fn begin(alloc: Global, site: SiteNo, base: &[SiteNo]) -> Result<Vec<NoteText>, Refusal> {
@@ -21,6 +21,16 @@ pub(crate) fn begin(alloc: Global, site: SiteNo, base: &[SiteNo]) -> Result<Vec<
         texts.push(NoteText::new(alloc, text, site, base)?)?;
     }
     Ok(texts)
+}
+
+// Edits a text as its site, and puts the messages after those that were sent.
+pub(crate) fn edit(
+    texts: &mut [NoteText],
+    at: usize,
+    edit: &OwnEdit,
+    outbox: &mut Outbox,
+) -> Result<u32, EditRefusal> {
+    texts[at].edit(edit, outbox)
 }
 
 // A message of this number may come to a text. Refused `OutOfMemory` alone.

@@ -5,6 +5,8 @@
 mod each_text;
 mod note;
 mod note_text;
+mod own_edit;
 
-pub use each_text::TEXTS;
 pub use note::Note;
+pub use note_bodies::{Head, TEXTS};
+pub use own_edit::OwnEdit;

@@ -3,6 +3,7 @@
 mod driven;
 #[path = "../note_rows.rs"]
 mod note_rows;
+mod own_edits;
 mod played;
 
 use calls::is;

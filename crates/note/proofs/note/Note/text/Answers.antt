@@ -1,4 +1,4 @@
-use Rattle.std.proofs.Common.{◌≡◌, ◌<◌, ℕ, List, length, sym, ap, subst, ◌∙◌, arith}
+use Rattle.std.proofs.Common.{◌<◌, ℕ, List, length, sym, ap, subst, ◌∙◌, arith}
 use Rattle.operations.specs.Operation.{Operation}
 use Rattle.texts.specs.TextState.{TextState}
 use Rattle.note_laws.specs.Admission.{IsAdmission}

@@ -1,7 +1,6 @@
-use Rattle.std.proofs.Common.{ℕ, List, ap, subst, ◌∙◌}
-use Rattle.texts.specs.TextState.{TextState}
+use Rattle.std.proofs.Common.{ap, subst, ◌∙◌}
 use Rattle.note_hashes.specs.Hashes.{digest_of}
-use Rattle.note_admission.specs.Growing.{AdmissionGrows, TextSeen}
+use Rattle.note_admission.specs.Growing.{AdmissionGrows}
 use Rattle.note_admission.specs.Standing.{AreChainsOf}
 use Rattle.note.specs.Texts.{NoteText}
 use Rattle.note.proofs.Following.{grown, place_then, same_place}

@@ -1,0 +1,59 @@
+-- Edits of a site's own, in a text of a note.
+use Rattle.std.specs.Prelude.{◌≡◌, ◌≢◌, ℕ, ◌+◌, ◌-◌, ◌≤◌, IsTrue, List, length, slice_index_or, Result}
+use Rattle.operations.specs.Operation.{Operation}
+use Rattle.texts.specs.Edit.{insertion, deletion, looks_change}
+use Rattle.texts.specs.Named.{EditsByNamesSending, are_here}
+use Rattle.texts.specs.Outcome.{EditsSending}
+use Rattle.texts.specs.TextState.{TextState, shown_of}
+use Rattle.texts.specs.declared.edit_refusal.EditRefusal.{EditRefusal}
+use Rattle.note_laws.specs.Note.{Note, Entries, Saying}
+use Rattle.note_laws.specs.Admission.{BuildsOn}
+use Rattle.note_admission.specs.Growing.{AreTaken, IsLastHash}
+use Rattle.note_hashes.specs.Hashes.{digest_of, said_by}
+use Rattle.note.specs.Notes.{NoteSeen}
+use Rattle.note.specs.Texts.{NoteText}
+use Rattle.note.specs.declared.own_edit.OwnEdit.{OwnEdit}
+use Rattle.note.specs.declared.own_edit.OwnEdit.TheVariants.{Insert, Delete, ChangeLooks, ByNames}
+
+-- its positions lie in the text, and the characters that it names are here
+abbrev pub FitsText : OwnEdit → TextState → Type 0
+FitsText (Insert pos buffer) t = pos ≤ length (shown_of t)
+FitsText (Delete beg end) t = (beg ≤ end) × (end ≤ length (shown_of t))
+FitsText (ChangeLooks beg end sel looks) t = (beg ≤ end) × (end ≤ length (shown_of t))
+FitsText (ByNames what names) t = IsTrue (are_here t names.items)
+
+-- what a replica's edit does
+abbrev pub DoesEdit : OwnEdit → TextState → Result ℕ EditRefusal → TextState → (sent sent' : List (List ℕ)) → Type 0
+DoesEdit (Insert pos buffer) t result new sent sent' = EditsSending t (insertion pos buffer) result new sent sent'
+DoesEdit (Delete beg end) t result new sent sent' = EditsSending t (deletion beg end) result new sent sent'
+DoesEdit (ChangeLooks beg end sel looks) t result new sent sent' =
+    EditsSending t (looks_change beg end sel looks) result new sent sent'
+DoesEdit (ByNames what names) t result new sent sent' = EditsByNamesSending t what names.items result new sent sent'
+
+-- the replica of a text was edited, and nothing else changed
+abbrev pub HasEditedText : OwnEdit → (old : NoteText) → Result ℕ EditRefusal → (new : NoteText) → (sent sent' : List (List ℕ))
+    → Type 0
+HasEditedText edit old result new sent sent' =
+    DoesEdit edit old.replica result new.replica sent sent' × (new ≡ record old { replica = new.replica })
+
+-- a text of a note
+abbrev pub numbered_text : NoteSeen → (text : ℕ) → NoteText → NoteText
+numbered_text n text d = slice_index_or n.texts (text - 1) d
+
+-- but for this text it is as before
+pub record IsOtherwiseAsBefore (text : ℕ) (old new : NoteSeen) : Type 0 where
+  pub rest : new ≡ record old { texts = new.texts }
+  pub many : length new.texts ≡ length old.texts
+  pub others : (k : ℕ) (d : NoteText) → k + 1 ≢ text → slice_index_or new.texts k d ≡ slice_index_or old.texts k d
+
+-- of what is admitted of a number this is the last one's hash
+abbrev pub IsLastOfText : NoteText → (site hash : ℕ) → Type 0
+IsLastOfText t site hash =
+    (note : Note) (entries : Entries) (admitted : List Saying) → AreTaken note entries t.admission admitted
+    → IsLastHash admitted site hash
+
+-- an author says it after this message, with its hash, and what it builds on
+pub record IsSaidWell (key : List ℕ) (author before : ℕ) (op : Operation) (t : NoteText) (s : Saying) : Type 0 where
+  pub said : s ≡ said_by key author before op s.on
+  pub builds : (note : Note) (entries : Entries) (admitted : List Saying) → note.digest ≡ digest_of key
+      → AreTaken note entries t.admission admitted → BuildsOn note admitted s
