@@ -151,6 +151,20 @@ function M.differing(old, new)
   return first, #old - same, #new - same
 end
 
+--- The least key of a table; nil where it has none.
+function M.least(keys)
+  local found
+  for each in pairs(keys) do
+    found = math.min(found or each, each)
+  end
+  return found
+end
+
+if jit then
+  -- The LuaJIT of 2022 that Neovim 0.7 has on Debian 12 compiles this loop wrong: what it finds is lost at times.
+  jit.off(M.least)
+end
+
 --- Some bytes of lines, from a row and a column on. A line end that isn't shown is one of them.
 local function slice(lines, row, column, size)
   local found, number = lines[row + 1]:sub(column + 1), row + 2
