@@ -14,6 +14,7 @@ from share.engine.changes import changed_in_units
 from share.engine.looked import up_to
 from share.format.history import Messages
 from share.program.changed import WhatChanged, changed
+from share.review.hidden import before_hidden
 from share.store import contents, nicknames, notes, read_only, seen
 from share.store.read_only import Judged
 from share.text.errors import Trouble, counted
@@ -81,7 +82,9 @@ def _compared(given: argparse.Namespace, there: Judged, messages: Messages) -> _
         until = len(messages) if given.until is None else given.until
         if not 0 <= since["at"] <= until <= len(messages):
             raise Trouble(f"The note's history has {counted(len(messages), 'message')}, and --since and --until have to rise.")
-        return _Since(since["at"], f"message {since['at']:,}", messages[:since["at"]], messages[since["at"]:until])
+        suggested = contents.suggested(there)
+        begin, end = (before_hidden(messages, place, suggested) for place in (since["at"], until))
+        return _Since(since["at"], f"message {since['at']:,}", messages[:begin], messages[begin:end])
     if given.until is not None:
         raise Trouble("--until needs --since N.")
     looks = up_to(seen.looks_at(given.name, there.about.form().note), since.get("time"))

@@ -18,6 +18,7 @@ from share.log.sqlite_file import WRITTEN_AHEAD, beside
 from share.program import replay, retyping
 from share.program.replay import Replays, HistoryStep, Wrote
 from share.program.site import Site
+from share.review.hidden import before_hidden
 from share.store import atomic, contents, nicknames, notes, read_only
 from share.store.contents import Contents
 from share.store.read_only import Judged
@@ -85,11 +86,12 @@ def _exported(given: argparse.Namespace, there: Judged) -> tuple[bytes, list[str
 
 def history(given: argparse.Namespace) -> int:
     """Prints a note's text as it was."""
-    messages, missing, left_out = _found_messages(given)
+    there = _what_there_is(given)
+    messages, missing, left_out = contents.contents_of(given.name, there)
     if not 0 <= given.at <= len(messages):
         raise Trouble(f"The note's history has {counted(len(messages), 'message')}.")
     replays = Replays()
-    past = replays.past(messages, given.at)
+    past = replays.past(messages, before_hidden(messages, given.at, contents.suggested(there)))
     replays.close()
     text = readable(swapped(past.text))
     if given.json:

@@ -1,5 +1,5 @@
 """What changed of a note since this person looked at it, or since another time: the request `changed`."""
-from collections.abc import Callable
+from collections.abc import Callable, Set
 from typing import NamedTuple, Protocol
 
 from share.admission.fronts import parted, parted_by_causes
@@ -14,10 +14,12 @@ from share.format.history import Messages
 from share.program import replay
 from share.program.changed import WhatChanged, Went, changed
 from share.program.replay import Wrote
+from share.review.hidden import before_hidden
 from share.sync.session import Session
 from share.text.change import boundary
 from share.text.errors import Trouble
 from share.text.line import Line
+from share.text.names import Names
 from share.text.rope import Measured, readable, swapped
 from share.text.units import Units
 
@@ -46,11 +48,11 @@ class Changes:
     def __init__(self, session: Session, text: SharedText, authors: Authors, looked: PersonsLooks, later: Later):
         self._session, self._text, self._authors, self._looked, self._later = session, text, authors, looked, later
 
-    def changed(self, peer: Peer, request: Line) -> None:
-        """Does the request, in the thread."""
+    def changed(self, peer: Peer, request: Line, suggested: Callable[[], Set[Names]]) -> None:
+        """Does the request, in the thread; without replacements that are suggested, as long as they are hidden."""
         transformer = peer.transformer
         transformer.seen(protocol.number(request, "version"))
-        times, units = self._times(request), transformer.units
+        times, units = self._times(request, suggested), transformer.units
         # The text goes on meanwhile.
         track, shown = self._text.track(units), self._text.measured.as_note()
 
@@ -68,14 +70,19 @@ class Changes:
 
         self._later(peer, request, work, as_line)
 
-    def _times(self, request: Line) -> _Times:
+    def _times(self, request: Line, suggested: Callable[[], Set[Names]]) -> _Times:
         """What a request compares."""
         since, messages = request.get("since", LOOKED), self._session.site.history[:]
         if isinstance(since, dict) and "at" in since:
             at, until = protocol.number(since, "at"), protocol.number(request, "until", len(messages))
             if not at <= until <= len(messages):
                 raise Wrong("outside", f"The history has {len(messages):,} messages, and since and until have to rise.")
-            return _Times(at, lambda: (messages[:at], messages[at:until]), "until" not in request)
+            hidden = suggested()
+
+            def between() -> tuple[Messages, Messages]:
+                begin, end = (before_hidden(messages, place, hidden) for place in (at, until))
+                return messages[:begin], messages[begin:end]
+            return _Times(at, between, "until" not in request)
         if isinstance(since, dict) and "time" in since:
             looks = self._looked.looks(protocol.number(since, "time"))
         elif since == LOOKED:

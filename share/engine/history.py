@@ -10,6 +10,7 @@ from share.engine.protocol import Wrong
 from share.engine.shared_text import SharedText
 from share.program import replay
 from share.program.replay import Past, Replays, Wrote
+from share.review.hidden import before_hidden
 from share.sync.session import Session
 from share.text.line import Line
 from share.text.names import Names
@@ -48,15 +49,15 @@ class History:
 
         self.answer_when_done(peer, request, work, with_names)
 
-    def past(self, peer: Peer, request: Line) -> None:
-        """Does the request `past`, in the thread."""
+    def past(self, peer: Peer, request: Line, suggested: Set[Names]) -> None:
+        """Does the request `past`, in the thread; without replacements that are suggested, as long as they are hidden."""
         at, units = protocol.number(request, "at"), peer.transformer.units
         messages = self._session.site.history[:]
         if at > len(messages):
             raise Wrong("outside", f"The history has {len(messages):,} messages.")
 
         def work() -> tuple[Past, list[Wrote]]:
-            past = self._replays.past(messages, at)
+            past = self._replays.past(messages, before_hidden(messages, at, suggested))
             return past, replay.in_units(Measured(past.text), past.wrote, units)
 
         def as_line(found: tuple[Past, list[Wrote]]) -> Line:

@@ -131,8 +131,9 @@ HANDLERS: dict[str, Callable[[SharedNote, Peer, Line], Line | None]] = {
     "who": lambda note, peer, request: note.history.who(peer, request),
     "history": lambda note, peer, request: note.reviewing.after_look(
         peer, request, lambda: note.history.steps(peer, request, note.reviewing.suggested())),
-    "past": lambda note, peer, request: note.history.past(peer, request),
-    "changed": lambda note, peer, request: note.changes.changed(peer, request),
+    "past": lambda note, peer, request: note.reviewing.after_look(
+        peer, request, lambda: note.history.past(peer, request, note.reviewing.suggested())),
+    "changed": lambda note, peer, request: note.changes.changed(peer, request, note.reviewing.suggested),
     "lost": lambda note, *_: note.by_name.lost(),
     "recover": lambda note, *_: note.by_name.recover(),
     "save": lambda note, _, request: note.save(request),

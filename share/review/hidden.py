@@ -20,6 +20,16 @@ def hidden_at_once(suggested: Set[Names], messages: Messages) -> set[tuple[int, 
     return {(one.site, seq) for one, runs in runs_of.items() if not any(_shown_after(one, runs)) for seq in found[one]}
 
 
+def before_hidden(messages: Messages, at: int, suggested: Set[Names]) -> int:
+    """A place of the messages; where that is between what types such a replacement and what hides it, the one before both."""
+    if not suggested or not 0 < at < len(messages) or not messages[at - 1].data or messages[at].site != messages[at - 1].site:
+        return at
+    passed_over = hidden_at_once(suggested, messages)
+    while at and (last := messages[at - 1]).data and (last.site, last.seq) in passed_over:
+        at -= 1
+    return at
+
+
 def _typed_and_hidden(suggested: Set[Names], runs: Iterable[Operation]) -> Iterator[tuple[Names, range]]:
     """The replacements that are typed by messages of their own and hidden by the next one, with the seqs of these."""
     # What each site typed in a row last.

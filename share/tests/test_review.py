@@ -397,6 +397,20 @@ class Suggestions(Reviewed):
         self.ask("undo")
         self.assertEqual([step[2] for step in steps()][:1], [4])
 
+    def test_nothing_else_has_a_replacement_as_long_as_it_is_hidden(self) -> None:
+        self.type(0, 0, "abc")
+        before = self.ask("history")["length"]
+        thread = self.suggest("b", "HIDDEN")
+        for at in range(before, self.ask("history")["length"] + 1):
+            self.assertEqual(self.ask("past", at=at)["text"], "abc", at)
+            changed = self.ask("changed", since={"at": before}, until=at)
+            self.assertEqual((changed["came"], changed["went"]), ([], []), at)
+        self.assertEqual([(one["begin"], one["end"]) for one in self.ask("who", begin=0, end=3)["stretches"]], [(0, 3)])
+        # What is taken back is what was typed; the suggestion stays.
+        self.assertTrue(self.ask("undo")["done"])
+        self.shows("")
+        self.assertEqual((self.one()["id"], self.one()["new"], self.one()["state"]), (thread, "HIDDEN", "open"))
+
 
 class Unseen(Reviewed):
     """What was typed meanwhile, and whoever asks hasn't seen, is no part of what is said of a passage."""

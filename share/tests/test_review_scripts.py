@@ -115,6 +115,12 @@ class Threads(ReviewCase):
         thread = self.note("suggest", "plan", "--on", "jam", "tea").strip()
         typed = self.note("log", "plan").splitlines()
         self.assertEqual([line.split()[-2:] for line in typed], [["typed", "'jam\\n'"]])
+        length = json.loads(self.note("log", "plan", "--json"))["length"]
+        begin = int(typed[0].split()[0])
+        self.assertEqual(length, begin + 2)
+        for at in range(begin, length + 1):
+            self.assertEqual(self.note("history", "plan", "--at", str(at)), "jam\n")
+            self.assertIn("Nothing changed.", self.note("changed", "plan", "--since", str(begin), "--until", str(at)))
         self.note("accept", "plan", thread)
         self.assertIn("accepted  Ada", self.note("remarks", "plan"))
         self.assertIn("- jam\n  + tea", self.note("remarks", "plan"))

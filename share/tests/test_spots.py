@@ -1,6 +1,8 @@
-"""Where threads are in the text: as it is when all is looked up anew, whatever was typed, deleted and brought back meanwhile."""
+"""Where threads are in the text: as it is when all is looked up anew, whatever was typed, deleted and brought back meanwhile. What a key
+costs beside few remarks and very many is printed where VIALSHOAL_FIGURES is set, as `share/tests/run` doesn't."""
 import itertools
 import json
+import os
 import random
 import unittest
 from collections.abc import Callable
@@ -28,6 +30,8 @@ from share.text.change import Change, make
 from share.text.errors import Trouble
 from share.text.line import Line
 from share.text.names import Names, united
+
+FIGURES = bool(os.environ.get("VIALSHOAL_FIGURES"))
 
 
 class Anew(Reviewed):
@@ -269,6 +273,8 @@ class Anew(Reviewed):
                 worked.setdefault(name, []).append(instructions(work))
         self.assertEqual(shown.counts(), (100_000, 100_000))
         for counted, (few, many) in worked.items():
+            if FIGURES:
+                print(f"{counted}: {few} instructions beside 10 remarks, {many} beside 100,000")
             self.assertLess(many, 1.1 * few, counted)
 
     def test_a_key_within_what_very_many_remarks_are_about_costs_the_same(self) -> None:

@@ -68,6 +68,40 @@ function Child:begin(keys)
   support.wait(function() return vim.rpcrequest(self.job, 'nvim_get_mode').blocking end, keys)
 end
 
+--- Gives it a screen of so many columns: without one it asks for no key where words are wider.
+function Child:gets_screen(columns)
+  vim.rpcrequest(self.job, 'nvim_ui_attach', columns, 24, vim.empty_dict())
+  self:run([[
+    local echo = vim.api.nvim_echo
+    vim.api.nvim_echo = function(...)
+      echo(...)
+      vim.rpcnotify(1, 'nvim_exec_lua', "require('test.support').has_echoed = true", {})
+    end
+  ]])
+end
+
+--- Types keys, and waits until something is said because of them; whether it takes commands then, and wants no key first.
+function Child:says_and_goes_on(keys)
+  support.has_echoed, support.goes_on = false, false
+  self:press(keys)
+  local blocks
+  local function waits_until(is_so)
+    support.wait(function()
+      blocks = vim.rpcrequest(self.job, 'nvim_get_mode').blocking
+      return blocks or is_so()
+    end, keys)
+  end
+  waits_until(function() return support.has_echoed end)
+  if not blocks then
+    vim.rpcnotify(self.job, 'nvim_exec_lua', [[vim.rpcnotify(1, 'nvim_exec_lua', "require('test.support').goes_on = true", {})]], {})
+    waits_until(function() return support.goes_on end)
+  end
+  if blocks then
+    self:press('<CR>')
+  end
+  return not blocks
+end
+
 --- Its text.
 function Child:text()
   return self:run([[

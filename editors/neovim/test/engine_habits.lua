@@ -116,7 +116,8 @@ with_folder('who is sent the text anew is told', function(open)
   ada:type('A!<Esc>')
   support.wait(function() return ada:is_quiet() and ada:text() == 'tea' end, 'the text')
   support.wait(function()
-    local told = ada:run([[return vim.fn.execute('messages')]])
+    -- It is wider than the screen.
+    local told = ada:run([[return vim.fn.execute('messages')]]):gsub('\n', ' ')
     return told:find('There is no version 99 that this editor can have. The note has another text; that of before is in buffer %d')
   end, 'words')
 end)
@@ -216,7 +217,7 @@ with_folder('undo by Vim\'s commands works, or says what to use', function(open)
   ada:shows('one\ntwo\nthree')
   for _, keys in ipairs({ ':earlier 10s<CR>', ':undo 1<CR>', ':later 1f<CR>', ':undolist<CR>', 'U' }) do
     ada:type('<Cmd>messages clear<CR>' .. keys)
-    support.wait(function() return told():find(':VialshoalHistory has older texts', 1, true) end, keys)
+    support.wait(function() return told():find('or :VialshoalHistory.', 1, true) end, keys)
   end
   ada:shows('one\ntwo\nthree')
   -- In other buffers all are Vim's own.
@@ -263,7 +264,7 @@ with_folder('no note is made for a name that is none', function(_, folder)
     local buffers = ada:run('return #vim.api.nvim_list_bufs()')
     ada:type('<Cmd>messages clear<CR>:Vialshoal ' .. name .. '<CR>')
     support.wait(function()
-      return ada:run([[return vim.fn.execute('messages')]]):find('A name has letters without accents', 1, true)
+      return ada:run([[return vim.fn.execute('messages')]]):find('A name has plain letters', 1, true)
     end, name)
     support.same(buffers, ada:run('return #vim.api.nvim_list_bufs()'))
   end
@@ -324,7 +325,7 @@ with_folder('who is offline is told, once', function(open, folder)
   -- Not a folder in which a new log could be made.
   vim.fn.writefile({}, folder .. '/shared')
   ada:type('ione<Esc>')
-  local offline = 'Note picnic: offline. What you type is kept, and sent later.'
+  local offline = 'Offline, all is kept and sent later: picnic'
   support.wait(function() return vim.deep_equal({ offline }, ada:run('return told')) end, 'words')
   ada:type('otwo<Esc>')
   support.wait(function() return ada:run('return v.note().state.unsent > 1') end, 'what is unsent')
@@ -332,7 +333,7 @@ with_folder('who is offline is told, once', function(open, folder)
   vim.fn.delete(folder .. '/shared')
   vim.fn.rename(folder .. '/away', folder .. '/shared')
   support.wait(function()
-    return vim.deep_equal({ offline, 'Note picnic: online again, all is sent.' }, ada:run('return told'))
+    return vim.deep_equal({ offline, 'Online again, all is sent: picnic' }, ada:run('return told'))
   end, 'words')
 end)
 

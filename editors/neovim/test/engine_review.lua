@@ -154,7 +154,7 @@ with_two('who comes back sees what changed', 'tea and jam', function(ada, bo, op
   local again = open('Ada')
   again:shows(bo:text())
   again:type(':VialshoalChanged<CR>')
-  tells(again, '2 stretches changed')
+  tells(again, '2 changed')
   local words = again:run([[return vim.tbl_map(function(item) return item.text end, vim.fn.getqflist())]])
   table.sort(words)
   support.same({ 'Came, of Bo', 'Went, of you: and' }, words)
@@ -217,4 +217,20 @@ with_two('what is typed is suggested where one chose that', 'tea and jam\nmilk',
     found)
   bo:type('gg0x')
   ada:shows(' tea and jam\nmilk')
+end)
+
+with_two('what is said fits on a narrow screen', 'tea and jam', function(ada, bo)
+  bo:type('o' .. ('bread '):rep(40) .. '<Esc>0:VialshoalRemark ' .. ('long '):rep(40) .. '<CR>')
+  support.wait(function() return ada:run('return v.note().remarks.open') == 1 end, 'a remark')
+  ada:gets_screen(70)
+  local path = '/tmp/' .. ('none/'):rep(30) .. 'x'
+  for _, keys in ipairs({ ':VialshoalChanged 1<CR>', ':VialshoalChanged x<CR>', ':VialshoalNext<CR>', ':VialshoalWho<CR>',
+    ':VialshoalRevise ' .. ('word '):rep(30) .. '<CR>', ':VialshoalAccept!<CR>', ':VialshoalReopen<CR>', ':VialshoalSuggestMode<CR>', 'u',
+    ':VialshoalSuggestMode<CR>', '<C-r>', 'U', ':earlier 3f<CR>', ':Vialshoal a/b<CR>', ':w<CR>', ':w ' .. path .. '<CR>',
+    ':VialshoalHistory<CR>' }) do
+    assert(ada:says_and_goes_on(keys), keys)
+  end
+  -- What doesn't fit is kept.
+  local told = ada:run([[return vim.fn.execute('messages')]])
+  assert(told:gsub('\n', ''):find(path, 1, true), told)
 end)

@@ -48,9 +48,8 @@ local function show(note, answer)
     return one.lnum < other.lnum or one.lnum == other.lnum and one.col < other.col
   end)
   vim.fn.setqflist({}, ' ', { title = 'What changed in ' .. (note.name or ''), items = items })
-  local count = #items == 1 and '1 stretch' or ('%d stretches'):format(#items)
   note.shows.words(#items == 0 and 'Nothing has changed since you looked.'
-    or count .. ' changed; :cnext goes there, :VialshoalChanged! ends it.')
+    or ('%d changed: :cnext goes there, :VialshoalChanged! ends it.'):format(#items))
 end
 
 --- Shows what changed since the user looked, or since so many hours.

@@ -1,5 +1,6 @@
 --- A note's older texts, step by step, with who wrote what in colours.
 local api = vim.api
+local say = require('vialshoal.say')
 local text = require('vialshoal.text')
 
 local M = {}
@@ -87,14 +88,14 @@ local function browse(note, steps, left_out)
     at = math.max(0, math.min(to, #left_out > 0 and #steps + 1 or #steps))
     if at > #steps then
       show(buffer, as_past(left_out))
-      api.nvim_echo({ { words(steps, left_out, at) } }, false, {})
+      say.passing(words(steps, left_out, at))
       return
     end
     local asked = at
     note:ask({ ['do'] = 'past', at = at == 0 and 0 or steps[at]['end'] }, function(answer)
       if answer.text and asked == at and api.nvim_buf_is_valid(buffer) then
         show(buffer, answer)
-        api.nvim_echo({ { words(steps, left_out, at) } }, false, {})
+        say.passing(words(steps, left_out, at))
       end
     end)
   end

@@ -9,6 +9,7 @@ local engine = require('vialshoal.engine')
 local history = require('vialshoal.history')
 local interrupt = require('vialshoal.interrupt')
 local review = require('vialshoal.review')
+local say = require('vialshoal.say')
 local text = require('vialshoal.text')
 local undo = require('vialshoal.undo')
 
@@ -53,10 +54,6 @@ local function clock()
   return vim.loop.hrtime() / 1e9
 end
 
-local function say(words)
-  api.nvim_echo({ { tostring(words) } }, true, {})
-end
-
 --- The notes that are open, by their buffers.
 function M.notes()
   return notes
@@ -73,7 +70,7 @@ local function beside(words)
   vim.bo[buffer].modeline = false
   api.nvim_buf_set_lines(buffer, 0, -1, false, vim.split(words, '\n', { plain = true }))
   local told = ('The note has another text; that of before is in buffer %d.'):format(buffer)
-  say(told)
+  say.words(told)
   return told
 end
 
@@ -155,11 +152,11 @@ end
 function M.write(note, path)
   if path == PREFIX .. note.name then
     vim.bo[note.buffer].modified = false
-    return say('All is kept; :w FILE saves it as a file.')
+    return say.words('All is kept; :w FILE saves it as a file.')
   end
   note:ask({ ['do'] = 'save', path = path, replace = vim.v.cmdbang == 1 }, function(answer)
     if answer.path then
-      say('Saved as ' .. answer.path)
+      say.words('Saved as ' .. answer.path)
     end
   end)
 end
@@ -183,7 +180,7 @@ local function guarded(call, ...)
   elseif interrupt.is_told_by(why) then
     interrupt.press()
   else
-    say('Vialshoal: ' .. tostring(why))
+    say.words('Vialshoal: ' .. tostring(why))
   end
   return false
 end
@@ -213,11 +210,11 @@ local function ended(note, words)
   note.shows.cursors({})
   review.ended(note)
   if was_steady then
-    say('The engine has ended, and is started anew. ' .. words)
+    say.words('The engine has ended, and is started anew. ' .. words)
     start(note)
   else
     note.job = nil
-    say("The note isn't open any more. " .. words)
+    say.words("The note isn't open any more. " .. words)
   end
 end
 
@@ -307,10 +304,10 @@ end
 local function tell_of_log(note, state)
   if state.log == 'away' and not note.was_away then
     note.was_away = true
-    vim.notify(('Note %s: offline. What you type is kept, and sent later.'):format(note.name), vim.log.levels.WARN)
+    vim.notify(say.short(('Offline, all is kept and sent later: %s'):format(note.name)), vim.log.levels.WARN)
   elseif state.log == 'sent' and note.was_away then
     note.was_away = false
-    vim.notify(('Note %s: online again, all is sent.'):format(note.name), vim.log.levels.INFO)
+    vim.notify(say.short(('Online again, all is sent: %s'):format(note.name)), vim.log.levels.INFO)
   end
 end
 
@@ -318,7 +315,7 @@ end
 local function new_note(buffer, name, log, link, makes)
   local note
   note = Note.new(buffer, function(line) engine.send(note.job, line) end, clock, {
-    words = say,
+    words = say.words,
     beside = beside,
     cursors = function(shown) cursors.show(buffer, note.lines, shown) end,
     remarks = function()
@@ -350,7 +347,7 @@ end
 --- Why a note can't have a name; nil where it can.
 local function name_fault(name)
   if not name:find('^%w[%w._-]*$') or #name > MOST_NAME then
-    return ('A name has letters without accents, digits, dots, hyphens and underscores, %d at most.'):format(MOST_NAME)
+    return ('A name has plain letters, digits and . - _, %d at most.'):format(MOST_NAME)
   end
 end
 
@@ -381,7 +378,7 @@ function M.load(buffer)
   local fault = name_fault(name)
   if fault then
     vim.bo[buffer].buftype, vim.bo[buffer].bufhidden, vim.bo[buffer].modifiable = 'nofile', 'wipe', false
-    return say(fault)
+    return say.words(fault)
   end
   open_in(buffer, name, unpack(asked[buffer] or {}))
 end
@@ -412,7 +409,7 @@ end
 function M.open(name, log, link, makes)
   local fault = name_fault(name)
   if fault then
-    return say(fault)
+    return say.words(fault)
   end
   local buffer = vim.fn.bufadd(PREFIX .. name)
   if not notes[buffer] then
@@ -482,7 +479,7 @@ local function with_note(call)
   if note then
     return call(note)
   end
-  say('This buffer is no note.')
+  say.words('This buffer is no note.')
 end
 
 --- Takes back your own last edit, or so many of them, whatever others wrote since.
@@ -524,7 +521,7 @@ function M.who(first, last)
         end
         sizes[who] = (sizes[who] or 0) + stretch['end'] - stretch.begin
       end
-      say(#order == 0 and 'There is nothing that anybody wrote.' or table.concat(vim.tbl_map(function(who)
+      say.words(#order == 0 and 'There is nothing that anybody wrote.' or table.concat(vim.tbl_map(function(who)
         return ('%s: %d bytes'):format(who, sizes[who])
       end, order), '; '))
     end)

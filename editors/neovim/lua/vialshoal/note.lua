@@ -167,10 +167,7 @@ end
 function Note:put_back()
   local lines = api.nvim_buf_get_lines(self.buffer, 0, -1, false)
   local first, last, new_last = text.differing(self.lines, lines)
-  local row
-  for each in pairs(self.hints or {}) do
-    row = math.min(row or each, each)
-  end
+  local row = text.least(self.hints or {})
   if row then
     -- A line end that was typed at a line's end differs from there on.
     first = math.min(first, row)

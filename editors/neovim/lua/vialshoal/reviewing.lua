@@ -3,6 +3,7 @@ local api = vim.api
 local changed = require('vialshoal.changed')
 local history = require('vialshoal.history')
 local review = require('vialshoal.review')
+local say = require('vialshoal.say')
 local Suggesting = require('vialshoal.suggesting')
 local text = require('vialshoal.text')
 
@@ -298,8 +299,7 @@ local function go(note, by)
   end
   vim.cmd("normal! m'")
   api.nvim_win_set_cursor(0, { found.first[1] + 1, found.first[2] })
-  -- In one line, so that no key has to be pressed.
-  api.nvim_echo({ { review.line(found.thread, math.max(20, vim.o.columns - 20)) } }, false, {})
+  say.passing(review.line(found.thread, vim.o.columns))
 end
 
 function M.next(note, given)

@@ -70,7 +70,7 @@ function Suggesting.toggle(note)
   end
   note.suggesting = setmetatable({ note = note, made = {}, turn = 0, options = {} }, Suggesting)
   note.suggesting:start()
-  note.shows.words('What you type and delete is suggested now; u takes the last one back.')
+  note.shows.words('What you type and delete is suggested; u takes it back.')
 end
 
 function Suggesting:start()

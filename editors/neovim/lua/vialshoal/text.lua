@@ -151,6 +151,20 @@ function M.differing(old, new)
   return first, #old - same, #new - same
 end
 
+--- The least key of a table; nil where it has none.
+function M.least(keys)
+  local found
+  for each in pairs(keys) do
+    found = math.min(found or each, each)
+  end
+  return found
+end
+
+if jit then
+  -- The LuaJIT of 2022 that Neovim 0.7 has on Debian 12 compiles this loop wrong: what it finds is lost at times.
+  jit.off(M.least)
+end
+
 --- Some bytes of lines, from a row and a column on. A line end that isn't shown is one of them.
 local function slice(lines, row, column, size)
   local found, number = lines[row + 1]:sub(column + 1), row + 2
@@ -339,15 +353,37 @@ end
 -- For a cell of a line no more bytes are looked at of words, which can be long.
 local MOST_OF_CELL = 16
 
+--- As much of words, from their begin, as so many cells have room for.
+local function begin_of(words, most)
+  local found = vim.fn.strcharpart(words, 0, most)
+  while vim.fn.strdisplaywidth(found) > most do
+    found = vim.fn.strcharpart(found, 0, vim.fn.strchars(found) - 1)
+  end
+  return found
+end
+
 --- The same in a line of so many cells.
 function M.line(words, most)
   local begun = type(words) == 'string' and words:sub(1, most * MOST_OF_CELL) or ''
   local found = vim.trim((M.words(begun):gsub('[ \t\n]+', ' ')))
-  local short = vim.fn.strcharpart(found, 0, most)
-  while vim.fn.strdisplaywidth(short) > most do
-    short = vim.fn.strcharpart(short, 0, vim.fn.strchars(short) - 1)
-  end
+  local short = begin_of(found, most)
   return short == found and found or short .. '..'
+end
+
+--- All of it, in lines of so many cells at most, which break between words where they can.
+function M.lines(words, most)
+  local found = {}
+  for _, rest in ipairs(vim.split(vim.trim((M.words(words):gsub('\t', ' '))), '\n', { plain = true })) do
+    local line = begin_of(rest, most)
+    while line ~= rest do
+      line = rest:sub(1, #line + 1):match('^(.*) ') or line
+      table.insert(found, line)
+      rest = vim.trim(rest:sub(#line + 1))
+      line = begin_of(rest, most)
+    end
+    table.insert(found, rest)
+  end
+  return found
 end
 
 return M

@@ -1,9 +1,10 @@
 --- Undo, which is the engine's: what Vim's keys and commands for its own ask for here.
 local api = vim.api
+local say = require('vialshoal.say')
 
 local M = {}
 
-local INSTEAD = "A note's undo goes by no number or time: u and CTRL-R take counts, and :VialshoalHistory has older texts."
+local INSTEAD = 'Use u and CTRL-R, with counts, or :VialshoalHistory.'
 -- So many edits are taken back at once at most.
 local MOST_TIMES = 1000
 -- Vim's commands, how short each can be, and what a count of edits asks for.
@@ -17,16 +18,12 @@ local COMMANDS = {
 }
 local NOTHING = { undo = 'You have nothing to take back.', redo = 'You have taken nothing back.' }
 
-local function say(words)
-  api.nvim_echo({ { words } }, true, {})
-end
-
 --- Asks a note's engine so many times, at once, so that nothing that is typed meanwhile comes in between.
 function M.ask(note, what, count)
   for number = 1, math.min(count or 1, MOST_TIMES) do
     note:ask({ ['do'] = what }, function(answer)
       if number == 1 and not answer.done and not answer.error then
-        say(NOTHING[what])
+        say.words(NOTHING[what])
       end
     end)
   end
@@ -44,7 +41,7 @@ local function run(name, argument)
   local is_right = command and command.asks
     and (argument == nil or not command.takes_no_count and argument:find('^%d+$') ~= nil)
   if not is_right then
-    return say(INSTEAD)
+    return say.words(INSTEAD)
   end
   require('vialshoal')[command.asks](tonumber(argument))
 end
@@ -59,7 +56,7 @@ local function set_keys(buffer)
   map('g-', undo, 'Take back your own last edit')
   map('<C-r>', redo, 'Make it again')
   map('g+', redo, 'Make it again')
-  map('U', function() say(INSTEAD) end, 'Say what takes back')
+  map('U', function() say.words(INSTEAD) end, 'Say what takes back')
 end
 
 --- Has a buffer's keys and commands ask the engine.
