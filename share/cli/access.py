@@ -85,9 +85,10 @@ def given_or_asked_link(given: argparse.Namespace, name: str) -> AnyLink | None:
 
 
 def require_agreement(given: argparse.Namespace, name: str, link: AnyLink | None) -> None:
-    """Refuses a log or a link that aren't the note's, before an engine is asked. Where the link is the note's and names another
+    """Refuses a log, a link or a form that aren't the note's, before an engine is asked. Where the link is the note's and names another
     log, the user is asked whether that is gone on with."""
     path = notes.path_of(name)
+    _require_form(getattr(given, "form", None), name, link)
     if link and not given.log and path.exists():
         about = read_only.about(path)
         notes.check_agreement(about, name, None, link)
@@ -95,6 +96,15 @@ def require_agreement(given: argparse.Namespace, name: str, link: AnyLink | None
             _ask_for_log(name, about.url, link.url)
             given.log = link.url
     server.agree_with_engine(name, given_url(given), link)
+
+
+def _require_form(form: int | None, name: str, link: AnyLink | None) -> None:
+    """Refuses another form than that of a note that is here or joined, which it would keep without a word."""
+    path = notes.path_of(name)
+    if form and path.exists() and (own := read_only.about(path).form_number) != form:
+        raise Trouble(f"The note {name} is of form {own}. bin/note renew {name} --form {form} copies it into one of form {form}.")
+    if form and link and link.form_number != form:
+        raise Trouble(f"That link's note is of form {link.form_number}. Leave out --form {form}.")
 
 
 def _ask_for_log(name: str, old: str, new: str) -> None:

@@ -24,6 +24,14 @@ class Links(unittest.TestCase):
         for name in re.findall(r"`([\w/]+\.py)`", (TOP / "docs/SHARE-INSIDE.md").read_text()):
             self.assertTrue(any((TOP / "share").glob(f"**/{name}")), name)
 
+    def test_each_attack_has_tests_that_are_there(self) -> None:
+        _, _, table = (TOP / "docs/NOTES.md").read_text().partition("## Attacks")
+        _, _, *rows = [line.strip("|").split("|") for line in table.splitlines() if line.startswith("|")]
+        tests = {name for path in (TOP / "share/tests").glob("test_*.py") for name in re.findall(r"    def (test_\w+)\(", path.read_text())}
+        self.assertGreater(len(rows), 5)
+        for who, _, _, named in rows:
+            self.assertLessEqual({*named.strip().split(", ")}, tests, who)
+
 
 if __name__ == "__main__":
     unittest.main()

@@ -16,6 +16,7 @@ from cryptography.hazmat.primitives.kdf.hkdf import HKDF
 from hypothesis import HealthCheck, given, settings
 from hypothesis import strategies as st
 
+from share.admission.judges import judge_of
 from share.format import link, presence
 from share.format.chunk import MOST_CHUNK, Packed, packed, packed_in_parts
 from share.format.entry import MOST_BYTES, Author, Bad, Copied, Form, Plain
@@ -360,6 +361,21 @@ class Made(unittest.TestCase):
         # The opening and the base are whose who has the key.
         self.assertEqual(self.sealed.itself.name, self.sealed.public)
 
+    def test_signed_otherwise_messages_are_the_same_ones(self) -> None:
+        founding = new_founding(self.author.name, 7)
+        form = SealedRecords(founding.key(), 0)
+        typed = self.typed(form, self.author, 3)
+        others = [form.open(signed_otherwise(one.raw, self.author)) for one in typed]
+        self.assertEqual([one.hashes for one in others], [one.hashes for one in typed])
+        self.assertTrue({one.hash for one in typed}.isdisjoint(one.hash for one in others))
+        opening = form.opening(founding)
+        for some in others, [*typed, *others], [typed[0], others[1], typed[2]]:
+            judge = judge_of(form, [opening, *some])
+            self.assertEqual((len(judge.count().messages), judge.left_out(), judge.incomplete()), (3, [], 0))
+            answer = second.judged(Note(form.keys.key), [one.raw for one in (opening, *some)], 0)
+            self.assertEqual(([one.hash for one in answer.through[7, 1]], answer.left_out, answer.bad),
+                             ([one.name for one in typed], {}, set()))
+
     def test_what_is_of_another_form_is_none(self) -> None:
         before = Plain(bytes(16)), Sealed(bytes(32))
         raws = [*(form.claim(7, form.new_author()).raw for form in before), *(form.opening(self.founding).raw for form in (
@@ -424,6 +440,14 @@ def with_y(y: int) -> Point:
 
 def spelled_point(point: Point) -> bytes:
     return (point[1] | (point[0] & 1) << 255).to_bytes(32, "little")
+
+
+def signed_otherwise(raw: bytes, author: Author) -> bytes:
+    """A sealed record with another signature by its author than the one that he makes each time."""
+    multiple = int.from_bytes(hashlib.sha512(author.secret).digest()[:32], "little") & 2**254 - 8 | 2**254
+    data, begin = raw[:-SIGNATURE], spelled_point(times(5, with_y(4 * pow(5, -1, FIELD) % FIELD)))
+    factor = int.from_bytes(hashlib.sha512(begin + author.name + data).digest(), "little")
+    return data + begin + ((5 + factor * multiple) % ORDER).to_bytes(32, "little")
 
 
 class Signatures(unittest.TestCase):

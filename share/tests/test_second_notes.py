@@ -204,6 +204,22 @@ class SecondForm(OfSecondForm):
             command, _ = serves.call_args.args[1]("page")
         self.assertEqual(command[-2:], ["--form", "2"])
 
+    def test_another_form_than_a_notes_own_is_refused_in_words(self) -> None:
+        for name, form, other in ("one", FIRST, SECOND), ("two", SECOND, FIRST):
+            begun = self.run_as_ann("append", name, "x", "--new", "--form", str(form), "--log", str(self.folder / name))
+            self.assertEqual(begun.returncode, 0)
+            link = self.run_as_ann("link", name).stdout.strip()
+            for words in (("append", name, "y"), ("import", name, "-"), ("engine", name)):
+                with self.subTest(words):
+                    self.assert_says(self.run_as_ann(*words, "--new", "--form", str(other)), f"The note {name} is of form {form}.",
+                                     f"bin/note renew {name} --form {other} copies it into one of form {other}.")
+            as_bob = {"VIALSHOAL_DATA": str(self.bob.data), "VIALSHOAL_LINK": link}
+            self.assert_says(self.note("append", "joined", "y", "--form", str(other), **as_bob),
+                             f"That link's note is of form {form}. Leave out --form {other}.")
+            self.assertEqual(self.run_as_ann("append", name, "y", "--form", str(form)).returncode, 0)
+            self.assertEqual((self.run_as_ann("cat", name).stdout, self.form_of(name)), ("x\ny\n", form))
+            self.assertFalse(self.bob.path("joined").exists())
+
     def base_in_log(self, many: int) -> tuple[str, bytes, int]:
         """The link of a note whose log begins with a base of many records, of two texts and of three sites each; what the first text shows,
         and how many records these are."""
