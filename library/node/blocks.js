@@ -7,7 +7,7 @@ export class Blocks {
     // The greatest power of two that isn't above the number of blocks.
     #half = 0;
     // The block that was found last, and what stands before it.
-    #found = { index: 0, block: undefined, byte: 0, unit: 0 };
+    #found = { index: 0, block: /** @type {any} */ (undefined), byte: 0, unit: 0 };
     // How many units all have.
     units = 0;
 
