@@ -27,14 +27,6 @@ function opened(made) {
     return made;
 }
 
-// What an edit told of what it changed, one after the other; none where that is more than it tells.
-function told() {
-    const { room } = calls, changes = [];
-    if (room[1] < 0) return undefined;
-    for (let at = 2; at < 2 + 3 * room[1]; at += 3) changes.push({ kind: room[at], beg: room[at + 1], end: room[at + 2] });
-    return changes;
-}
-
 // What only the classes here ask of one another.
 let byteOf, fallsBehind, note, positionsOf, handleOf;
 
@@ -61,7 +53,7 @@ export class Shown {
     static {
         byteOf = (shown, pos) => shown.#byte(pos);
         fallsBehind = (shown) => { shown.#isBehind = true; };
-        note = (/** @type {Shown} */ shown, put) => { if (shown.#units !== undefined) shown.#note(told(), put); };
+        note = (/** @type {Shown} */ shown, put) => { if (shown.#units !== undefined) shown.#note(put); };
         positionsOf = (shown) => shown.#units && shown.#followed();
     }
 
@@ -73,17 +65,18 @@ export class Shown {
         return done(calls.length(this.#handle))[0];
     }
 
-    // Notes what an edit told, to be followed later: whatever that meets, the edit has been made.
-    #note(changes, put) {
+    // Notes what an edit told, unless that is more than it tells, to be followed later: whatever that meets, the edit has been made.
+    #note(put) {
+        const { room } = calls;
         if (this.#told.length === 0) this.#put = put;
-        this.#isBehind = changes === undefined;
-        if (changes !== undefined) this.#told.push(...changes);
+        this.#isBehind = room[1] < 0;
+        for (let at = 2; at < 2 + 3 * room[1]; at += 3) this.#told.push({ kind: room[at], beg: room[at + 1], end: room[at + 2] });
     }
 
     // The positions in units as they are now.
     #followed() {
         if (!this.#isBehind && this.#told.length === 0) return this.#units;
-        const changes = [...this.#told, ...(this.#isBehind ? this.#changes() : [])];
+        const changes = this.#isBehind ? [...this.#told, ...this.#changes()] : this.#told;
         const put = changes.length === 1 ? this.#put : undefined;
         this.#told = [];
         this.#put = undefined;
