@@ -104,7 +104,8 @@ class RelayServer:
             pass
         finally:
             self._sockets.discard(socket)
-            if not socket.closed and request.transport:
+            # What he hasn't taken by now isn't kept for him.
+            if request.transport and (not socket.closed or request.transport.get_write_buffer_size()):
                 request.transport.abort()
         return socket
 

@@ -18,7 +18,9 @@ from share.log.bell import Bell
 from share.log.opening import opener_of
 from share.log.relay import Following, RelayLogs
 from share.log.relay_line import RelayLine
+from share.relay.kept import NoteIsFull
 from share.relay.limits import Allowance, Limits, NewNotes
+from share.relay.member import Member
 from share.tests import test_logs
 from share.tests.relays import KEY, OTHER_KEY, RelayHere, RelayProcess, form_of, record
 from share.tests.servers import RedisServer
@@ -188,6 +190,16 @@ class InFolder(AtRelay):
                 self.assertEqual(([one.raw for one in page], log.size_to(page[-1].place)), ([record(number)], number + 1))
                 place = page[-1].place
 
+    def test_who_reads_slowly_is_told_once_that_there_is_more(self) -> None:
+        log, other = self.log_of(), self.log_of()
+        self.assertEqual(log.read(START), [])
+        with mock.patch("share.relay.member.MOST_UNSENT", -1), mock.patch.object(Member, "tell", autospec=True, side_effect=Member.tell) as told:
+            for number in range(10):
+                other.append([record(number)])
+            self.assertEqual(told.call_count, 1)
+        log.watch(START, PATIENCE)
+        self.assertEqual(len(log.read(START)), 10)
+
     def test_a_lost_file_is_seen_and_filled_again(self) -> None:
         log = self.log_of()
         losses: list[Callable[[], object]] = [self.file.unlink, lambda: self.file.write_bytes(b""), lambda: self.cut("place < 2"),
@@ -325,6 +337,17 @@ class Full(AtRelay):
         self.assertEqual(log.size(), had)
         # Others' notes have room.
         self.log_of(OTHER_KEY).append([record(1, OTHER_KEY)])
+
+
+    def test_who_only_reads_is_told_each_time(self) -> None:
+        log, other = self.log_of(), self.log_of()
+        self.assertEqual(log.read(START), [])
+        with mock.patch("share.log.relay_line.FULL_SECONDS", 0.0):
+            for number in range(3):
+                with mock.patch("share.relay.kept.KeptNote.append", side_effect=NoteIsFull), self.assertRaises(Unreachable):
+                    other.append([record(number)])
+                wait_for(log.told, "it to be told")
+                other.append([record(number)])
 
 
 class Slow(AtRelay):
