@@ -43,6 +43,28 @@ class Allowance:
         self._left -= many
         return min(wait, longest)
 
+    def has_rested(self) -> bool:
+        """Whether as much may be done at once as ever."""
+        self.wait(0)
+        return self._left >= self._a_second * BURST_SECONDS
+
+
+class Paces:
+    """How many entries a second each note takes. Who leaves one, and comes again, finds it as it was."""
+
+    def __init__(self, a_second: float, now: Callable[[], float] = time.monotonic):
+        self._a_second, self._now = a_second, now
+        # Those of notes at which nobody is.
+        self._left = dict[bytes, Allowance]()
+
+    def enter(self, note: bytes) -> Allowance:
+        """That of a note, as somebody comes to it."""
+        return self._left.pop(note, None) or Allowance(self._a_second, self._now)
+
+    def leave(self, note: bytes, pace: Allowance) -> None:
+        """Keeps that of a note that everybody has left, until it has rested."""
+        self._left = {one: kept for one, kept in [*self._left.items(), (note, pace)] if not kept.has_rested()}
+
 
 class NewNotes:
     """How many notes each address made in the last hour."""

@@ -90,12 +90,12 @@ class Tail:
 class NoteRoom:
     """A note's room, which is there as long as somebody is in it. The loop's thread alone calls it."""
 
-    def __init__(self, note: bytes, kept: KeptNote, limits: Limits, new_notes: NewNotes, says: Callable[[str], None]):
+    def __init__(self, note: bytes, kept: KeptNote, limits: Limits, new_notes: NewNotes, pace: Allowance, says: Callable[[str], None]):
         # Who is told what is new, and how many have or are about to have it open.
         self.members, self.users = set[AtNote](), 0
         self._note, self._kept, self._limits, self._new_notes, self._says = note, kept, limits, new_notes, says
         self._thread = ThreadPoolExecutor(1, thread_name_prefix="note")
-        self._pace, self._presence = Allowance(limits.entries_a_second), Allowance(PRESENCE_A_SECOND)
+        self.pace, self._presence = pace, Allowance(PRESENCE_A_SECOND)
         self._tail, self._size, self._is_open, self._may_begin = Tail(), 0, False, False
         # What all are told while the note is full.
         self._full = ""
@@ -135,7 +135,7 @@ class NoteRoom:
             raise NotDone(Why.WRONG, "That isn't an entry of this note.")
         if not raws:
             return
-        if (wait := self._pace.wait(len(raws))) is None:
+        if (wait := self.pace.wait(len(raws))) is None:
             raise NotDone(Why.RATE, f"This relay takes {self._limits.entries_a_second:,} entries a second of a note (--entries-a-second), "
                                     "and more came. They are sent later.")
         await asyncio.sleep(wait)

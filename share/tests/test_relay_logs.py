@@ -19,7 +19,7 @@ from share.log.opening import opener_of
 from share.log.relay import Following, RelayLogs
 from share.log.relay_line import RelayLine
 from share.relay.kept import NoteIsFull
-from share.relay.limits import Allowance, Limits, NewNotes
+from share.relay.limits import Allowance, Limits, NewNotes, Paces
 from share.relay.member import Member
 from share.tests import test_logs
 from share.tests.relays import KEY, OTHER_KEY, RelayHere, RelayProcess, form_of, record
@@ -361,7 +361,7 @@ class Slow(AtRelay):
         log.append([record(number) for number in range(200)])
         log.append([record(number) for number in range(200, 240)])
         self.assertGreater(time.monotonic() - begin, 1.9)
-        with mock.patch.object(self.relay.relay._rooms[form_of().note]._pace, "wait", lambda *_: None):
+        with mock.patch.object(self.relay.relay._rooms[form_of().note].pace, "wait", lambda *_: None):
             with self.assertRaisesRegex(Unreachable, r"takes 20 entries a second of a note \(--entries-a-second\)"):
                 log.append([record(240)])
         log.append([record(240)])
@@ -376,6 +376,28 @@ class Slow(AtRelay):
         self.assertEqual([pace.wait(1), pace.wait(1)], [5, None])
         now += 1_000
         self.assertEqual([pace.wait(200), pace.wait(1_000), pace.wait(1)], [0, 5, None])
+
+    def test_who_leaves_and_comes_again_has_no_more(self) -> None:
+        for waits in 0, 5:
+            with closing(self.opened_of()):
+                pace = self.relay.relay._rooms[form_of().note].pace
+                # However long a busy machine takes.
+                pace._now, pace._since = lambda: 100.0, 100.0
+                self.assertEqual(pace.wait(200), waits)
+            wait_for(lambda: not self.relay.relay._rooms, "the room to be left")
+
+    def test_what_has_rested_is_not_remembered(self) -> None:
+        now = 100.0
+        paces = Paces(20, lambda: now)
+        one, two = paces.enter(b"one"), paces.enter(b"two")
+        one.wait(50)
+        paces.leave(b"one", one)
+        paces.leave(b"two", two)
+        self.assertEqual([*paces._left], [b"one"])
+        self.assertIs(paces.enter(b"one"), one)
+        now += 3
+        paces.leave(b"one", one)
+        self.assertEqual([*paces._left], [])
 
     def test_who_has_one_address_of_ipv6_has_all_that_begin_so(self) -> None:
         now = 100.0
