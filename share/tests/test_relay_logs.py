@@ -193,7 +193,8 @@ class InFolder(AtRelay):
     def test_who_reads_slowly_is_told_once_that_there_is_more(self) -> None:
         log, other = self.log_of(), self.log_of()
         self.assertEqual(log.read(START), [])
-        with mock.patch("share.relay.member.MOST_UNSENT", -1), mock.patch.object(Member, "tell", autospec=True, side_effect=Member.tell) as told:
+        tells = mock.patch.object(Member, "tell", autospec=True, side_effect=Member.tell)
+        with mock.patch("share.relay.member.MOST_UNSENT", -1), tells as told:
             for number in range(10):
                 other.append([record(number)])
             self.assertEqual(told.call_count, 1)
@@ -296,6 +297,33 @@ class InFolder(AtRelay):
                 again.say(b"three")
                 self.assertEqual(again.hear(PATIENCE, bell), [b"three"])
 
+    def test_more_presence_than_some_a_second_is_passed_on_to_nobody(self) -> None:
+        # So few that it is too much however slowly it comes on a busy machine.
+        with mock.patch("share.relay.room.PRESENCE_A_SECOND", 0.2):
+            log = self.log_of()
+            channel = log.channel()
+            assert channel
+            with closing(channel), closing(Bell()) as bell, mock.patch.object(Member, "pass_on", autospec=True) as passed:
+                for number in range(50):
+                    channel.say(bytes([number]))
+                log.append([record(1)])
+                self.assertEqual(channel.hear(0.0, bell), [])
+                # What ten seconds have is passed on at once.
+                self.assertLess(passed.call_count, 50)
+                self.assertGreaterEqual(passed.call_count, 2)
+
+    def test_who_reads_slowly_is_given_no_presence(self) -> None:
+        log = self.log_of()
+        channel = log.channel()
+        assert channel
+        with closing(channel), closing(Bell()) as bell:
+            with mock.patch("share.relay.member.MOST_UNSENT", -1):
+                channel.say(b"lost")
+                # By then it was taken.
+                self.assertEqual(log.size(), 0)
+            channel.say(b"heard")
+            self.assertEqual(channel.hear(PATIENCE, bell), [b"heard"])
+
     def test_presence_is_kept_nowhere(self) -> None:
         log = self.log_of()
         log.append([record(1)])
@@ -337,7 +365,6 @@ class Full(AtRelay):
         self.assertEqual(log.size(), had)
         # Others' notes have room.
         self.log_of(OTHER_KEY).append([record(1, OTHER_KEY)])
-
 
     def test_who_only_reads_is_told_each_time(self) -> None:
         log, other = self.log_of(), self.log_of()
@@ -410,6 +437,8 @@ class Slow(AtRelay):
         for number in range(20_000):
             notes.take(f"10.1.{number // 250}.{number % 250}")
         self.assertLessEqual(len(notes._made), 10_000)
+        # The last ones are remembered.
+        self.assertFalse(notes.take("10.1.79.249"))
 
     def test_new_notes_of_an_address(self) -> None:
         keys = [bytes([number]) * 32 for number in range(4)]
