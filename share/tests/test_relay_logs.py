@@ -366,6 +366,12 @@ class Full(AtRelay):
         # Others' notes have room.
         self.log_of(OTHER_KEY).append([record(1, OTHER_KEY)])
 
+    def test_what_is_too_much_at_once_is_refused_whole(self) -> None:
+        log = self.log_of()
+        with self.assertRaisesRegex(Unreachable, "note is full"):
+            log.append([record(number) for number in range(600)])
+        self.assertEqual(log.size(), 0)
+
     def test_who_only_reads_is_told_each_time(self) -> None:
         log, other = self.log_of(), self.log_of()
         self.assertEqual(log.read(START), [])
