@@ -157,14 +157,14 @@ class RelayLine:
             await self._send(socket, data)
             found: RelayAnswer = await asyncio.wait_for(answered, REPLY_SECONDS + (most + len(data)) / SLOWEST)
         except asyncio.TimeoutError:
-            self._drop()
+            self._drop(socket)
             raise
         finally:
             self._waiting.pop(number, None)
         if isinstance(found, Refusal):
             raise self._refused(found)
         if is_append != isinstance(found, int):
-            self._drop()
+            self._drop(socket)
             raise Misspelled
         return found
 
