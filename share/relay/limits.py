@@ -25,7 +25,7 @@ class Limits:
 
 
 class Allowance:
-    """So many a second may be done, and some at once after a rest; what is more waits."""
+    """A token bucket: so many a second may be done, and some at once after a rest; what is more waits."""
 
     def __init__(self, a_second: float, now: Callable[[], float] = time.monotonic):
         self._a_second, self._now = a_second, now

@@ -158,6 +158,10 @@ class Vectors(Modules):
         self.assertEqual(numbers[claims["bob"]["site"]], (authors["bob"]["name"], 7, False))
         self.assertEqual(numbers[claims["cy"]["site"]][0], authors["cy"]["name"])
         self.assertEqual((len(numbers), found["entries"], found["isCopy"], found["renewedBy"]), (3, len(raws), True, ["Cy"]))
+        # Names are cut between characters.
+        form = SealedRecords(bytes.fromhex(note["key"]))
+        raws = [form.renewed(name, 7, AUTHOR).raw.hex() for name in ("\U0001f44d" * 41, " \u202eAnn\0 ", "")]
+        self.assertEqual(self.asked("facts", key=note["key"], raws=raws)["renewedBy"], ["\U0001f44d" * 40, "Ann", "somebody"])
 
 
 class BesidePython(Modules):

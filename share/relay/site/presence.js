@@ -22,8 +22,9 @@ const NO_NAME = /[\p{Cc}\p{Cs}\u061c\u200e\u200f\u2028-\u202e\u2066-\u2069]/gu;
 /** The time by a clock that nobody sets. */
 const now = () => performance.now();
 
-/** @param {string} name */
-const clean = (name) => [...name.replace(NO_NAME, "").trim()].slice(0, MOST_NAME).join("");
+/** A name as it is shown.
+ * @param {string} name */
+export const clean = (name) => [...name.replace(NO_NAME, "").trim()].slice(0, MOST_NAME).join("");
 
 /** @param {Uint8Array} bytes @param {number} size */
 function filled(bytes, size) {
