@@ -273,7 +273,12 @@ class Strange(Case):
 
     def test_nobody_is_sent_elsewhere(self) -> None:
         came = list[bytes]()
-        elsewhere = Hostile(lambda asked: came.append(asked) or b"")  # type: ignore[func-returns-value]
+
+        def answers(asked: bytes) -> bytes:
+            came.append(asked)
+            return b""
+
+        elsewhere = Hostile(answers)
         self.addCleanup(elsewhere.close)
         to = elsewhere.url.replace("redis:", "http:")
         hostile = Hostile(lambda asked: f"HTTP/1.1 302 Found\r\nLocation: {to}/x\r\nContent-Length: 0\r\n\r\n".encode())
@@ -292,7 +297,6 @@ class Strange(Case):
 
         log = RelayLogs(relay.url, form_of())()
         channel = log.channel()
-        assert channel
         calls: list[Callable[[], object]] = [lambda: channel.say(b"x"), lambda: log.append([record(1)]), log.size]
         for call in calls:
             with mock.patch("share.log.relay_line.REPLY_SECONDS", 0.1), mock.patch("aiohttp.ClientWebSocketResponse.send_bytes", never):
@@ -304,7 +308,7 @@ class Strange(Case):
         # What is being said as the last log is closed ends, too.
         begun.clear()
         with mock.patch("aiohttp.ClientWebSocketResponse.send_bytes", never), ThreadPoolExecutor(1) as thread:
-            saying = thread.submit(log._line.say, b"x")  # type: ignore[attr-defined]
+            saying = thread.submit(log._line.say, b"x")
             self.assertTrue(begun.wait(PATIENCE))
             log.close()
             with self.assertRaises(Unreachable):
