@@ -16,8 +16,8 @@ from share.log.relay_line import RelayLine
 from share.log.relay_messages import MOST_BYTES_OF_PAGE, RelayPage, in_messages
 from share.text.errors import Trouble
 
-# The most bytes of entries that came unasked and weren't read yet.
-MOST_FOLLOWING = MOST_BYTES_OF_PAGE
+# The most bytes of entries that came unasked and weren't read yet, and what one takes in memory beside its own.
+MOST_FOLLOWING, OVERHEAD_OF_ENTRY = MOST_BYTES_OF_PAGE, 200
 # A place of a relay's, and how many entries there are up to it.
 RELAY_PLACE = re.compile(r"([!-~]{1,64})/([0-9]{1,18})")
 BROKEN = "the connection broke"
@@ -64,7 +64,7 @@ class Following:
     def came(self, page: RelayPage) -> None:
         """Entries came."""
         with self._lock:
-            self._bytes += sum(len(one.raw or b"") for one in page.entries)
+            self._bytes += _memory_of(page)
             if page.entries and self._bytes <= MOST_FOLLOWING:
                 self._pages.append(page)
             else:
@@ -103,7 +103,7 @@ class Following:
             self.bell.silence()
             if self._pages and self._pages[0].after == after and not self._has_more:
                 page = self._pages.popleft()
-                self._bytes -= sum(len(one.raw or b"") for one in page.entries)
+                self._bytes -= _memory_of(page)
                 return page
             self._pages.clear()
             self._bytes, self._has_more = 0, False
@@ -231,6 +231,11 @@ class RelayChannel(PresenceChannel):
         """The line broke."""
         self._broke = True
         self._bell.ring()
+
+
+def _memory_of(page: RelayPage) -> int:
+    """About how many bytes a page takes."""
+    return sum(len(one.raw or b"") + OVERHEAD_OF_ENTRY for one in page.entries)
 
 
 def _relay_place(after: str) -> tuple[str, int]:

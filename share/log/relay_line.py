@@ -6,6 +6,7 @@ import itertools
 import ssl
 import threading
 from collections.abc import Callable, Coroutine, Sequence
+from concurrent.futures import CancelledError
 from typing import Any, Protocol, TypeVar
 
 from share.format.presence import MOST_PRESENCE
@@ -141,7 +142,7 @@ class RelayLine:
             raise Unreachable(f"{self.url} has a certificate that isn't trusted for it: {_words_of(why)}") from why
         except asyncio.TimeoutError as why:
             raise Unreachable(f"{self.url} doesn't answer in time") from why
-        except (aiohttp.ClientError, OSError, asyncio.CancelledError) as why:
+        except (aiohttp.ClientError, OSError, CancelledError) as why:
             raise Unreachable(f"{self.url}: {_words_of(why)}") from why
 
     async def _ask(self, spelled: Callable[[int], bytes], most: int) -> RelayAnswer:
@@ -153,17 +154,17 @@ class RelayLine:
             raise Unreachable(self._full)
         self._waiting[number] = answered = self._loop.create_future()
         try:
-            await socket.send_bytes(data)
+            await self._send(socket, data)
             found: RelayAnswer = await asyncio.wait_for(answered, REPLY_SECONDS + (most + len(data)) / SLOWEST)
         except asyncio.TimeoutError:
-            self._drop()
+            self._drop(socket)
             raise
         finally:
             self._waiting.pop(number, None)
         if isinstance(found, Refusal):
             raise self._refused(found)
         if is_append != isinstance(found, int):
-            self._drop()
+            self._drop(socket)
             raise Misspelled
         return found
 
@@ -176,7 +177,15 @@ class RelayLine:
         return (Trouble if one.why is Why.WRONG else Unreachable)(words)
 
     async def _say(self, presence: bytes) -> None:
-        await (await self._connected()).send_bytes(presence_message(presence))
+        await self._send(await self._connected(), presence_message(presence))
+
+    async def _send(self, socket: "aiohttp.ClientWebSocketResponse", data: bytes) -> None:
+        """Sends a message. Who takes none, whatever he says meanwhile, is let go."""
+        try:
+            await asyncio.wait_for(socket.send_bytes(data), REPLY_SECONDS + len(data) / SLOWEST)
+        except asyncio.TimeoutError:
+            self._drop(socket)
+            raise
 
     async def _connected(self) -> "aiohttp.ClientWebSocketResponse":
         async with self._connecting:
@@ -190,7 +199,10 @@ class RelayLine:
         if self._session is None:
             # The certificate and the host's name in it are looked at.
             trusts = ssl.create_default_context() if self.url.startswith("https:") else None
-            self._session = aiohttp.ClientSession(connector=aiohttp.TCPConnector(ssl=trusts))
+            # Nor is one sent elsewhere, as no browser is that opens a WebSocket.
+            stays = aiohttp.TraceConfig()
+            stays.on_request_redirect.append(_stays)
+            self._session = aiohttp.ClientSession(connector=aiohttp.TCPConnector(ssl=trusts), trace_configs=[stays])
         socket = await self._session.ws_connect(self.url + SOCKET_PATH, protocols=[SUBPROTOCOL], heartbeat=PING_SECONDS,
                                                 max_msg_size=MOST_ANSWERED)
         try:
@@ -263,6 +275,11 @@ class RelayLine:
             dropping = asyncio.create_task(socket.close())
             self._dropping.add(dropping)
             dropping.add_done_callback(self._dropping.discard)
+
+
+async def _stays(*_: object) -> None:
+    """Goes nowhere else, whatever the answer says."""
+    raise Misspelled
 
 
 async def _received(socket: "aiohttp.ClientWebSocketResponse") -> bytes:

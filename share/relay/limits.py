@@ -25,7 +25,7 @@ class Limits:
 
 
 class Allowance:
-    """So many a second may be done, and some at once after a rest; what is more waits."""
+    """A token bucket: so many a second may be done, and some at once after a rest; what is more waits."""
 
     def __init__(self, a_second: float, now: Callable[[], float] = time.monotonic):
         self._a_second, self._now = a_second, now
@@ -42,6 +42,28 @@ class Allowance:
             return None
         self._left -= many
         return min(wait, longest)
+
+    def has_rested(self) -> bool:
+        """Whether as much may be done at once as ever."""
+        self.wait(0)
+        return self._left >= self._a_second * BURST_SECONDS
+
+
+class Paces:
+    """How many entries a second each note takes. Who leaves one, and comes again, finds it as it was."""
+
+    def __init__(self, a_second: float, now: Callable[[], float] = time.monotonic):
+        self._a_second, self._now = a_second, now
+        # Those of notes at which nobody is.
+        self._left = dict[bytes, Allowance]()
+
+    def enter(self, note: bytes) -> Allowance:
+        """That of a note, as somebody comes to it."""
+        return self._left.pop(note, None) or Allowance(self._a_second, self._now)
+
+    def leave(self, note: bytes, pace: Allowance) -> None:
+        """Keeps that of a note that everybody has left, until it has rested."""
+        self._left = {one: kept for one, kept in [*self._left.items(), (note, pace)] if not kept.has_rested()}
 
 
 class NewNotes:

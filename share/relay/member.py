@@ -2,7 +2,7 @@
 import asyncio
 import contextlib
 from collections.abc import Coroutine, Sequence
-from typing import Any
+from typing import Any, NamedTuple
 
 from aiohttp import WSCloseCode, WSMsgType, web
 
@@ -12,11 +12,14 @@ from share.log.resp import SLOWEST
 from share.relay.limits import Allowance
 from share.relay.room import NotDone, NoteRoom
 
-# The most requests that are being done at once, and the most messages a second; what one takes in memory beside its bytes.
+# The most requests that are being done at once, or whose answers wait to be sent; the most messages a second; and what one takes in memory
+# beside its bytes.
 MOST_REQUESTS, MESSAGES_A_SECOND, OVERHEAD_OF_MESSAGE = 8, 500.0, 100
 # The most bytes that wait for somebody who reads slowly, beside what he asked for; and how long he may take for a message, beside the time
 # for its bytes.
 MOST_UNSENT, SLOWEST_SEND_SECONDS = 2**16, 60.0
+# How long one who is let go may take for the word of it.
+LET_GO_SECONDS = 5.0
 # What waits for all together, before pages get small; and the least bytes of a page then.
 MOST_UNSENT_OF_ALL, LEAST_PAGE = 2**26, 2**14
 
@@ -33,6 +36,14 @@ class Sending:
         return min(asked, max(LEAST_PAGE, min(left, MOST_BYTES_OF_PAGE)))
 
 
+class Outgoing(NamedTuple):
+    """A message that waits to be sent."""
+
+    data: bytes
+    is_pong: bool
+    is_answer: bool
+
+
 class Member:
     """Who is at a note by one WebSocket."""
 
@@ -41,10 +52,11 @@ class Member:
         self.told_up_to: str | None = None
         self.knows_full = False
         self._socket, self._room, self._sending = socket, room, sending
-        # What is to be sent, pongs among it, and how many bytes that is.
-        self._queue, self._bytes = asyncio.Queue[tuple[bytes, bool]](), 0
+        # What is to be sent, and how many bytes that is.
+        self._queue, self._bytes = asyncio.Queue[Outgoing](), 0
         self._pace = Allowance(MESSAGES_A_SECOND)
-        self._requests = set[asyncio.Task[None]]()
+        # What is being done of what was asked, and how much of that he doesn't have yet.
+        self._requests, self._unanswered = set[asyncio.Task[None]](), 0
 
     async def run(self) -> None:
         """Answers until one of both ends."""
@@ -60,16 +72,17 @@ class Member:
             await asyncio.gather(writing, reading, *self._requests, return_exceptions=True)
             self._sending.waiting -= self._bytes
 
+    def has_room(self) -> bool:
+        """Whether little waits for him."""
+        return self._bytes <= MOST_UNSENT
+
     def tell(self, page: RelayPage) -> None:
         """Tells of new entries."""
-        if self._bytes > MOST_UNSENT:
-            # He asks for them when he comes to it.
-            page = page._replace(at_end=False, entries=[])
         self._send(page.spelled())
 
     def pass_on(self, presence: bytes) -> None:
         """Hands on what somebody says of himself, unless too much waits."""
-        if self._bytes <= MOST_UNSENT:
+        if self.has_room():
             self._send(presence)
 
     def warn(self, refusal: Refusal) -> None:
@@ -84,11 +97,13 @@ class Member:
                     break
                 if message.type is WSMsgType.BINARY:
                     self._take(message.data)
-                elif message.type is WSMsgType.PING and self._bytes <= MOST_UNSENT:
+                elif message.type is WSMsgType.PING and self.has_room():
                     self._send(message.data, is_pong=True)
                 elif message.type not in (WSMsgType.PING, WSMsgType.PONG):
                     return
-        await self._socket.close(code=WSCloseCode.POLICY_VIOLATION, message=b"That is no request, or there are too many.")
+        closing = self._socket.close(code=WSCloseCode.POLICY_VIOLATION, message=b"That is no request, or there are too many.")
+        with contextlib.suppress(asyncio.TimeoutError):
+            await asyncio.wait_for(closing, LET_GO_SECONDS)
 
     def _take(self, data: bytes) -> None:
         match data[0] if data else None:
@@ -104,9 +119,10 @@ class Member:
                 raise Misspelled
 
     def _begin(self, number: int, answering: Coroutine[Any, Any, bytes]) -> None:
-        if len(self._requests) >= MOST_REQUESTS:
+        if self._unanswered >= MOST_REQUESTS:
             answering.close()
             raise Misspelled
+        self._unanswered += 1
         task = asyncio.create_task(self._answer(number, answering))
         self._requests.add(task)
         task.add_done_callback(self._requests.discard)
@@ -116,7 +132,7 @@ class Member:
             answer = await answering
         except NotDone as why:
             answer = Refusal(number, why.why, why.words).spelled()
-        self._send(answer)
+        self._send(answer, is_answer=True)
 
     async def _page(self, number: int, after: str, most: int) -> bytes:
         if not most:
@@ -133,9 +149,9 @@ class Member:
         await self._room.append(self, raws)
         return kept_message(number)
 
-    def _send(self, data: bytes, is_pong: bool = False) -> None:
+    def _send(self, data: bytes, is_pong: bool = False, is_answer: bool = False) -> None:
         self._counts(len(data) + OVERHEAD_OF_MESSAGE)
-        self._queue.put_nowait((data, is_pong))
+        self._queue.put_nowait(Outgoing(data, is_pong, is_answer))
 
     def _counts(self, size: int) -> None:
         self._bytes += size
@@ -145,7 +161,8 @@ class Member:
         """Sends what waits; who takes it too slowly is let go."""
         with contextlib.suppress(ConnectionError, asyncio.TimeoutError):
             while True:
-                data, is_pong = await self._queue.get()
-                sending = self._socket.pong(data) if is_pong else self._socket.send_bytes(data)
-                await asyncio.wait_for(sending, SLOWEST_SEND_SECONDS + len(data) / SLOWEST)
-                self._counts(-len(data) - OVERHEAD_OF_MESSAGE)
+                one = await self._queue.get()
+                sending = self._socket.pong(one.data) if one.is_pong else self._socket.send_bytes(one.data)
+                await asyncio.wait_for(sending, SLOWEST_SEND_SECONDS + len(one.data) / SLOWEST)
+                self._counts(-len(one.data) - OVERHEAD_OF_MESSAGE)
+                self._unanswered -= one.is_answer

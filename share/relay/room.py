@@ -12,7 +12,7 @@ from share.format.second.signature import SIGNED_BYTES
 from share.log.base import START, InLog, LogLost, Unreachable
 from share.log.relay_messages import UNASKED, Refusal, RelayPage, Why, presence_message
 from share.relay.kept import KeptNote, News, NoSuchPlace, NoteIsFull
-from share.relay.limits import Limits, NewNotes, Allowance
+from share.relay.limits import Allowance, Limits, NewNotes
 from share.text.errors import Trouble
 
 # How often a log is looked at for what was lost, or others wrote.
@@ -41,6 +41,9 @@ class AtNote(Protocol):
     told_up_to: str | None
     # Whether he was told that the note is full.
     knows_full: bool
+
+    def has_room(self) -> bool:
+        """Whether little waits for him."""
 
     def tell(self, page: RelayPage) -> None:
         """Tells of new entries."""
@@ -87,12 +90,12 @@ class Tail:
 class NoteRoom:
     """A note's room, which is there as long as somebody is in it. The loop's thread alone calls it."""
 
-    def __init__(self, note: bytes, kept: KeptNote, limits: Limits, new_notes: NewNotes, says: Callable[[str], None]):
+    def __init__(self, note: bytes, kept: KeptNote, limits: Limits, new_notes: NewNotes, pace: Allowance, says: Callable[[str], None]):
         # Who is told what is new, and how many have or are about to have it open.
         self.members, self.users = set[AtNote](), 0
         self._note, self._kept, self._limits, self._new_notes, self._says = note, kept, limits, new_notes, says
         self._thread = ThreadPoolExecutor(1, thread_name_prefix="note")
-        self._pace, self._presence = Allowance(limits.entries_a_second), Allowance(PRESENCE_A_SECOND)
+        self.pace, self._presence = pace, Allowance(PRESENCE_A_SECOND)
         self._tail, self._size, self._is_open, self._may_begin = Tail(), 0, False, False
         # What all are told while the note is full.
         self._full = ""
@@ -132,7 +135,7 @@ class NoteRoom:
             raise NotDone(Why.WRONG, "That isn't an entry of this note.")
         if not raws:
             return
-        if (wait := self._pace.wait(len(raws))) is None:
+        if (wait := self.pace.wait(len(raws))) is None:
             raise NotDone(Why.RATE, f"This relay takes {self._limits.entries_a_second:,} entries a second of a note (--entries-a-second), "
                                     "and more came. They are sent later.")
         await asyncio.sleep(wait)
@@ -149,7 +152,9 @@ class NoteRoom:
             who.knows_full = True
             self._tell_full(*self.members)
             raise NotDone(Why.FULL, self._full) from why
-        self._full = ""
+        if self._full:
+            self._full = ""
+            self._tell_full(*self.members)
         self._publish(news)
 
     def pass_on(self, presence: bytes) -> None:
@@ -168,16 +173,19 @@ class NoteRoom:
         for one in self.members:
             if one.told_up_to is None or one.told_up_to == news.end:
                 continue
-            goes_on = one.told_up_to == news.after and news.entries
+            # Who reads slowly is told once that there is more, and asks for it when he comes to it.
+            goes_on = one.told_up_to == news.after and news.entries and one.has_room()
             one.tell(RelayPage(UNASKED, bool(goes_on), news.size, one.told_up_to, news.entries if goes_on else []))
             one.told_up_to = news.end if goes_on else None
 
     def _tell_full(self, *members: AtNote) -> None:
-        """Tells of a full note also those who only read, once until there is room again."""
+        """Tells of a full note also those who only read, once until there is room again; who reads slowly as he has read to the end."""
         for one in members:
-            if self._full and not one.knows_full:
+            if not self._full:
+                one.knows_full = False
+            elif not one.knows_full and one.has_room():
+                one.knows_full = True
                 one.warn(Refusal(UNASKED, Why.FULL, self._full))
-            one.knows_full = bool(self._full)
 
     def _have_all_ask(self) -> None:
         """Tells all that there is something to be seen, once until they have read to the end again."""

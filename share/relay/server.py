@@ -15,7 +15,7 @@ from share.log.relay_messages import (ABOUT_PATH, MOST_REQUEST, RELAY_VERSION, S
 from share.relay.door import Door
 from share.relay.front import Answering, add_page, page_rules
 from share.relay.kept import KeptNote
-from share.relay.limits import NewNotes
+from share.relay.limits import NewNotes, Paces
 from share.relay.member import Member, Sending
 from share.relay.membership import PROOF_SECONDS, Challenge, NotProved
 from share.relay.options import RelayOptions
@@ -44,7 +44,8 @@ class RelayServer:
         port, self._files = door.getsockname()[1], PageFiles()
         self.origins, self._lets_in = options.own_origins(port), options.let_in(port)
         self._rules = {**HEADERS, **page_rules(self.origins)}
-        self._new_notes, self._sending = NewNotes(options.limits.new_notes_an_hour), Sending()
+        self._new_notes, self._paces = NewNotes(options.limits.new_notes_an_hour), Paces(options.limits.entries_a_second)
+        self._sending = Sending()
         self._rooms = dict[bytes, NoteRoom]()
         self._sockets, self._closing = set[web.WebSocketResponse](), set[asyncio.Task[None]]()
         self._said = dict[str, float]()
@@ -104,7 +105,8 @@ class RelayServer:
             pass
         finally:
             self._sockets.discard(socket)
-            if not socket.closed and request.transport:
+            # What he hasn't taken by now isn't kept for him.
+            if request.transport and (not socket.closed or request.transport.get_write_buffer_size()):
                 request.transport.abort()
         return socket
 
@@ -129,7 +131,8 @@ class RelayServer:
         """A note's room, which is closed as the last leaves it."""
         if not (room := self._rooms.get(note)):
             limits = self._options.limits
-            room = self._rooms[note] = NoteRoom(note, KeptNote(self._shelf, note, limits.note_bytes), limits, self._new_notes, self._says)
+            kept, pace = KeptNote(self._shelf, note, limits.note_bytes), self._paces.enter(note)
+            room = self._rooms[note] = NoteRoom(note, kept, limits, self._new_notes, pace, self._says)
         room.users += 1
         try:
             yield room
@@ -137,6 +140,7 @@ class RelayServer:
             room.users -= 1
             if not room.users:
                 del self._rooms[note]
+                self._paces.leave(note, room.pace)
                 self._closing.add(closing := asyncio.create_task(room.close()))
                 closing.add_done_callback(self._closing.discard)
 

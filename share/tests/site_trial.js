@@ -32,6 +32,12 @@ async function orWhy(work) {
   }
 }
 
+/** Waits until something is so.
+ * @param {() => unknown} condition */
+async function eventually(condition) {
+  while (!condition()) await new Promise((done) => { setTimeout(done, 20); });
+}
+
 const does = {
   async keys({ key }) {
     const { itself, identity } = await keys.NoteKeys.of(ofHex(key));
@@ -81,6 +87,21 @@ const does = {
   },
   async ofEngine({ engine, ...rest }) {
     return presence.ofEngine({ engine: ofHex(engine), ...rest });
+  },
+  async clockSetBack({ key, raws }) {
+    const [note, said, today] = [await keys.NoteKeys.of(ofHex(key)), [], Date.now];
+    const one = new presence.Presence(note, (raw) => said.push(raw), () => {});
+    one.up();
+    for (const raw of raws) one.heard(ofHex(raw));
+    // It has said again to who has come that it is on.
+    await eventually(() => one.people().length && said.length >= 4);
+    const people = one.people();
+    Date.now = () => today() - 3_600_000;
+    const many = said.length;
+    await eventually(() => said.length > many);
+    Date.now = today;
+    await one.leave();
+    return people;
   },
   async readPresence({ data }) {
     return [presence.readEditor(ofHex(data)), presence.readEngine(ofHex(data))];

@@ -5,8 +5,9 @@ import socket
 import threading
 import time
 import unittest
-from collections.abc import Callable, Iterator
+from collections.abc import Callable, Coroutine, Iterator
 from contextlib import closing, contextmanager, suppress
+from typing import Any
 from unittest import mock
 
 import aiohttp
@@ -349,6 +350,32 @@ class TooMuch(AtPort):
                 writer.transport.abort()
             await self.comes(lambda: self.relay.relay._sending.waiting == 0)
 
+    async def test_who_asks_again_and_again_and_reads_nothing_is_let_go(self) -> None:
+        answer, answered = Member._answer, list[int]()
+
+        async def counted(member: Member, number: int, answering: Coroutine[Any, Any, bytes]) -> None:
+            await answer(member, number, answering)
+            answered.append(number)
+
+        self.fill()
+        with mock.patch.object(Member, "_answer", counted):
+            _, writer = await self.by_hand(True)
+            writer.transport.pause_reading()  # type: ignore[attr-defined]
+            for number in range(1, 5 * MOST_REQUESTS):
+                self.ask_for_page(writer, number)
+                await self.comes(lambda number=number: number in answered or not self.relay.relay._sockets)
+                if not self.relay.relay._sockets:
+                    break
+            # Nor is anything kept for him.
+            await self.comes(lambda: not self.relay.door.connected())
+        # The system takes some of what is sent.
+        self.assertLess(len(answered), 2 * MOST_REQUESTS)
+
+    def fill(self) -> None:
+        """Has the note have more than a page."""
+        with closing(opener_of(self.relay.url, form_of())()) as log, mock.patch("share.relay.room.is_record", lambda *_: True):
+            log.append([number.to_bytes(2, "big") * 8_000 for number in range(100)])
+
     def being_done(self) -> int:
         """How many requests are being done."""
         members = [one for room in [*self.relay.relay._rooms.values()] for one in [*room.members] if isinstance(one, Member)]
@@ -359,10 +386,15 @@ class TooMuch(AtPort):
         _, writer = await self.by_hand(True)
         writer.transport.pause_reading()  # type: ignore[attr-defined]
         for number in range(1, 8):
-            asked = ReadRequest(number, MOST_BYTES_OF_PAGE, START).spelled()
-            writer.write(b"\x82" + bytes([0x80 | len(asked)]) + bytes(4) + asked)
+            self.ask_for_page(writer, number)
         await writer.drain()
         return writer
+
+    @staticmethod
+    def ask_for_page(writer: asyncio.StreamWriter, number: int) -> None:
+        """Asks for as much as there is."""
+        asked = ReadRequest(number, MOST_BYTES_OF_PAGE, START).spelled()
+        writer.write(b"\x82" + bytes([0x80 | len(asked)]) + bytes(4) + asked)
 
     @staticmethod
     async def comes(condition: Callable[[], bool]) -> None:
@@ -370,10 +402,8 @@ class TooMuch(AtPort):
         await asyncio.to_thread(wait_for, condition, "it to be so")
 
     async def test_who_takes_nothing_for_long_is_let_go(self) -> None:
+        self.fill()
         with mock.patch.multiple("share.relay.member", SLOWEST_SEND_SECONDS=0.5, SLOWEST=2**30):
-            with closing(opener_of(self.relay.url, form_of())()) as log:
-                for begin in range(0, 6_000, 500):
-                    log.append([record(number) for number in range(begin, begin + 500)])
             writer = await self.who_reads_nothing()
             await self.comes(lambda: not self.relay.relay._sockets)
             writer.close()

@@ -24,7 +24,7 @@ from share.format.second.signature import REFUSED_POINTS
 from share.log.base import Unreachable
 from share.log.opening import opener_of
 from share.log.relay_messages import RelayPage
-from share.relay.kept import KeptNote, NoSuchPlace, Reading
+from share.relay.kept import KeptNote, NoSuchPlace, NoteIsFull, Reading
 from share.relay.limits import Limits
 from share.relay.page_files import PageFiles
 from share.tests.pages import FAULTS_OF_LOOKS, LOOKS_SO, is_fault
@@ -186,6 +186,24 @@ class Notes(Front):
         self.relay.start()
         wait_for(lambda: self.at_relay(link) == before, "the relay to have all again")
         window.wait_for(ALL_SENT)
+
+    def test_what_a_relay_refuses_is_not_shown_as_sent(self) -> None:
+        relay = RelayHere(self.folder / "full")
+        self.addCleanup(relay.close)
+        with mock.patch.object(KeptNote, "append", side_effect=NoteIsFull):
+            window = self.at(relay.url)
+            link = self.made(window, "one")
+            for _ in range(2):
+                window.wait_for(f"{STANDING}.includes('--note-bytes') && {STANDING}.endsWith(', 1 entry kept here and not sent')")
+                window.driver.refresh()
+                window.wait_for("document.querySelector('#list button')")
+                window.click_on("#list button")
+        window.driver.refresh()
+        window.wait_for("document.querySelector('#list button')")
+        window.click_on("#list button")
+        window.wait_for(ALL_SENT)
+        with closing(opener_of(relay.url, SealedRecords(link_of(link).secret))()) as log:
+            self.assertEqual(log.size(), 1)
 
     def test_two_tabs_of_which_one_ends(self) -> None:
         first = self.at()

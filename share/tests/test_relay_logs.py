@@ -18,7 +18,9 @@ from share.log.bell import Bell
 from share.log.opening import opener_of
 from share.log.relay import Following, RelayLogs
 from share.log.relay_line import RelayLine
-from share.relay.limits import Allowance, Limits, NewNotes
+from share.relay.kept import NoteIsFull
+from share.relay.limits import Allowance, Limits, NewNotes, Paces
+from share.relay.member import Member
 from share.tests import test_logs
 from share.tests.relays import KEY, OTHER_KEY, RelayHere, RelayProcess, form_of, record
 from share.tests.servers import RedisServer
@@ -188,6 +190,17 @@ class InFolder(AtRelay):
                 self.assertEqual(([one.raw for one in page], log.size_to(page[-1].place)), ([record(number)], number + 1))
                 place = page[-1].place
 
+    def test_who_reads_slowly_is_told_once_that_there_is_more(self) -> None:
+        log, other = self.log_of(), self.log_of()
+        self.assertEqual(log.read(START), [])
+        tells = mock.patch.object(Member, "tell", autospec=True, side_effect=Member.tell)
+        with mock.patch("share.relay.member.MOST_UNSENT", -1), tells as told:
+            for number in range(10):
+                other.append([record(number)])
+            self.assertEqual(told.call_count, 1)
+        log.watch(START, PATIENCE)
+        self.assertEqual(len(log.read(START)), 10)
+
     def test_a_lost_file_is_seen_and_filled_again(self) -> None:
         log = self.log_of()
         losses: list[Callable[[], object]] = [self.file.unlink, lambda: self.file.write_bytes(b""), lambda: self.cut("place < 2"),
@@ -284,6 +297,33 @@ class InFolder(AtRelay):
                 again.say(b"three")
                 self.assertEqual(again.hear(PATIENCE, bell), [b"three"])
 
+    def test_more_presence_than_some_a_second_is_passed_on_to_nobody(self) -> None:
+        # So few that it is too much however slowly it comes on a busy machine.
+        with mock.patch("share.relay.room.PRESENCE_A_SECOND", 0.2):
+            log = self.log_of()
+            channel = log.channel()
+            assert channel
+            with closing(channel), closing(Bell()) as bell, mock.patch.object(Member, "pass_on", autospec=True) as passed:
+                for number in range(50):
+                    channel.say(bytes([number]))
+                log.append([record(1)])
+                self.assertEqual(channel.hear(0.0, bell), [])
+                # What ten seconds have is passed on at once.
+                self.assertLess(passed.call_count, 50)
+                self.assertGreaterEqual(passed.call_count, 2)
+
+    def test_who_reads_slowly_is_given_no_presence(self) -> None:
+        log = self.log_of()
+        channel = log.channel()
+        assert channel
+        with closing(channel), closing(Bell()) as bell:
+            with mock.patch("share.relay.member.MOST_UNSENT", -1):
+                channel.say(b"lost")
+                # By then it was taken.
+                self.assertEqual(log.size(), 0)
+            channel.say(b"heard")
+            self.assertEqual(channel.hear(PATIENCE, bell), [b"heard"])
+
     def test_presence_is_kept_nowhere(self) -> None:
         log = self.log_of()
         log.append([record(1)])
@@ -326,6 +366,22 @@ class Full(AtRelay):
         # Others' notes have room.
         self.log_of(OTHER_KEY).append([record(1, OTHER_KEY)])
 
+    def test_what_is_too_much_at_once_is_refused_whole(self) -> None:
+        log = self.log_of()
+        with self.assertRaisesRegex(Unreachable, "note is full"):
+            log.append([record(number) for number in range(600)])
+        self.assertEqual(log.size(), 0)
+
+    def test_who_only_reads_is_told_each_time(self) -> None:
+        log, other = self.log_of(), self.log_of()
+        self.assertEqual(log.read(START), [])
+        with mock.patch("share.log.relay_line.FULL_SECONDS", 0.0):
+            for number in range(3):
+                with mock.patch("share.relay.kept.KeptNote.append", side_effect=NoteIsFull), self.assertRaises(Unreachable):
+                    other.append([record(number)])
+                wait_for(log.told, "it to be told")
+                other.append([record(number)])
+
 
 class Slow(AtRelay):
     """A relay that takes little at once."""
@@ -338,7 +394,7 @@ class Slow(AtRelay):
         log.append([record(number) for number in range(200)])
         log.append([record(number) for number in range(200, 240)])
         self.assertGreater(time.monotonic() - begin, 1.9)
-        with mock.patch.object(self.relay.relay._rooms[form_of().note]._pace, "wait", lambda *_: None):
+        with mock.patch.object(self.relay.relay._rooms[form_of().note].pace, "wait", lambda *_: None):
             with self.assertRaisesRegex(Unreachable, r"takes 20 entries a second of a note \(--entries-a-second\)"):
                 log.append([record(240)])
         log.append([record(240)])
@@ -354,6 +410,28 @@ class Slow(AtRelay):
         now += 1_000
         self.assertEqual([pace.wait(200), pace.wait(1_000), pace.wait(1)], [0, 5, None])
 
+    def test_who_leaves_and_comes_again_has_no_more(self) -> None:
+        for waits in 0, 5:
+            with closing(self.opened_of()):
+                pace = self.relay.relay._rooms[form_of().note].pace
+                # However long a busy machine takes.
+                pace._now, pace._since = lambda: 100.0, 100.0
+                self.assertEqual(pace.wait(200), waits)
+            wait_for(lambda: not self.relay.relay._rooms, "the room to be left")
+
+    def test_what_has_rested_is_not_remembered(self) -> None:
+        now = 100.0
+        paces = Paces(20, lambda: now)
+        one, two = paces.enter(b"one"), paces.enter(b"two")
+        one.wait(50)
+        paces.leave(b"one", one)
+        paces.leave(b"two", two)
+        self.assertEqual([*paces._left], [b"one"])
+        self.assertIs(paces.enter(b"one"), one)
+        now += 3
+        paces.leave(b"one", one)
+        self.assertEqual([*paces._left], [])
+
     def test_who_has_one_address_of_ipv6_has_all_that_begin_so(self) -> None:
         now = 100.0
         notes = NewNotes(1, lambda: now)
@@ -365,6 +443,8 @@ class Slow(AtRelay):
         for number in range(20_000):
             notes.take(f"10.1.{number // 250}.{number % 250}")
         self.assertLessEqual(len(notes._made), 10_000)
+        # The last ones are remembered.
+        self.assertFalse(notes.take("10.1.79.249"))
 
     def test_new_notes_of_an_address(self) -> None:
         keys = [bytes([number]) * 32 for number in range(4)]

@@ -109,14 +109,16 @@ class Offline(Front):
     def test_another_version_is_taken_as_the_user_says(self) -> None:
         window, other = self.kept(), self.kept()
         before = listed(PageFiles())
-        after = listed(self.versions.offer("Other", front_css=("16px", "17px")))
+        after = listed(self.versions.offer("Other", front_css=("16px", "17px"), searching_js=("The worker", "A worker")))
         for _ in range(3):
             window.driver.refresh()
             window.wait_for(IS_OFFERED)
             self.assertEqual(window.run("document.title"), "Notes")
         self.assertEqual(({*window.run(f"{KEPT}.textContent").split("\n")}, {*window.run(f"{LISTED}.textContent").split("\n")}),
                          (before - after, after - before))
-        self.assertEqual(len(before - after), 2)
+        # These two, and what names the second one.
+        self.assertEqual({line.split()[1].partition(".")[0] for line in before - after},
+                         {"index", "front", "searching", "claim", "spare", "shown"})
         window.click_on("#take")
         window.wait_for("document.title === 'Other' && !document.getElementById('front').hidden")
         window.wait_for(f"{IS_KEPT} && {NOT_OFFERED}")
@@ -124,6 +126,8 @@ class Offline(Front):
         self.assertEqual(other.run("document.title"), "Notes")
         self.made(other, "by the one of before")
         other.wait_for(ALL_SENT)
+        # Also with what it loads only now, which the relay doesn't have any more.
+        other.wait_for("document.getElementById('facts').textContent.includes('found and kept here')")
         other.close()
         # Both of these are of the new one, also without the relay; nothing is left of the old one.
         self.versions.relay.stop()
@@ -144,6 +148,22 @@ class Offline(Front):
         window.command("Network.setBypassServiceWorker", bypass=False)
         window.driver.refresh()
         window.wait_for(f"document.title === 'Notes' && {IS_OFFERED}")
+
+    def test_what_else_is_there_is_shown_as_text(self) -> None:
+        """A server that lies has no other document read what the browser keeps."""
+        window = self.kept()
+        self.versions.offered.files["/other"] = PageFile("text/html", b"<title>Other</title>")
+        self.versions.again()
+        for path, words in ("/other", "<title>Other</title>"), ("/other?x#y", "<title>Other</title>"), ("/digests", "index.html"):
+            window.driver.get(self.versions.relay.url + path)
+            window.wait_for("document.contentType === 'text/plain' && document.body.textContent.includes(words[0])", words)
+        # Nor is what somebody elsewhere has it send there.
+        window.driver.get("data:text/html,<form method=post></form>")
+        submits = "((form, to) => { form.action = to; form.submit(); })(document.forms[0], arguments[0])"
+        window.run(submits, f"{self.versions.relay.url}/other")
+        window.wait_for("location.pathname === '/other' && document.contentType === 'text/plain'")
+        window.driver.get(self.versions.relay.url)
+        window.wait_for(IS_KEPT)
 
     def test_a_version_that_is_not_what_it_says_is_not_taken(self) -> None:
         self.kept().close()

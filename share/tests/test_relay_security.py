@@ -9,6 +9,7 @@ import socket
 import threading
 import unittest
 from collections.abc import Callable, Iterator, Sequence
+from concurrent.futures import ThreadPoolExecutor
 from contextlib import closing
 from typing import Any
 from unittest import mock
@@ -28,6 +29,7 @@ from share.tests.relays import BehindRelay, RelayHere, form_of, record
 from share.tests.servers import Hostile
 from share.tests.support import Case, raws_of, type_at_the_end, wait_for, written
 from share.tests.test_security import Tapped
+from share.tests.waiting import PATIENCE
 from share.text.errors import Trouble
 
 # The tests that are loaded here again are those of a note of the second form, whatever others run.
@@ -232,10 +234,13 @@ class Lying(Case):
         self.addCleanup(log.close)
         self.assertEqual(log.read(START), [])
         following = log._following  # type: ignore[attr-defined]
-        junk = RelayPage(0, True, 1, START, [InLog(str(number), bytes(1_000)) for number in range(100)])
-        for _ in range(1_000):
-            following.came(junk)
-        self.assertLessEqual(sum(len(one.raw or b"") for page in following._pages for one in page.entries), MOST_BYTES_OF_PAGE)
+        for raw in bytes(1_000), b"", None:
+            junk = RelayPage(0, True, 1, START, [InLog(str(number), raw) for number in range(100)])
+            for _ in range(1_000):
+                following.came(junk)
+            self.assertLessEqual(sum(len(one.raw or b"") for page in following._pages for one in page.entries), MOST_BYTES_OF_PAGE)
+            self.assertLess(len(following._pages), 100)
+            self.assertIsNone(following.take("7.7"))
         channel = log.channel()
         assert channel
         with closing(channel), closing(Bell()) as bell:
@@ -265,6 +270,49 @@ class Strange(Case):
                     RelayLogs(url, form_of())()
         with self.assertRaisesRegex(Unreachable, "http://127.0.0.1:1: "):
             RelayLogs("http://127.0.0.1:1", form_of())()
+
+    def test_nobody_is_sent_elsewhere(self) -> None:
+        came = list[bytes]()
+
+        def answers(asked: bytes) -> bytes:
+            came.append(asked)
+            return b""
+
+        elsewhere = Hostile(answers)
+        self.addCleanup(elsewhere.close)
+        to = elsewhere.url.replace("redis:", "http:")
+        hostile = Hostile(lambda asked: f"HTTP/1.1 302 Found\r\nLocation: {to}/x\r\nContent-Length: 0\r\n\r\n".encode())
+        self.addCleanup(hostile.close)
+        with self.assertRaisesRegex(Trouble, "not as a relay"):
+            RelayLogs(hostile.url.replace("redis:", "http:"), form_of())()
+        self.assertEqual(came, [])
+
+    def test_one_that_takes_nothing_holds_up_nobody(self) -> None:
+        relay, begun = RelayHere(self.folder / "kept"), threading.Event()
+        self.addCleanup(relay.close)
+
+        async def never(*_: object) -> None:
+            begun.set()
+            await asyncio.Event().wait()
+
+        log = RelayLogs(relay.url, form_of())()
+        channel = log.channel()
+        calls: list[Callable[[], object]] = [lambda: channel.say(b"x"), lambda: log.append([record(1)]), log.size]
+        for call in calls:
+            with mock.patch("share.log.relay_line.REPLY_SECONDS", 0.1), mock.patch("aiohttp.ClientWebSocketResponse.send_bytes", never):
+                with self.assertRaisesRegex(Unreachable, "doesn't answer in time"):
+                    call()
+            with mock.patch("share.log.relay_line.REPLY_SECONDS", PATIENCE):
+                log.size()
+        channel.close()
+        # What is being said as the last log is closed ends, too.
+        begun.clear()
+        with mock.patch("aiohttp.ClientWebSocketResponse.send_bytes", never), ThreadPoolExecutor(1) as thread:
+            saying = thread.submit(log._line.say, b"x")
+            self.assertTrue(begun.wait(PATIENCE))
+            log.close()
+            with self.assertRaises(Unreachable):
+                saying.result(PATIENCE)
 
     def test_messages_that_are_none_end_the_line_in_words(self) -> None:
         """A relay that proves nothing of itself, and says anything."""

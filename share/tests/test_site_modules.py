@@ -140,6 +140,15 @@ class Vectors(Modules):
                          [one["data"]] + [None] * len(damaged + others))
         self.assertEqual(form.present(raw), bytes.fromhex(one["data"]))
 
+    def test_a_clock_that_is_set_back(self) -> None:
+        """A page goes on saying that it is on."""
+        form = SealedRecords(bytes.fromhex(VECTORS["sealed"]["key"]))
+        token = bytes(range(8))
+        raws = [form.presence(heartbeat_of(Said(token, 1, 0, (), Hears.CHANNEL_FROM_NOW))),
+                form.presence(with_count(presence_of(Present(token, bytes(16), 7, "#112233", None, None, "Ann")), 2))]
+        found = self.asked("clockSetBack", key=VECTORS["sealed"]["key"], raws=[raw.hex() for raw in raws])
+        self.assertEqual(found, [{"name": "Ann", "colour": "#112233"}])
+
     def test_facts(self) -> None:
         note, authors, claims = VECTORS["sealed"], VECTORS["authors"], VECTORS["claims"]
         raws = [one["raw"] for one in note["entries"]]
@@ -149,6 +158,10 @@ class Vectors(Modules):
         self.assertEqual(numbers[claims["bob"]["site"]], (authors["bob"]["name"], 7, False))
         self.assertEqual(numbers[claims["cy"]["site"]][0], authors["cy"]["name"])
         self.assertEqual((len(numbers), found["entries"], found["isCopy"], found["renewedBy"]), (3, len(raws), True, ["Cy"]))
+        # Names are cut between characters.
+        form = SealedRecords(bytes.fromhex(note["key"]))
+        raws = [form.renewed(name, 7, AUTHOR).raw.hex() for name in ("\U0001f44d" * 41, " \u202eAnn\0 ", "")]
+        self.assertEqual(self.asked("facts", key=note["key"], raws=raws)["renewedBy"], ["\U0001f44d" * 40, "Ann", "somebody"])
 
 
 class BesidePython(Modules):

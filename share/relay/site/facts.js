@@ -1,12 +1,10 @@
 // What is known of a note without its text: who founded it, whose the numbers are, how much there is.
 import { equal, hex, numberAt } from "./bytes.js";
 import { KIND, counterOf, headOf, opened } from "./entry.js";
+import { clean } from "./presence.js";
 import { rankOf } from "./rank.js";
 
 const FOUNDER_AT = 64;
-// What isn't shown as it is: signs that change where text stands.
-const NO_NAME = /[\p{Cc}\u061c\u200e\u200f\u2028-\u202e\u2066-\u2069\p{Cs}]/gu;
-const MOST_NAME = 40;
 
 /** A number that somebody has, and how many messages stand under it.
  * @typedef {{ site: number, author: string, messages: number, isFounder: boolean }} Numbered */
@@ -87,7 +85,7 @@ export class Facts {
 
   /** @param {Uint8Array} body */
   #renewed(body) {
-    const name = new TextDecoder().decode(body).replace(NO_NAME, "").trim().slice(0, MOST_NAME) || "somebody";
+    const name = clean(new TextDecoder().decode(body)) || "somebody";
     if (!this.renewedBy.includes(name)) this.renewedBy.push(name);
   }
 }

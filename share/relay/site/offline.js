@@ -63,6 +63,13 @@
     }
   }
 
+  /** What else the server has there, as text alone: a document that runs something could read all notes.
+   * @param {string} address */
+  async function asText(address) {
+    const answer = await fetch(address, { cache: "no-cache", credentials: "omit", redirect: "error" });
+    return new Response(await answer.text(), { headers: { "Content-Type": "text/plain; charset=utf-8", "X-Content-Type-Options": "nosniff" } });
+  }
+
   /** Drops what other versions had, once no window is open that may need it. */
   async function forget() {
     if ((await worker.clients.matchAll({ includeUncontrolled: true, type: "window" })).length) return;
@@ -73,14 +80,17 @@
   worker.addEventListener("install", (/** @type {any} */ event) => event.waitUntil(begin()));
   worker.addEventListener("activate", (/** @type {any} */ event) => event.waitUntil(worker.clients.claim()));
   worker.addEventListener("fetch", (/** @type {any} */ event) => {
-    const { pathname, origin: from } = new URL(event.request.url);
-    if (event.request.method !== "GET" || from !== origin) return;
+    const { url, method, mode } = event.request;
+    const { pathname, origin: from } = new URL(url);
+    if (from !== origin) return;
     const [, digest] = ADDRESS.exec(pathname) ?? [];
-    if (digest) {
+    if (method === "GET" && digest) {
       event.respondWith(caches.match(pathname).then((kept) => kept ?? fetched(pathname, digest)));
-    } else if (event.request.mode === "navigate" && pathname === FRONT) {
+    } else if (method === "GET" && mode === "navigate" && pathname === FRONT) {
       event.respondWith(front());
       event.waitUntil(forget());
+    } else if (mode === "navigate") {
+      event.respondWith(asText(url));
     }
   });
 }

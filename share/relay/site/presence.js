@@ -19,8 +19,12 @@ const [BEAT_MS, ON_MS, AGAIN_MS] = [5_000, 15_000, 1_000];
 // What a name doesn't have: controls, what turns the direction of writing, and what is no character.
 const NO_NAME = /[\p{Cc}\p{Cs}\u061c\u200e\u200f\u2028-\u202e\u2066-\u2069]/gu;
 
-/** @param {string} name */
-const clean = (name) => [...name.replace(NO_NAME, "").trim()].slice(0, MOST_NAME).join("");
+/** The time by a clock that nobody sets. */
+const now = () => performance.now();
+
+/** A name as it is shown.
+ * @param {string} name */
+export const clean = (name) => [...name.replace(NO_NAME, "").trim()].slice(0, MOST_NAME).join("");
 
 /** @param {Uint8Array} bytes @param {number} size */
 function filled(bytes, size) {
@@ -87,14 +91,14 @@ class Voices {
     const known = this.#heard.get(name);
     if (known && count <= known.count) return false;
     this.#heard.delete(name);
-    this.#heard.set(name, { count, at: Date.now() });
+    this.#heard.set(name, { count, at: now() });
     if (this.#heard.size > MOST_TOKENS) this.#heard.delete(this.#heard.keys().next().value ?? "");
     return true;
   }
 
   /** @param {string} name */
   isOn(name) {
-    return Date.now() - (this.#heard.get(name)?.at ?? 0) < ON_MS;
+    return now() - (this.#heard.get(name)?.at ?? -Infinity) < ON_MS;
   }
 }
 
@@ -213,11 +217,11 @@ export class Presence {
 
   /** Says what is due, and tells where others came or went. */
   async #sayDue() {
-    const now = Date.now();
-    const isAgain = this.#hasCome && now >= this.#mayAgain;
-    if (this.#isUp && (isAgain || now >= this.#due)) await this.#beat(HEARS.channel);
+    const time = now();
+    const isAgain = this.#hasCome && time >= this.#mayAgain;
+    if (this.#isUp && (isAgain || time >= this.#due)) await this.#beat(HEARS.channel);
     if (this.#isUp && isAgain) {
-      [this.#hasCome, this.#mayAgain] = [false, now + AGAIN_MS];
+      [this.#hasCome, this.#mayAgain] = [false, time + AGAIN_MS];
       await this.#showYou(false);
     }
     this.#tell();
@@ -232,7 +236,7 @@ export class Presence {
 
   /** @param {number} hears */
   async #beat(hears) {
-    this.#due = Date.now() + BEAT_MS;
+    this.#due = now() + BEAT_MS;
     this.#say(await sealedPresence(this.#keys, ofEngine({ engine: this.#engine, count: this.#counted(), hears })));
   }
 
