@@ -59,7 +59,7 @@ class Paces:
 
     def enter(self, note: bytes) -> Allowance:
         """That of a note, as somebody comes to it."""
-        return self._left.pop(note, None) or Allowance(self._a_second, self._now)
+        return self._left.pop(note) if note in self._left else Allowance(self._a_second, self._now)
 
     def leave(self, note: bytes, pace: Allowance) -> None:
         """Keeps that of a note that everybody has left, until it has rested."""

@@ -351,7 +351,7 @@ class TooMuch(AtPort):
             await self.comes(lambda: self.relay.relay._sending.waiting == 0)
 
     async def test_who_asks_again_and_again_and_reads_nothing_is_let_go(self) -> None:
-        answer, answered = Member._answer, list[int]()
+        answer, answered, asked = Member._answer, list[int](), list[int]()
 
         async def counted(member: Member, number: int, answering: Coroutine[Any, Any, bytes]) -> None:
             await answer(member, number, answering)
@@ -363,7 +363,8 @@ class TooMuch(AtPort):
             writer.transport.pause_reading()  # type: ignore[attr-defined]
             for number in range(1, 5 * MOST_REQUESTS):
                 self.ask_for_page(writer, number)
-                await self.comes(lambda number=number: number in answered or not self.relay.relay._sockets)
+                asked.append(number)
+                await self.comes(lambda: asked[-1] in answered or not self.relay.relay._sockets)
                 if not self.relay.relay._sockets:
                     break
             # Nor is anything kept for him.
