@@ -9,7 +9,7 @@ from share.engine.any_shown import AnyShown
 from share.engine.nearby import Nearby, Settled
 from share.engine.spots import Followed, Placed, Spot, asked, head, placed
 from share.engine.whereabouts import Whereabouts
-from share.format.operation import Operation
+from share.format.operation import INSERT, Operation
 from share.program.order import FullOrder
 from share.program.site import Site
 from share.review.anchor import Knows, Sums, holds, lacking
@@ -46,6 +46,30 @@ class FoundThread(NamedTuple):
     spot: Spot
 
 
+class Passages:
+    """The characters that threads are about, and what came in directly behind one of them."""
+
+    def __init__(self) -> None:
+        self._about, self._behind = NameSet(), NameSet()
+
+    def add(self, names: Iterable[Names]) -> None:
+        """Adds characters that a thread is about."""
+        self._about.add(names)
+
+    def has(self, run: Operation) -> bool:
+        """Whether one of them is inserted, hidden or shown."""
+        return self._about.meets(run.names)
+
+    def has_behind(self, run: Operation) -> bool:
+        """Whether something comes in directly behind one of them, or goes again: a passage may be another then."""
+        if run.kind != INSERT:
+            return self._behind.meets(run.names)
+        is_behind = self._about.meets(run.mentions)
+        if is_behind:
+            self._behind.add(run.names)
+        return is_behind
+
+
 class ShownMargin:
     """The threads that are shown. The engine's thread alone calls it."""
 
@@ -67,7 +91,7 @@ class ShownMargin:
         # What they are about; those that hold; what others lack for that.
         self._about, self._held, self._lacking = dict[Name, AboutText](), set[Name](), NameIndex[Name]()
         # All characters that they are about, and who is about some.
-        self._names, self._of_names = NameSet(), NameIndex[Name]()
+        self._names, self._of_names = Passages(), NameIndex[Name]()
         # Of suggestions what is shown as one is accepted, or isn't where nothing is suggested instead.
         self._replaced = AnyShown()
         # Those that are open by what is said of them, and those that are.
@@ -108,8 +132,9 @@ class ShownMargin:
             self.forget()
             changed, self._is_news = {*margin.said.threads()}, True
         else:
-            runs = [run for run in messages.runs() if self._names.meets(run.names)] if self._spots else []
-            self._is_news |= bool(changed or runs)
+            came = [*messages.runs()] if self._spots else []
+            runs = [run for run in came if self._names.has(run)]
+            self._is_news |= bool(changed or runs) or any([self._names.has_behind(run) for run in came])
             self.ordered = None if changed or runs or self._waiting else self.ordered
             for run in runs:
                 self._follow(run)

@@ -473,6 +473,18 @@ class Notices(Reviewed):
         self._sends("undo")
         self.assertEqual(told(), [[], [{"all": 2, "open": 1}]])
 
+    def test_who_sees_remarks_is_told_that_a_passage_may_be_another(self) -> None:
+        self.editors[1][0].sees_remarks = True
+        self.type(0, 0, "one two\n")
+        self.meet()
+        self._sends("suggest", begin=0, end=3, new="1")
+        self.meet()
+        # Within the passage, and away from it; and what was typed within it goes.
+        for change, is_told, is_changed in (((1, 1, "x"), True, True), ((8, 8, "!"), False, True), ((1, 2, ""), True, False)):
+            self.editors[0][1].edit([change])
+            told = [line for line in self.meet()[1] if line.get("notice") == "remarks"]
+            self.assertEqual((bool(told), self.one().get("changed", False)), (is_told, is_changed), change)
+
     def _sends(self, what: str, **more: Any) -> None:
         mirror, asked = self.editors[0][1], self.editors[0][3]
         asked.append(json.dumps({"do": what, "version": mirror.version, **more}).encode())
