@@ -1,4 +1,4 @@
-// Takes the link out of the address before anything else is loaded, so that nobody reads it there, and no history keeps it.
+// Takes the link out of the address before anything else is loaded, so that nobody reads it there. A browser may have kept it before.
 "use strict";
 
 /** @type {any} */ (window).given = location.hash;
