@@ -47,9 +47,11 @@ def has_yjs() -> bool:
     return subprocess.run(["node", "-e", "require('yjs')"], env=ENVIRONMENT, capture_output=True, check=False).returncode == 0
 
 
-def measured(command: Sequence[str | pathlib.Path], mode: str, edits: str, text: str, busy: bool) -> tuple[float, int]:
-    """The seconds, of the clock or the processors, and the bytes by which the most memory grew."""
-    ran = subprocess.run([*command, mode], input=edits, env=ENVIRONMENT, capture_output=True, text=True, check=False)
+def measured(command: Sequence[str | pathlib.Path], mode: str, edits: str, text: str, busy: bool,
+             limit: float | None = None) -> tuple[float, int]:
+    """The seconds, of the clock or the processors, and the bytes by which the most memory grew. A run that takes longer than a limit
+    is ended."""
+    ran = subprocess.run([*command, mode], input=edits, env=ENVIRONMENT, capture_output=True, text=True, check=False, timeout=limit)
     figures, _, shown = ran.stdout.partition("\n")
     if ran.returncode or shown != f"{text}\n":
         sys.exit(f"{command}, {mode}: {ran.stderr or 'another text is shown'}")

@@ -11,6 +11,8 @@
 #define MESSAGE 10297
 #define PASTE 4000
 #define READINGS 10
+#define LAST 10
+#define KEYS 10000
 
 typedef struct {
     uint64_t pos;
@@ -136,52 +138,139 @@ static uint64_t shown(vialshoal_text *text, uint8_t **room) {
     return length;
 }
 
-static spent least_reading(vialshoal_text *text) {
-    uint8_t *room = NULL;
-    spent least = {1e9, 1e9};
-    for (int i = 0; i < READINGS; i++) {
-        spent begin = now();
-        shown(text, &room);
-        spent one = since(begin);
-        if (one.busy < least.busy) least = one;
-    }
-    free(room);
-    return least;
-}
-
-static void pasted(vialshoal_text *text, const edit *edits, size_t count) {
-    uint8_t part[PASTE];
-    for (size_t i = 0; i < count; i += PASTE) {
+static void made(vialshoal_text *text, const edit *edits, size_t count) {
+    uint8_t message[MESSAGE];
+    for (size_t i = 0; i < count; i++) {
         uint32_t sent;
-        size_t length = count - i < PASTE ? count - i : PASTE;
-        for (size_t k = 0; k < length; k++) part[k] = (uint8_t)edits[i + k].letter;
-        check(vialshoal_insert(text, i, part, length, &sent));
+        uint64_t length;
+        make(text, edits[i], &sent);
+        for (uint32_t k = 0; k < sent; k++) check(vialshoal_message(text, k, message, sizeof message, &length));
         check(vialshoal_let_go(text));
     }
 }
 
-int main(int argc, char **argv) {
-    vialshoal_text a = {0}, b = {0};
+/* Puts in the letters of edits that type one after the other, so many by a call. */
+static void pasted(vialshoal_text *text, const edit *edits, size_t count, size_t most) {
+    uint8_t *part = grown(NULL, most);
+    for (size_t i = 0; i < count; i += most) {
+        uint32_t sent;
+        size_t length = count - i < most ? count - i : most;
+        for (size_t k = 0; k < length; k++) part[k] = (uint8_t)edits[i + k].letter;
+        check(vialshoal_insert(text, i, part, length, &sent));
+        check(vialshoal_let_go(text));
+    }
+    free(part);
+}
+
+/* What was taken in past fronts, in chunks. */
+static buffer packed_past(const vialshoal_text *text, const vialshoal_site_front *fronts, size_t count) {
+    uint64_t need;
+    uint32_t number = vialshoal_pack(text, fronts, count, NULL, 0, &need);
+    if (number != VIALSHOAL_TOO_SHORT) check(number);
+    buffer all = {grown(NULL, need + 1), need, need};
+    check(vialshoal_pack(text, fronts, count, all.bytes, need, &need));
+    return all;
+}
+
+static buffer file_of(const vialshoal_text *text) {
+    uint64_t need;
+    vialshoal_store_packed(text, NULL, 0, &need);
+    buffer file = {grown(NULL, need), need, need};
+    check(vialshoal_store_packed(text, file.bytes, need, &need));
+    return file;
+}
+
+/* -- what is timed, by its name -- */
+
+typedef struct {
+    vialshoal_text a, b;
+    const edit *edits;
     size_t count;
-    edit *edits = edits_of(stdin, &count);
-    const char *mode = argc == 2 ? argv[1] : "";
+    /* What is handed in, and how much of what was done before isn't meant. */
+    buffer given;
+    vialshoal_site_front front;
+} run;
+
+static void begin_joined(run *it) { it->given = messages_of(&it->a, it->edits, it->count); }
+static void begin_read(run *it) { pasted(&it->b, it->edits, it->count, PASTE); }
+static void begin_far(run *it) { pasted(&it->b, it->edits, it->count - KEYS, it->count); }
+static void begin_loaded(run *it) {
+    made(&it->a, it->edits, it->count);
+    it->given = file_of(&it->a);
+}
+static void begin_since(run *it) {
+    made(&it->b, it->edits, it->count - LAST);
+    it->front.site = 2;
+    check(vialshoal_front(&it->b, 2, &it->front.seq));
+    made(&it->b, it->edits + it->count - LAST, LAST);
+}
+
+static void does_typed(run *it) { typed(&it->a, &it->b, it->edits, it->count); }
+static void does_made(run *it) { made(&it->b, it->edits, it->count); }
+static void does_joined(run *it) { joined(&it->b, it->given); }
+static void does_far(run *it) { made(&it->b, it->edits + it->count - KEYS, KEYS); }
+static void does_loaded(run *it) {
+    check(vialshoal_free(&it->b));
+    check(vialshoal_load(&it->b, it->given.bytes, it->given.length));
+}
+static void does_pasted(run *it) {
+    check(vialshoal_free(&it->b));
+    check(vialshoal_new(&it->b, 1, 2));
+    pasted(&it->b, it->edits, it->count, it->count);
+    free(packed_past(&it->b, NULL, 0).bytes);
+}
+static void does_read(run *it) {
     uint8_t *room = NULL;
-    buffer all = {NULL, 0, 0};
-    check(vialshoal_new(&a, 1, 1));
-    check(vialshoal_new(&b, 1, 2));
-    if (strcmp(mode, "joined") == 0) all = messages_of(&a, edits, count);
-    if (strcmp(mode, "read") == 0) pasted(&b, edits, count);
+    shown(&it->b, &room);
+    free(room);
+}
+static void does_since(run *it) { free(packed_past(&it->b, &it->front, 1).bytes); }
+
+static const struct {
+    const char *name;
+    void (*begins)(run *);
+    void (*does)(run *);
+    int times; /* of which the quickest counts */
+} MODES[] = {
+    {"typed", NULL, does_typed, 1},
+    {"made", NULL, does_made, 1},
+    {"joined", begin_joined, does_joined, 1},
+    {"read", begin_read, does_read, READINGS},
+    {"pasted", NULL, does_pasted, READINGS},
+    {"far", begin_far, does_far, 1},
+    {"since", begin_since, does_since, READINGS},
+    {"loaded", begin_loaded, does_loaded, READINGS},
+};
+
+static spent least(run *it, size_t mode) {
+    spent least = {1e9, 1e9};
+    for (int i = 0; i < MODES[mode].times; i++) {
+        spent begin = now();
+        MODES[mode].does(it);
+        spent one = since(begin);
+        if (one.busy < least.busy) least = one;
+    }
+    return least;
+}
+
+int main(int argc, char **argv) {
+    size_t count, mode = 0, modes = sizeof MODES / sizeof *MODES;
+    edit *edits = edits_of(stdin, &count);
+    run it = {{0}, {0}, edits, count, {NULL, 0, 0}, {0}};
+    while (mode < modes && (argc != 2 || strcmp(argv[1], MODES[mode].name) != 0)) mode++;
+    if (mode == modes) return 2;
+    check(vialshoal_new(&it.a, 1, 1));
+    check(vialshoal_new(&it.b, 1, 2));
+    if (MODES[mode].begins != NULL) MODES[mode].begins(&it);
     long before = peak();
-    spent begin = now();
-    if (strcmp(mode, "typed") == 0) typed(&a, &b, edits, count);
-    if (strcmp(mode, "joined") == 0) joined(&b, all);
-    spent seconds = strcmp(mode, "read") == 0 ? least_reading(&b) : since(begin);
+    spent seconds = least(&it, mode);
     long after = peak();
-    uint64_t length = shown(&b, &room);
+    uint8_t *room = NULL;
+    uint64_t length = shown(&it.b, &room);
     printf("%.9f %.9f %ld\n%.*s\n", seconds.clock, seconds.busy, after - before, (int)length, (const char *)room);
     free(room);
-    free(all.bytes);
+    free(it.given.bytes);
     free(edits);
-    vialshoal_free(&a);
-    vialshoal_free(&b);
+    vialshoal_free(&it.a);
+    vialshoal_free(&it.b);
 }

@@ -17,7 +17,14 @@ const KEYS = 10000;
 
 class AddonSite {
     constructor(site, units) {
-        this.text = new Text(1, site, { units });
+        this.begin = () => { this.text = new Text(1, site, { units }); };
+        this.begin();
+    }
+
+    // Begins with an empty text again.
+    anew() {
+        this.text.close();
+        this.begin();
     }
 
     insert(pos, letters) {
@@ -37,7 +44,12 @@ class AddonSite {
     }
 
     paste(letters) {
-        this.text.paste(0, letters);
+        return this.text.paste(0, letters);
+    }
+
+    // Makes edits whose messages nobody wants.
+    prepare(edits) {
+        edits.forEach((edit) => make(this, edit));
     }
 
     // How far it is, and what another site lacks that is so far.
@@ -62,10 +74,14 @@ class AddonSite {
 class YjsSite {
     constructor(site) {
         this.yjs = require('yjs');
+        this.site = site;
+        this.anew();
+    }
+
+    anew() {
         this.doc = new this.yjs.Doc();
-        this.doc.clientID = site;
+        this.doc.clientID = this.site;
         this.text = this.doc.getText('1');
-        this.sent = [];
     }
 
     // Only an own edit is to be sent, so no one listens while messages are taken.
@@ -93,7 +109,15 @@ class YjsSite {
     }
 
     paste(letters) {
-        this.text.insert(0, letters);
+        return this.insert(0, letters);
+    }
+
+    // (with a listener it takes minutes, where there are many)
+    prepare(edits) {
+        for (const { pos, letter } of edits) {
+            if (letter === '') this.text.delete(pos, 1);
+            else this.text.insert(pos, letter);
+        }
     }
 
     fronts() {
@@ -165,11 +189,15 @@ const MODES = {
     },
     read: () => {
         pasted(b, edits);
-        return () => b.shown();
+        // (a string that is joined of others is copied as one looks into it)
+        return () => b.shown().charCodeAt(edits.length >> 1);
     },
     pasted: () => {
         const letters = edits.map(({ letter }) => letter).join('');
-        return () => b.paste(letters);
+        return () => {
+            b.anew();
+            b.paste(letters);
+        };
     },
     // The last ones, after those before came in at once.
     far: () => {
@@ -177,9 +205,9 @@ const MODES = {
         return () => edits.slice(-KEYS).forEach((edit) => make(b, edit));
     },
     since: () => {
-        edits.slice(0, -LAST).forEach((edit) => make(b, edit));
+        b.prepare(edits.slice(0, -LAST));
         const fronts = b.fronts();
-        edits.slice(-LAST).forEach((edit) => make(b, edit));
+        b.prepare(edits.slice(-LAST));
         return () => b.since(fronts);
     },
     loaded: () => {
@@ -191,5 +219,5 @@ const MODES = {
 const work = MODES[mode]();
 global.gc?.();
 const before = peak();
-const seconds = ['read', 'since'].includes(mode) ? least(Array.from({ length: READINGS }, () => timed(work))) : timed(work);
+const seconds = ['read', 'pasted', 'since', 'loaded'].includes(mode) ? least(Array.from({ length: READINGS }, () => timed(work))) : timed(work);
 process.stdout.write(`${seconds.clock.toFixed(9)} ${seconds.busy.toFixed(9)} ${peak() - before}\n${b.shown()}\n`);

@@ -8,6 +8,9 @@ from collections.abc import Callable
 TOP = pathlib.Path(__file__).resolve().parent.parent
 PASTE = 4000
 READINGS = 10
+REPEATED = "read", "pasted", "since", "loaded"
+LAST = 10
+KEYS = 10_000
 # How many messages the program is given at once.
 TOLD = 1000
 
@@ -18,9 +21,13 @@ class PackageSite:
     process: int | str = "self"
 
     def __init__(self, site: int, units: str):
+        self.site, self.units, self.in_code_points = site, units, units == "code points"
+        self.begin()
+
+    def begin(self) -> None:
+        """Begins with an empty text, perhaps again."""
         from vialshoal import Text
-        self.text = Text(1, site=site, units=units)
-        self.in_code_points = units == "code points"
+        self.text = Text(1, site=self.site, units=self.units)
 
     def insert(self, pos: int, data: bytes) -> list[bytes]:
         messages: list[bytes] = self.text.insert(pos, data.decode() if self.in_code_points else data)
@@ -36,6 +43,15 @@ class PackageSite:
 
     def shown(self) -> bytes:
         return bytes(self.text)
+
+    def paste(self, data: bytes) -> list[bytes]:
+        self.begin()
+        chunks: list[bytes] = self.text.paste(0, data.decode() if self.in_code_points else data)
+        return chunks
+
+    def load(self, file: bytes) -> None:
+        from vialshoal import Text
+        self.text = Text.load(file, units=self.text.units)
 
 
 class PipeSite:
@@ -92,6 +108,11 @@ def typed(a: AnySite, b: AnySite, edits: list[Edit]) -> None:
         b.take(make(a, edit))
 
 
+def made(site: AnySite, edits: list[Edit]) -> None:
+    for edit in edits:
+        make(site, edit)
+
+
 def pasted(site: AnySite, edits: list[Edit]) -> None:
     for at in range(0, len(edits), PASTE):
         site.insert(at, bytes(letter for _, letter in edits[at:at + PASTE]))
@@ -111,20 +132,47 @@ def timed(work: Callable[[], object], sites: list[AnySite]) -> tuple[float, floa
     return time.perf_counter() - begin, busy(sites) - worked
 
 
+def prepared(mode: str, a: AnySite, b: AnySite, edits: list[Edit]) -> Callable[[], object]:
+    """Does what comes before what is timed, and answers that."""
+    if mode == "joined":
+        messages = [message for edit in edits for message in make(a, edit)]
+        return lambda: b.take(messages)
+    if mode == "read":
+        pasted(b, edits)
+        return b.shown
+    if mode == "made":
+        return lambda: made(b, edits)
+    if mode == "typed":
+        return lambda: typed(a, b, edits)
+    assert isinstance(a, PackageSite) and isinstance(b, PackageSite)
+    return prepared_alone(mode, a, b, edits)
+
+
+def prepared_alone(mode: str, a: PackageSite, b: PackageSite, edits: list[Edit]) -> Callable[[], object]:
+    """The same of what the program doesn't do."""
+    letters = bytes(letter for _, letter in edits)
+    if mode == "pasted":
+        return lambda: b.paste(letters)
+    if mode == "far":
+        b.paste(letters[:-KEYS])
+        return lambda: made(b, edits[-KEYS:])
+    if mode == "since":
+        made(b, edits[:-LAST])
+        fronts = b.text.fronts()
+        made(b, edits[-LAST:])
+        return lambda: b.text.pack(fronts)
+    made(a, edits)
+    file = a.text.store(packed=True)
+    return lambda: b.load(file)
+
+
 def main() -> None:
     kind, mode = sys.argv[1:]
     a, b = site_of(kind, 1), site_of(kind, 2)
     edits = [(int(pos), int(letter)) for pos, letter in map(str.split, sys.stdin)]
-    messages = [message for edit in edits for message in make(a, edit)] if mode == "joined" else []
-    if mode == "read":
-        pasted(b, edits)
+    work = prepared(mode, a, b, edits)
     before = peak([a, b])
-    if mode == "joined":
-        seconds = timed(lambda: b.take(messages), [a, b])
-    elif mode == "read":
-        seconds = min(timed(b.shown, [a, b]) for _ in range(READINGS))
-    else:
-        seconds = timed(lambda: typed(a, b, edits), [a, b])
+    seconds = min(timed(work, [a, b]) for _ in range(READINGS if mode in REPEATED else 1))
     print(f"{seconds[0]:.9f} {seconds[1]:.9f} {peak([a, b]) - before}\n{b.shown().decode()}")
 
 

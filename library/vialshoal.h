@@ -76,6 +76,11 @@ typedef struct vialshoal_past_text {
     void *at;
 } vialshoal_past_text;
 
+/* A note, or none, which is {0}. The word is the library's alone. What is owed for a text's handle is owed for this one. */
+typedef struct vialshoal_note {
+    void *at;
+} vialshoal_note;
+
 /* The file of a text that is kept, or none, which is {0}. The word is the library's alone. */
 typedef struct vialshoal_file {
     void *at;
@@ -208,6 +213,21 @@ typedef struct vialshoal_looks_run {
     uint8_t colour; /* 0 to 15 */
     int8_t offset;
 } vialshoal_looks_run;
+
+/* A hash or a key. */
+typedef struct vialshoal_hash {
+    uint8_t bytes[32];
+} vialshoal_hash;
+
+/* The head of an entry of messages, as docs/NOTES.md has it. */
+typedef struct vialshoal_head {
+    vialshoal_hash author; /* its author's key */
+    vialshoal_hash before; /* the hash of the message before its first one, zeros before seq 1 */
+    uint32_t first;        /* the seq of its first message */
+    uint16_t count;        /* how many messages it has */
+    uint16_t site;
+    uint16_t text; /* 1 to 16 */
+} vialshoal_head;
 
 /* -- A text is made and freed -- */
 
@@ -414,6 +434,70 @@ uint32_t vialshoal_past_looks(const vialshoal_past_text *past, uint64_t pos, via
 uint32_t vialshoal_past_names(const vialshoal_past_text *past, uint64_t beg, uint64_t end, vialshoal_name *room, size_t length,
                               uint64_t *need);
 uint32_t vialshoal_past_find(const vialshoal_past_text *past, uint16_t site, uint32_t offset, vialshoal_place *place);
+
+/* -- A note that several people edit: 16 texts, and which messages of its entries count, as docs/NOTES.md says. What opens, seals, signs
+ * and carries entries is the caller's. Two notes of one key, opening and base that were given the same entries, in any order and however
+ * often, show the same. -- */
+
+/* Opens an empty handle with a note as the site of this number has it, of no entries but its opening and its base. `key` is the key of its
+ * hashes; `founder` the founder's key, `number` his number, 0 for none. The base is in chunks, each after its length in two bytes, the low
+ * one first; `base_key` is the key of its hashes, `root` the hash of its last message, zeros where there is none. 1 where the bytes are none
+ * of such a base; VIALSHOAL_NO_NUMBER for a site of 0; VIALSHOAL_ALREADY_OPEN; 7. */
+uint32_t vialshoal_note_new(vialshoal_note *note, uint16_t site, const vialshoal_hash *key, const vialshoal_hash *founder, uint16_t number,
+                            const vialshoal_hash *base_key, const vialshoal_hash *root, const uint8_t *base, size_t length);
+
+/* Frees what the handle holds; it is {0} then. VIALSHOAL_NOT_OPEN. */
+uint32_t vialshoal_note_free(vialshoal_note *note);
+
+/* A claim of a number came; its rank is the hash that was searched for. It counts after the next vialshoal_note_update.
+ * VIALSHOAL_NO_NUMBER for 0; 7, and then it didn't come. */
+uint32_t vialshoal_note_claim(vialshoal_note *note, const vialshoal_hash *author, uint16_t site, const vialshoal_hash *rank);
+
+/* An entry of messages came, with this head and this body; own ones too. They count after the next vialshoal_note_update. 1 where the body
+ * isn't one of such an entry; VIALSHOAL_NO_NUMBER for a site or a text of 0; 7, where a part may have come: so give it again. */
+uint32_t vialshoal_note_add(vialshoal_note *note, const vialshoal_head *head, const uint8_t *body, size_t length);
+
+/* What counts of the entries that came is admitted, and the texts show it: call it once after many came. 7: what counts isn't all shown, so
+ * call it again. */
+uint32_t vialshoal_note_update(vialshoal_note *note);
+
+/* -- Own edits, as those of a text, of which `text` is the number. They are shown at once. vialshoal_note_own has what they say; that is to
+ * be added before the next vialshoal_note_update, which takes back what wasn't. VIALSHOAL_NO_NUMBER where the note has no such text. -- */
+
+uint32_t vialshoal_note_insert(vialshoal_note *note, uint16_t text, uint64_t pos, const uint8_t *bytes, size_t length, uint32_t *sent);
+uint32_t vialshoal_note_delete(vialshoal_note *note, uint16_t text, uint64_t beg, uint64_t end, uint32_t *sent);
+uint32_t vialshoal_note_change_looks(vialshoal_note *note, uint16_t text, uint64_t beg, uint64_t end, uint8_t selected,
+                                     const uint8_t *font, size_t font_length, uint8_t colour, int8_t offset, uint32_t *sent);
+uint32_t vialshoal_note_delete_names(vialshoal_note *note, uint16_t text, const vialshoal_name_range *names, size_t count,
+                                     uint32_t *sent);
+uint32_t vialshoal_note_restore_names(vialshoal_note *note, uint16_t text, const vialshoal_name_range *names, size_t count,
+                                      uint32_t *sent);
+
+/* The head and the body of one of the entries by `author` that say the messages of own edits of the text which don't count yet; the index is
+ * from 0, and mostly there is one. A body has 16,172 bytes at most. Get all, add all by vialshoal_note_add, and then update; seal, sign and
+ * keep them as soon as you can. VIALSHOAL_NO_MESSAGE where there is none of this index, so at 0 where all counts; 8 where a message mentions
+ * another's character that doesn't count; VIALSHOAL_TOO_SHORT; VIALSHOAL_NO_NUMBER; 7. */
+uint32_t vialshoal_note_own(const vialshoal_note *note, uint16_t text, const vialshoal_hash *author, uint64_t index, vialshoal_head *head,
+                            uint8_t *room, size_t length, uint64_t *need);
+
+/* What changed of what a text shows, as vialshoal_changes has it, own edits too. *is_anew says that the text was begun anew since it was
+ * asked last, as where a lesser hash takes messages out of the count: then all that was shown gives way to all that is. */
+uint32_t vialshoal_note_changes(vialshoal_note *note, uint16_t text, bool *is_anew, vialshoal_change *room, size_t length, uint64_t *need);
+
+/* These ask a text what vialshoal_length, _bytes, _looks, _names, _find, _front, _sites and _past ask, and answer as they do;
+ * VIALSHOAL_NO_NUMBER where the note has no such text. */
+uint32_t vialshoal_note_length(const vialshoal_note *note, uint16_t text, uint64_t *length);
+uint32_t vialshoal_note_bytes(const vialshoal_note *note, uint16_t text, uint64_t beg, uint64_t end, uint8_t *room, size_t length,
+                              uint64_t *need);
+uint32_t vialshoal_note_looks(const vialshoal_note *note, uint16_t text, uint64_t pos, vialshoal_looks_run *run, uint8_t *font,
+                              size_t length, uint64_t *need);
+uint32_t vialshoal_note_names(const vialshoal_note *note, uint16_t text, uint64_t beg, uint64_t end, vialshoal_name *room, size_t length,
+                              uint64_t *need);
+uint32_t vialshoal_note_find(const vialshoal_note *note, uint16_t text, uint16_t site, uint32_t offset, vialshoal_place *place);
+uint32_t vialshoal_note_front(const vialshoal_note *note, uint16_t text, uint16_t site, uint32_t *front);
+uint32_t vialshoal_note_sites(const vialshoal_note *note, uint16_t text, uint16_t *room, size_t length, uint64_t *need);
+uint32_t vialshoal_note_past(const vialshoal_note *note, uint16_t text, const vialshoal_site_front *fronts, size_t count,
+                             vialshoal_past_text *past);
 
 #ifdef __cplusplus
 }

@@ -7,7 +7,7 @@
 - how much memory a call asks for is made of lengths and of what its caller names: a number above 1, a constant, a product, a shift or
   a choice stands in such a call, or in what a name in it was bound to, only where the call is listed;
 - in vialshoal_c, where the numbers of refusals are plain integers, no file but that of its constants writes a number
-  above 1, or a character, except as the length of an array that a function returns, and what a call was refused for is handed on as
+  above 1, or a character, except as the length of an array's type, and what a call was refused for is handed on as
   `u32::from(why.number())`, with nothing added: so a refusal's number is that of a `Refusal`, or a constant.
 
 What another function returns isn't followed. Each fault is printed; the last line counts the files without and with faults.
@@ -34,8 +34,8 @@ RENAMED = re.compile(
     r"\b(?:AllocError|AllocFailed|TryReserveError|ErrorKind) as\b|\bstd::(?:alloc|io)::\*|\buse [^;]*\bErrorKind::[^;]*;"
 )
 MADE = re.compile(r"\b(?:AllocError|AllocFailed|TryReserveError)\b")
-# What of vialshoal_c may have any number: comments, and a function's result that is an array of bytes.
-MAY_COUNT = re.compile(r"//[^\n]*|^fn .* -> \[u8; \d+\]$", re.MULTILINE)
+# What of vialshoal_c may have any number: comments, and the type of an array of bytes, also of one that is cut off.
+MAY_COUNT = re.compile(r"//[^\n]*|\[u8; \d+\]|_chunk::<\d+>", re.MULTILINE)
 # A number of a `Refusal` that isn't handed on as it is.
 CHANGED = re.compile(r"\bcolour\.number\(\)|(?:(?<=: )|(?<=> )|(?<=\w\())u32::from\(why\.number\(\)\)(?=[,)])|(\w*\.number\(\))")
 ABOVE_1 = re.compile(r"\b(?![01]\b)\d\w*|'(?:\\[^'\n]+|[^'\\\n])'")
@@ -74,6 +74,7 @@ ASKED = {
     "script_runs/src/running.rt": {"alloc, MAX_LINE"},
     "site_cli/src/main.rt": {"alloc, KEPT_BACK, io::writer(&rt); alloc = rt.alloc()"},
     "text_frames/src/frame.rt": {"alloc, MAX_ROWS"},
+    "vialshoal_c/src/note_session.rt": {"alloc, TEXTS as usize"},
     "viewers/src/screen.rt": {"alloc, MAX_VIEWERS"},
 }
 WITHIN_CALL = re.compile(r"(?<!fn )\bwithin_memory\(")

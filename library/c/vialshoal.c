@@ -44,7 +44,7 @@ static const char *of_refusal(uint32_t number) {
     case VIALSHOAL_FILE_SPENT: return "the site would have put in more than 2^24 bytes";
     case VIALSHOAL_OUT_OF_RANGE: return "a position or a row lies outside";
     case VIALSHOAL_SCATTERED: return "a set of names needs more than 1,024 ranges";
-    case VIALSHOAL_BAD_FILE: return "the bytes are no file of a site, or the text is too long for a file";
+    case VIALSHOAL_BAD_FILE: return "the bytes are no file of a site; or a text file would pass 2^20 bytes, a packed one 2^22 operations";
     case VIALSHOAL_NO_ROOM: return "no viewer may open there";
     case VIALSHOAL_NO_VIEWER: return "no viewer is there";
     case VIALSHOAL_UNKNOWN_COMMAND: return "there is no such command";

@@ -1,40 +1,20 @@
 /* The C library's calls for Node. text.js makes of them what its users see, and checks what it hands over. */
+#include "addon.h"
+
 #include <errno.h>
-#include <node_api.h>
 #include <stdlib.h>
 #include <string.h>
 #include <sys/file.h>
 
 #include "counted.h"
-#include "vialshoal.h"
 
-#define MOST 8
-/* No message is longer. */
-#define MESSAGE 10297
 /* The collector is told of as much memory as this, and not of each byte. */
 #define MUCH 4096
 
-#define TRY(call)                                                          \
-    do {                                                                   \
-        if ((call) != napi_ok) {                                           \
-            napi_throw_error(env, NULL, "vialshoal: an argument is none"); \
-            return NULL;                                                   \
-        }                                                                  \
-    } while (0)
-
-/* What text.js has of a text, or of one as it was. */
-typedef struct {
-    bool is_past;
-    vialshoal_text text;
-    vialshoal_past_text past;
-    /* How long the last file of it was. */
-    uint64_t filed;
-    /* How many bytes it holds, and of how many the collector was told. */
-    int64_t holds, told;
-} shown;
-
 /* What the call that runs is of. */
 static _Thread_local shown *touched;
+
+void touch(shown *it) { touched = it; }
 
 /* What an edit answers beside its messages, in an array that text.js reads: its number; of how many changes it tells, or -1 where these are
  * more than there is room for; and of each its kind, its begin and its end. */
@@ -46,7 +26,10 @@ typedef struct {
     vialshoal_text *text;
 } arguments;
 
-static uint32_t freed(shown *it) { return it->is_past ? vialshoal_past_free(&it->past) : vialshoal_free(&it->text); }
+static uint32_t freed(shown *it) {
+    if (it->kind == NOTE) return vialshoal_note_free(&it->note);
+    return it->kind == PAST ? vialshoal_past_free(&it->past) : vialshoal_free(&it->text);
+}
 
 static void tell(napi_env env, shown *it) {
     int64_t all;
@@ -80,7 +63,7 @@ static bool taken_shown(napi_env env, napi_callback_info info, size_t count, arg
     size_t found = MOST;
     void *data;
     if (napi_get_cb_info(env, info, &found, given->at, NULL, NULL) != napi_ok || found != count ||
-        napi_get_value_external(env, given->at[0], &data) != napi_ok) {
+        napi_get_value_external(env, given->at[0], &data) != napi_ok || ((shown *)data)->kind == NOTE) {
         napi_throw_error(env, NULL, "vialshoal: a text was expected");
         return false;
     }
@@ -92,18 +75,18 @@ static bool taken_shown(napi_env env, napi_callback_info info, size_t count, arg
 /* The arguments of a call, the first of which is a text. */
 static bool taken(napi_env env, napi_callback_info info, size_t count, arguments *given) {
     if (!taken_shown(env, info, count, given)) return false;
-    if (given->shown->is_past) napi_throw_error(env, NULL, "vialshoal: a text was expected");
-    return !given->shown->is_past;
+    if (given->shown->kind == PAST) napi_throw_error(env, NULL, "vialshoal: a text was expected");
+    return given->shown->kind == TEXT;
 }
 
-static bool number_of(napi_env env, napi_value value, uint64_t *number) {
+bool number_of(napi_env env, napi_value value, uint64_t *number) {
     int64_t signed_one;
     if (napi_get_value_int64(env, value, &signed_one) != napi_ok) return false;
     *number = signed_one < 0 ? UINT64_MAX : (uint64_t)signed_one;
     return true;
 }
 
-static bool bytes_of(napi_env env, napi_value value, const uint8_t **bytes, size_t *length) {
+bool bytes_of(napi_env env, napi_value value, const uint8_t **bytes, size_t *length) {
     static const uint8_t none[1];
     void *data;
     napi_typedarray_type type;
@@ -114,7 +97,7 @@ static bool bytes_of(napi_env env, napi_value value, const uint8_t **bytes, size
     return true;
 }
 
-static bool numbers_of(napi_env env, napi_value value, const uint32_t **numbers, size_t *length) {
+bool numbers_of(napi_env env, napi_value value, const uint32_t **numbers, size_t *length) {
     void *data;
     napi_typedarray_type type;
     if (napi_get_typedarray_info(env, value, &type, length, &data, NULL, NULL) != napi_ok || type != napi_uint32_array) {
@@ -125,7 +108,7 @@ static bool numbers_of(napi_env env, napi_value value, const uint32_t **numbers,
 }
 
 /* The numbers as an array: the first is the call's own. */
-static napi_value answer(napi_env env, size_t count, const double *numbers) {
+napi_value answer(napi_env env, size_t count, const double *numbers) {
     napi_value list, number;
     TRY(napi_create_array_with_length(env, count, &list));
     for (size_t i = 0; i < count; i++) {
@@ -135,11 +118,8 @@ static napi_value answer(napi_env env, size_t count, const double *numbers) {
     return list;
 }
 
-#define ANSWER(...)                                                    \
-    answer(env, sizeof((double[]){__VA_ARGS__}) / sizeof(double), (double[]){__VA_ARGS__})
-
 /* What was opened, or the number that refused it. */
-static napi_value opened(napi_env env, shown *it, uint32_t number) {
+napi_value opened(napi_env env, shown *it, uint32_t number) {
     napi_value made;
     if (number != 0) {
         free(it);
@@ -333,21 +313,27 @@ static napi_value recall(napi_env env, napi_callback_info info) {
 
 typedef uint32_t by_names(vialshoal_text *text, const vialshoal_name_range *names, size_t count, uint32_t *sent);
 
-/* An edit by names, which are given as a site, an offset and a length each. */
-static napi_value edit_names(napi_env env, napi_callback_info info, by_names *edit) {
-    arguments given;
+bool name_ranges_of(napi_env env, napi_value value, vialshoal_name_range **names, size_t *count) {
     const uint32_t *numbers;
     size_t length;
+    if (!numbers_of(env, value, &numbers, &length)) return false;
+    *count = length / 3;
+    *names = malloc((*count + 1) * sizeof **names);
+    for (size_t i = 0; *names != NULL && i < *count; i++) {
+        (*names)[i] = (vialshoal_name_range){(uint16_t)numbers[3 * i], numbers[3 * i + 1], numbers[3 * i + 2]};
+    }
+    return true;
+}
+
+/* An edit by names. */
+static napi_value edit_names(napi_env env, napi_callback_info info, by_names *edit) {
+    arguments given;
+    vialshoal_name_range *names;
+    size_t count;
     uint32_t sent;
     if (!taken(env, info, 3, &given)) return NULL;
-    TRY(numbers_of(env, given.at[1], &numbers, &length) ? napi_ok : napi_invalid_arg);
-    size_t count = length / 3;
-    vialshoal_name_range *names = malloc((count + 1) * sizeof *names);
-    if (names == NULL) return edited(env, &given, 2, VIALSHOAL_OUT_OF_MEMORY);
-    for (size_t i = 0; i < count; i++) {
-        names[i] = (vialshoal_name_range){(uint16_t)numbers[3 * i], numbers[3 * i + 1], numbers[3 * i + 2]};
-    }
-    uint32_t number = edit(given.text, names, count, &sent);
+    TRY(name_ranges_of(env, given.at[1], &names, &count) ? napi_ok : napi_invalid_arg);
+    uint32_t number = names == NULL ? VIALSHOAL_OUT_OF_MEMORY : edit(given.text, names, count, &sent);
     free(names);
     return edited(env, &given, 2, number);
 }
@@ -405,7 +391,7 @@ static napi_value merge(napi_env env, napi_callback_info info) {
     if (!taken(env, info, 2, &given)) return NULL;
     TRY(napi_get_value_external(env, given.at[1], &data));
     shown *other = data;
-    TRY(other->is_past ? napi_invalid_arg : napi_ok);
+    TRY(other->kind == TEXT ? napi_ok : napi_invalid_arg);
     uint32_t number = other == given.shown ? 0 : vialshoal_merge(given.text, &other->text, &count);
     return ANSWER(number, (double)count);
 }
@@ -449,8 +435,7 @@ static napi_value sites(napi_env env, napi_callback_info info) {
     return list == NULL ? ANSWER(7) : list;
 }
 
-/* Fronts, which are given as a site and a number each; they are to be freed. */
-static bool fronts_of(napi_env env, napi_value value, vialshoal_site_front **fronts, size_t *count) {
+bool fronts_of(napi_env env, napi_value value, vialshoal_site_front **fronts, size_t *count) {
     const uint32_t *numbers;
     size_t length;
     if (!numbers_of(env, value, &numbers, &length)) return false;
@@ -516,7 +501,7 @@ static napi_value past(napi_env env, napi_callback_info info) {
     shown *it = calloc(1, sizeof *it);
     uint32_t number = 7;
     if (fronts != NULL && it != NULL) {
-        it->is_past = true;
+        it->kind = PAST;
         number = vialshoal_past(given.text, fronts, count, &it->past);
     }
     free(fronts);
@@ -526,22 +511,22 @@ static napi_value past(napi_env env, napi_callback_info info) {
 /* -- What is asked of a text, and of one as it was */
 
 static uint32_t asked_bytes(shown *it, uint64_t beg, uint64_t end, uint8_t *room, size_t length, uint64_t *need) {
-    return it->is_past ? vialshoal_past_bytes(&it->past, beg, end, room, length, need)
+    return it->kind == PAST ? vialshoal_past_bytes(&it->past, beg, end, room, length, need)
                        : vialshoal_bytes(&it->text, beg, end, room, length, need);
 }
 
 static uint32_t asked_looks(shown *it, uint64_t pos, vialshoal_looks_run *run, uint8_t *font, size_t length, uint64_t *need) {
-    return it->is_past ? vialshoal_past_looks(&it->past, pos, run, font, length, need)
+    return it->kind == PAST ? vialshoal_past_looks(&it->past, pos, run, font, length, need)
                        : vialshoal_looks(&it->text, pos, run, font, length, need);
 }
 
 static uint32_t asked_names(shown *it, uint64_t beg, uint64_t end, vialshoal_name *room, size_t length, uint64_t *need) {
-    return it->is_past ? vialshoal_past_names(&it->past, beg, end, room, length, need)
+    return it->kind == PAST ? vialshoal_past_names(&it->past, beg, end, room, length, need)
                        : vialshoal_names(&it->text, beg, end, room, length, need);
 }
 
 static uint32_t asked_find(shown *it, uint16_t site, uint32_t offset, vialshoal_place *place) {
-    return it->is_past ? vialshoal_past_find(&it->past, site, offset, place)
+    return it->kind == PAST ? vialshoal_past_find(&it->past, site, offset, place)
                        : vialshoal_find(&it->text, site, offset, place);
 }
 
@@ -550,7 +535,7 @@ static napi_value length_of(napi_env env, napi_callback_info info) {
     uint64_t length = 0;
     if (!taken_shown(env, info, 1, &given)) return NULL;
     shown *it = given.shown;
-    uint32_t number = it->is_past ? vialshoal_past_length(&it->past, &length) : vialshoal_length(&it->text, &length);
+    uint32_t number = it->kind == PAST ? vialshoal_past_length(&it->past, &length) : vialshoal_length(&it->text, &length);
     return ANSWER(number, (double)length);
 }
 
@@ -746,11 +731,18 @@ static napi_value lock(napi_env env, napi_callback_info info) {
     return answer;
 }
 
+static napi_status add_calls(napi_env env, napi_value exports, const named_call *calls) {
+    napi_value made;
+    napi_status status = napi_ok;
+    for (; status == napi_ok && calls->name != NULL; calls++) {
+        status = napi_create_function(env, calls->name, NAPI_AUTO_LENGTH, counted, (void *)&calls->call, &made);
+        if (status == napi_ok) status = napi_set_named_property(env, exports, calls->name, made);
+    }
+    return status;
+}
+
 NAPI_MODULE_INIT() {
-    static const struct {
-        const char *name;
-        napi_callback call;
-    } calls[] = {
+    static const named_call calls[] = {
         {"open", open_text},
         {"load", load},
         {"store", store},
@@ -786,6 +778,7 @@ NAPI_MODULE_INIT() {
         {"endNoting", end_noting},
         {"replacement", replacement},
         {"lock", lock},
+        {NULL, NULL},
     };
     napi_value buffer, room;
     void *data;
@@ -793,10 +786,7 @@ NAPI_MODULE_INIT() {
     TRY(napi_create_typedarray(env, napi_float64_array, ROOM, buffer, 0, &room));
     TRY(napi_set_named_property(env, exports, "room", room));
     TRY(napi_set_instance_data(env, data, NULL, NULL));
-    for (size_t i = 0; i < sizeof calls / sizeof calls[0]; i++) {
-        napi_value made;
-        TRY(napi_create_function(env, calls[i].name, NAPI_AUTO_LENGTH, counted, (void *)&calls[i].call, &made));
-        TRY(napi_set_named_property(env, exports, calls[i].name, made));
-    }
+    TRY(add_calls(env, exports, calls));
+    TRY(add_calls(env, exports, NOTE_CALLS));
     return exports;
 }

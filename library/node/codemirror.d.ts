@@ -24,8 +24,9 @@ export interface BindingOptions {
 }
 
 /** A text in an editor of CodeMirror 5. The text has `units: 'utf-16'`. Until `close` it sets `lineSeparator` to "\n" and `undoDepth` to 0, and
- * the editor's `undo` and `redo` take back what was done in it alone. Others' carets have the class `vialshoal-caret`, and what they
- * select `vialshoal-selection`. Looks aren't shown. */
+ * the editor's `undo` and `redo` take back what was done in it alone. Others' carets have the class `vialshoal-caret`, what they select
+ * `vialshoal-selection`, and 20,000 stretches that aren't plain `vialshoal-looks`: bold or slanted as the letters after a font's size say
+ * (Oberon10b.Scn.Fnt), coloured, so many pixels above the line. What is typed is plain; undo takes no looks back. */
 export class CodeMirrorBinding {
     constructor(text: Text, editor: any, options?: BindingOptions);
     readonly text: Text;

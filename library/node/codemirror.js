@@ -1,5 +1,6 @@
-// A text in CodeMirror 5: what is typed there goes into the text, what others do is shown, with their cursors, and undo takes back what was
-// typed there alone.
+// A text in CodeMirror 5: what is typed there goes into the text, what others do is shown, with their cursors and with looks, and undo takes
+// back what was typed there alone.
+import { Marks } from './marks.js';
 import { UndoManager } from './undo.js';
 
 const PAIR = /[\ud800-\udfff]/;
@@ -111,6 +112,7 @@ export class CodeMirrorBinding {
     #user;
     #onError;
     #cursors;
+    #marks;
     // The selections, as places that stay: now, and before the command that runs.
     #places = /** @type {any[]} */ ([]);
     #before;
@@ -131,6 +133,7 @@ export class CodeMirrorBinding {
         for (const [name, value] of Object.entries(OPTIONS)) this.#set(name, value);
         this.#show(() => cm.setValue(`${text}`));
         cm.clearHistory();
+        this.#marks = new Marks(cm, text);
         this.undoManager = new UndoManager(text, { selection: () => this.#before ?? this.#places, ...undo, origins: [this] });
         this.#ends.push(() => this.undoManager.close(), text.subscribe((edit) => this.#told(edit)));
         for (const name of ['beforeChange', 'change', 'changes', 'cursorActivity']) this.#listen(name);
@@ -188,7 +191,7 @@ export class CodeMirrorBinding {
         const [was, is] = [made.removed.join('\n'), made.text.join('\n')];
         // (halves of pairs may be told apart; or another one made it another change)
         if (beg === undefined || PAIR.test(was + is)) this.#gathered.push({ isPlain: false });
-        else if (made.origin === 'setValue') this.#gathered.push({ ...difference(was, is), isPlain: true });
+        else if (made.origin === 'setValue') this.#gathered.push({ ...difference(was, is), isPlain: true, isWhole: true });
         else this.#gathered.push({ beg, end: beg + was.length, put: is, isPlain: true });
     }
 
@@ -210,6 +213,8 @@ export class CodeMirrorBinding {
             this.#before = undefined;
         }
         if (!isSame) this.refresh();
+        // (marks go with the characters that were there)
+        else if (changes.some(({ isWhole }) => isWhole)) this.#marks.draw();
         this.#say();
     }
 
@@ -230,10 +235,12 @@ export class CodeMirrorBinding {
     }
 
     #told({ origin, delta }) {
-        if (origin === this) return;
-        const splices = splicesOf(delta);
-        if (splices.length > 0) this.#put(splices);
-        this.#cursors?.draw();
+        if (origin !== this) {
+            const splices = splicesOf(delta);
+            if (splices.length > 0) this.#put(splices);
+            this.#cursors?.draw();
+        }
+        this.#marks.follow(delta);
     }
 
     // Puts strings into the editor; selections stay after the characters that they are after.
@@ -258,6 +265,7 @@ export class CodeMirrorBinding {
     refresh() {
         const was = this.#cm.getValue(), is = `${this.#text}`;
         if (was !== is) this.#put([difference(was, is)]);
+        this.#marks.draw();
         this.#cursors?.draw();
     }
 
@@ -327,6 +335,7 @@ export class CodeMirrorBinding {
 
     close() {
         this.#cursors?.close();
+        this.#marks.close();
         this.#ends.splice(0).reverse().forEach((end) => end());
     }
 }

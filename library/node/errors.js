@@ -13,7 +13,7 @@ const REASONS = {
     9: ['STAMPS_SPENT', 'the greatest stamp was taken in'],
     10: ['FILE_SPENT', 'the site would have put in more than 2^24 bytes'],
     12: ['SCATTERED', 'a set of names needs more than 1,024 ranges'],
-    13: ['BAD_FILE', 'the bytes are no file of a site, or the text is too long for a file'],
+    13: ['BAD_FILE', 'the bytes are no file of a site; or a text file would pass 2^20 bytes, a packed one 2^22 operations'],
     23: ['SEQ_SPENT', 'the site has made its last operation in the text'],
     101: ['NOT_OPEN', 'the text is closed', TypeError],
     103: ['OUT_OF_TEXT', 'a position lies outside the text, or a range ends before its begin', RangeError],

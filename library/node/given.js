@@ -66,6 +66,11 @@ export function font(name) {
     return Buffer.from(name);
 }
 
+export function object(value, what) {
+    if (typeof value !== 'object' || value === null) throw new TypeError(`${what} is wanted, an object, not ${shown(value)}`);
+    return value;
+}
+
 export function looks(value) {
     if (typeof value !== 'object' || value === null) throw new TypeError(`looks are an object, not ${shown(value)}`);
     return value;

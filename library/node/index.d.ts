@@ -283,6 +283,74 @@ export class Text extends Shown {
  * is closed. It counts what its text counts. */
 export class Past extends Shown {
     constructor(text: Text, fronts: Fronts);
+    constructor(text: NoteText, fronts: Iterable<readonly [site: number, seq: number]>);
+}
+
+/** The head of an entry of messages: its author's key, the hash of the message before its first one, or zeros, the number of its first
+ * message and how many it has, the site and the text (docs/NOTES.md). */
+export interface Head {
+    author: Uint8Array;
+    before: Uint8Array;
+    first: number;
+    count: number;
+    site: number;
+    text: number;
+}
+
+/** An entry of messages, as whoever opened it has it. */
+export interface Entry {
+    head: Head;
+    body: Uint8Array;
+}
+
+/** What a note begins with: the key of its hashes, the founder's key and number, and what was copied into it, as chunks, with the key of
+ * its hashes and the hash of its last message. */
+export interface Founding {
+    key: Uint8Array;
+    founder: Uint8Array;
+    number?: number;
+    base?: Iterable<Uint8Array>;
+    baseKey?: Uint8Array;
+    root?: Uint8Array;
+}
+
+/** A note as one site has it. It decides which messages of the entries that it is given count, and its texts show that and own edits; notes
+ * of one founding that were given the same entries, in any order, show the same. What seals, signs and carries entries is the caller's. */
+export class Note {
+    constructor(site: number, founding: Founding);
+    readonly site: number;
+    /** Frees it; all other calls are refused after this, those of its texts too. */
+    close(): void;
+    [Symbol.dispose](): void;
+    /** A claim of a number came; its rank is the hash that was searched for. It counts after the next `update`. */
+    claim(author: Uint8Array, site: number, rank: Uint8Array): void;
+    /** An entry came, perhaps again, or an own one. It counts after the next `update`. */
+    add(entry: Entry): void;
+    /** Has the texts show what counts of all that came. Own edits that `say` didn't answer are taken back. */
+    update(): void;
+    /** Entries, by an author who holds the site's number, that say all own edits which weren't said. They count here from now on: seal, sign,
+     * keep and send them. */
+    say(author: Uint8Array): Entry[];
+    /** One of its texts, 1 to 16. Changes are told once, so one asks for each text once. */
+    text(number?: number, options?: Options): NoteText;
+}
+
+/** A text of a note: what counts, and own edits, which are shown at once and are to be said by `say` of the note. */
+export class NoteText extends Shown {
+    constructor(note: Note, number: number, options?: Options);
+    readonly number: number;
+    insert(pos: number, data: Uint8Array | string): void;
+    delete(beg: number, end: number): void;
+    changeLooks(beg: number, end: number, looks: Looks): void;
+    deleteNames(names: Iterable<NameRange>): void;
+    restoreNames(names: Iterable<NameRange>): void;
+    /** How many of a site's operations are shown, and of each site. */
+    front(site: number): number;
+    fronts(): Map<number, number>;
+    past(fronts: Iterable<readonly [site: number, seq: number]>): Past;
+    /** What changed of what is shown since this was called last, own edits too. Where the text was begun anew, since messages no longer count
+     * that did, all of it gives way to all of it. */
+    changes(): Change[];
 }
 
 /** What `undo` and `redo` did: what is to be sent; the selection of before the edit that was taken back, or done again; and where the

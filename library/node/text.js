@@ -13,26 +13,34 @@ const TAKINGS = [undefined, 'taken', 'repeat', 'waits'];
 const TAKEN = 1;
 // What a packed file begins with.
 const PACKED = 'OTP1';
-const CHANGES = [undefined, 'insert', 'delete', 'replace'];
+const KINDS = [undefined, 'insert', 'delete', 'replace'];
 // What `using` calls; where the platform has none yet, compilers make this one.
 const DISPOSE = Symbol.dispose ?? Symbol.for('Symbol.dispose');
 
-function done([number, ...rest]) {
+export function done([number, ...rest]) {
     if (number !== 0) throw failure(number);
     return rest;
 }
 
-function opened(made) {
+export function opened(made) {
     if (Array.isArray(made)) throw failure(made[0]);
     return made;
 }
 
-// What only the classes here ask of one another.
-let byteOf, fallsBehind, note, positionsOf, handleOf;
+// Changes as users have them.
+export const changesFor = (changes) => changes.map(({ kind, beg, end }) => ({ kind: KINDS[kind], beg, end }));
+
+// What only the classes of texts ask of one another.
+export let byteOf, positionsOf;
+let fallsBehind, note, opensPast;
 
 // What is shown, now or as it was.
 export class Shown {
     #handle;
+    // The calls that it is asked by.
+    #calls;
+    // Whether other calls than its own may change it.
+    #isShared;
     // Where the UTF-16 units are, if positions count these.
     /** @type {any} */
     #units;
@@ -43,26 +51,29 @@ export class Shown {
     #told = [];
     #put;
 
-    constructor(handle, units, changes) {
+    constructor(handle, units, changes, its = calls, isShared = false) {
         if (new.target === Shown) throw new TypeError('a Text or a Past is to be made');
+        this.#isShared = isShared;
         this.#handle = handle;
+        this.#calls = its;
         this.#units = units === 'bytes' ? undefined : new Positions();
         this.#changes = changes;
     }
 
     static {
         byteOf = (shown, pos) => shown.#byte(pos);
+        opensPast = (shown, fronts) => opened(shown.#calls.past(shown.#handle, fronts));
         fallsBehind = (shown) => { shown.#isBehind = true; };
         note = (/** @type {Shown} */ shown, put) => { if (shown.#units !== undefined) shown.#note(put); };
         positionsOf = (shown) => shown.#units && shown.#followed();
     }
 
     #bytes(beg, end) {
-        return opened(calls.bytes(this.#handle, beg, end));
+        return opened(this.#calls.bytes(this.#handle, beg, end));
     }
 
     #byteLength() {
-        return done(calls.length(this.#handle))[0];
+        return done(this.#calls.length(this.#handle))[0];
     }
 
     // Notes what an edit told, unless that is more than it tells, to be followed later: whatever that meets, the edit has been made.
@@ -80,7 +91,7 @@ export class Shown {
         const put = changes.length === 1 ? this.#put : undefined;
         this.#told = [];
         this.#put = undefined;
-        this.#isBehind = false;
+        this.#isBehind = this.#isShared;
         if (changes.length > 0) this.#units.follow(changes, (beg, end) => put ?? this.#bytes(beg, end));
         return this.#units;
     }
@@ -107,7 +118,7 @@ export class Shown {
 
     close() {
         this.#isBehind = true;
-        calls.close(this.#handle);
+        this.#calls.close(this.#handle);
     }
 
     [DISPOSE]() {
@@ -134,7 +145,7 @@ export class Shown {
         const found = [];
         const last = this.#byte(end);
         for (let at = this.#byte(beg), until = 0; at < last; at = until) {
-            const [stop, colour, offset, ...font] = done(calls.look(this.#handle, at));
+            const [stop, colour, offset, ...font] = done(this.#calls.look(this.#handle, at));
             until = Math.min(stop, last);
             found.push({ beg: this.#pos(at), end: this.#pos(until), font: String.fromCharCode(...font), colour, offset });
         }
@@ -143,14 +154,14 @@ export class Shown {
 
     names(beg, end) {
         const [first, last] = [this.#byte(beg), this.#byte(end)];
-        const numbers = done(calls.names(this.#handle, first, last));
+        const numbers = done(this.#calls.names(this.#handle, first, last));
         const name = (at) => ({ site: numbers[2 * at], offset: numbers[2 * at + 1] });
         const begun = this.#units === undefined ? Array(last - first).keys() : begins(this.#bytes(first, last));
         return Array.from(begun, name);
     }
 
     nameRanges(beg, end) {
-        const numbers = done(calls.ranges(this.#handle, this.#byte(beg), this.#byte(end)));
+        const numbers = done(this.#calls.ranges(this.#handle, this.#byte(beg), this.#byte(end)));
         return Array.from({ length: numbers.length / 3 },
             (_, at) => ({ site: numbers[3 * at], offset: numbers[3 * at + 1], length: numbers[3 * at + 2] }));
     }
@@ -160,19 +171,19 @@ export class Shown {
         const byte = this.#byte(pos), length = this.#byteLength(), at = byte - Number(given.side(side) < 0);
         if (byte > length) throw failure(OUT_OF_TEXT);
         if (at < 0 || at === length) return { site: 0, offset: 0, side };
-        const [site, offset] = done(calls.names(this.#handle, at, at + 1));
+        const [site, offset] = done(this.#calls.names(this.#handle, at, at + 1));
         return { site, offset, side };
     }
 
     position({ site, offset, side }) {
         const isAfter = given.side(side) > 0;
         if (site === 0) return isAfter ? this.length : 0;
-        const [pos, isShown] = done(calls.find(this.#handle, given.site(site), given.offset(offset)));
+        const [pos, isShown] = done(this.#calls.find(this.#handle, given.site(site), given.offset(offset)));
         return this.#pos(isAfter && isShown !== 0 ? pos - 1 : pos);
     }
 
     find({ site, offset }) {
-        const [pos, isShown] = done(calls.find(this.#handle, given.site(site), given.offset(offset)));
+        const [pos, isShown] = done(this.#calls.find(this.#handle, given.site(site), given.offset(offset)));
         return { pos: this.#pos(pos), isShown: isShown !== 0 };
     }
 }
@@ -223,10 +234,6 @@ export class Text extends Shown {
         this.#handle = handle;
         [this.#number, this.#site] = file === undefined ? [text, site] : [wordAt(file, 4), wordAt(file, 6)];
         this.#feed = new Feed(this, () => positionsOf(this)?.tell() ?? changesOf(handle), () => this.#keeper?.isKept ?? true);
-    }
-
-    static {
-        handleOf = (text) => text.#handle;
     }
 
     // The number of the text, which it has at all sites.
@@ -526,7 +533,7 @@ export class Text extends Shown {
     }
 
     changes() {
-        return this.#feed.changes().map(({ kind, beg, end }) => ({ kind: CHANGES[kind], beg, end }));
+        return changesFor(this.#feed.changes());
     }
 
     delta() {
@@ -583,7 +590,8 @@ export class Text extends Shown {
 // A text as it was.
 export class Past extends Shown {
     constructor(text, fronts) {
-        const handle = opened(calls.past(handleOf(given.instance(text, Text)), given.fronts(fronts)));
+        if (given.instance(text, Shown) instanceof Past) throw new TypeError('of a text as it was there is no other one');
+        const handle = opensPast(text, given.fronts(fronts));
         const changes = [{ kind: INSERT, beg: 0, end: done(calls.length(handle))[0] }];
         super(handle, text.units, () => changes.splice(0));
     }

@@ -15,6 +15,8 @@ const HANDLE = 4;
 const SITE = 2;
 const NAME = 8;
 const CHANGE = 24;
+const HASH = 32;
+const HEAD = 76;
 // How many names are asked for at once.
 const NAMES = ROOM / NAME;
 // How many changes an edit tells of. Those of one that made more come alone, and what came later after them.
@@ -26,16 +28,25 @@ class NoMemory extends Error {
     }
 }
 
-// A text, or one as it was: where the module has its handle.
+// What a handle holds.
+const [TEXT, PAST, NOTE] = [0, 1, 2];
+
+// A text, one as it was, or a note: where the module has its handle.
 class Handle {
-    constructor(at, isPast) {
+    constructor(at, kind) {
         this.at = at;
-        this.isPast = isPast;
+        this.kind = kind;
+        this.isPast = kind === PAST;
     }
 }
 
 function shown(handle) {
-    if (!(handle instanceof Handle)) throw new TypeError('vialshoal: a text was expected');
+    if (!(handle instanceof Handle) || handle.kind === NOTE) throw new TypeError('vialshoal: a text was expected');
+    return handle.at;
+}
+
+function note(handle) {
+    if (!(handle instanceof Handle) || handle.kind !== NOTE) throw new TypeError('vialshoal: a note was expected');
     return handle.at;
 }
 
@@ -133,7 +144,7 @@ class Library {
     }
 
     // The handle that `open` opened; or the number that refuses it.
-    opened(isPast, open) {
+    opened(kind, open) {
         const at = this.#allocated(HANDLE);
         this.#words.setUint32(at, 0, true);
         const number = open(at);
@@ -141,13 +152,14 @@ class Library {
             this.#freed(at, HANDLE);
             return [number];
         }
-        const handle = new Handle(at, isPast);
-        this.#dropped.register(handle, { at, isPast });
+        const handle = new Handle(at, kind);
+        this.#dropped.register(handle, { at, kind });
         return handle;
     }
 
-    close({ at, isPast }) {
-        return this.call(isPast ? this.exports.vialshoal_past_free : this.exports.vialshoal_free, at);
+    close({ at, kind }) {
+        const { vialshoal_free, vialshoal_past_free, vialshoal_note_free } = this.exports;
+        return this.call([vialshoal_free, vialshoal_past_free, vialshoal_note_free][kind], at);
     }
 
     #drop(handle) {
@@ -249,13 +261,13 @@ function calls(library) {
     const findIn = asked(c.vialshoal_find, c.vialshoal_past_find);
 
     return {
-        open: (number, site) => library.opened(false, (at) => call(c.vialshoal_new, at, number, site)),
+        open: (number, site) => library.opened(TEXT, (at) => call(c.vialshoal_new, at, number, site)),
         load: (data) => library.handed(data, (from, length) =>
-            library.opened(false, (at) => call(c.vialshoal_load, at, from, length))),
+            library.opened(TEXT, (at) => call(c.vialshoal_load, at, from, length))),
         store: (it) => file((at, length) => call(c.vialshoal_store, text(it), at, length, answer)),
         storePacked: (it) => file((at, length) => call(c.vialshoal_store_packed, text(it), at, length, answer)),
         save: (it) => file((at, length) => call(c.vialshoal_save, text(it), at, length, answer)),
-        close: (it) => [library.close({ at: shown(it), isPast: it.isPast })],
+        close: (it) => [library.close({ at: shown(it), kind: it.kind })],
         room: told,
         insert: edit((it, pos, data) => library.handed(data, (at, length) =>
             call(c.vialshoal_insert, it, BigInt(pos), at, length, answer))),
@@ -298,7 +310,7 @@ function calls(library) {
         pack: (it, fronts) => library.rows(fronts, 2, (from, many) =>
             file((at, length) => call(c.vialshoal_pack, text(it), from, many, at, length, answer))),
         past: (it, fronts) => library.rows(fronts, 2, (from, many) =>
-            library.opened(true, (at) => call(c.vialshoal_past, text(it), from, many, at))),
+            library.opened(PAST, (at) => call(c.vialshoal_past, text(it), from, many, at))),
         length: (it) => [lengthOf(it, answer), wide(answer)],
         bytes: (it, beg, end) => file((at, length) => bytesOf(it, BigInt(beg), BigInt(end), at, length, answer)),
         look(it, pos) {
@@ -329,6 +341,84 @@ function calls(library) {
     };
 }
 
+// The calls of a note. A head is { author, before, first, count, site, text }, hashes and keys are bytes.
+function noteCalls(library) {
+    const { answer, room, exports: c } = library;
+    const call = library.call.bind(library);
+    const number = library.number.bind(library);
+    const wide = library.wide.bind(library);
+
+    const copied = (at, length) => Buffer.from(library.bytes(at, length));
+    // What reads a text of a note, into a room of bytes.
+    const file = (put) => library.filled(1, put, copied);
+    // An edit's number, and how many messages it made.
+    const edited = (number) => [number, library.number(answer)];
+    const byNames = (wanted) => (it, text, ranges) => library.rows(ranges, 3, (at, count) => edited(call(wanted, note(it), text, at, count, answer)));
+
+    function headBytes({ author, before, first, count, site, text }) {
+        const bytes = new Uint8Array(HEAD), words = new DataView(bytes.buffer);
+        bytes.set(author, 0);
+        bytes.set(before, HASH);
+        words.setUint32(2 * HASH, first, true);
+        [count, site, text].forEach((number, index) => words.setUint16(2 * HASH + 4 + 2 * index, number, true));
+        return bytes;
+    }
+
+    function headAt(at) {
+        const [first, count, site, text] = [number(at + 2 * HASH), ...[4, 6, 8].map((place) => library.site(at + 2 * HASH + place))];
+        return { author: copied(at, HASH), before: copied(at + HASH, HASH), first, count, site, text };
+    }
+
+    return {
+        noteOpen: (site, { key, founder, number, baseKey, root, base }) =>
+            library.handed(Buffer.concat([key, founder, baseKey, root, base]), (at) => library.opened(NOTE, (handle) =>
+                call(c.vialshoal_note_new, handle, site, at, at + HASH, number, at + 2 * HASH, at + 3 * HASH, at + 4 * HASH, base.length))),
+        noteClose: (it) => [library.close({ at: note(it), kind: NOTE })],
+        noteClaim: (it, author, site, rank) => library.handed(Buffer.concat([author, rank]), (at) =>
+            [call(c.vialshoal_note_claim, note(it), at, site, at + HASH)]),
+        noteAdd: (it, head, body) => library.handed(Buffer.concat([headBytes(head), body]), (at) =>
+            [call(c.vialshoal_note_add, note(it), at, at + HEAD, body.length)]),
+        noteUpdate: (it) => [call(c.vialshoal_note_update, note(it))],
+        noteInsert: (it, text, pos, data) => library.handed(data, (at, length) =>
+            edited(call(c.vialshoal_note_insert, note(it), text, BigInt(pos), at, length, answer))),
+        noteDelete: (it, text, beg, end) => edited(call(c.vialshoal_note_delete, note(it), text, BigInt(beg), BigInt(end), answer)),
+        noteLooks: (it, text, beg, end, selected, font, colour, offset) => library.handed(font, (at, length) =>
+            edited(call(c.vialshoal_note_change_looks, note(it), text, BigInt(beg), BigInt(end), selected, at, length, colour, offset, answer))),
+        noteDeleteNames: byNames(c.vialshoal_note_delete_names),
+        noteRestoreNames: byNames(c.vialshoal_note_restore_names),
+        // Of the entry of this index: its number, and then its head and its body.
+        noteOwn: (it, text, author, index) => library.handed(Buffer.concat([author, new Uint8Array(HEAD)]), (at) => {
+            const found = file((to, length) => call(c.vialshoal_note_own, note(it), text, at, BigInt(index), at + HASH, to, length, answer));
+            return found instanceof Uint8Array ? [0, headAt(at + HASH), found] : found;
+        }),
+        // The number, whether the text was begun anew, and of each change three numbers.
+        noteChanges: (it, text) => library.filled(CHANGE, (at, count) =>
+            call(c.vialshoal_note_changes, note(it), text, answer + 8, at, count, answer), (at, count) => {
+            const [done, ...changes] = listed(at, count, CHANGE, (change) => [number(change), wide(change + 8), wide(change + 16)]);
+            return [done, library.byte(answer + 8), ...changes];
+        }),
+        noteLength: (it, text) => [call(c.vialshoal_note_length, note(it), text, answer), wide(answer)],
+        noteBytes: (it, text, beg, end) => file((at, length) =>
+            call(c.vialshoal_note_bytes, note(it), text, BigInt(beg), BigInt(end), at, length, answer)),
+        noteLook(it, text, pos) {
+            const refused = call(c.vialshoal_note_looks, note(it), text, BigInt(pos), answer + 8, room, ROOM, answer);
+            if (refused !== 0) return [refused];
+            const offset = library.byte(answer + 17) << 24 >> 24;
+            return [0, wide(answer + 8), library.byte(answer + 16), offset, ...library.bytes(room, wide(answer))];
+        },
+        noteNames: (it, text, beg, end) => library.filled(NAME, (at, count) =>
+            call(c.vialshoal_note_names, note(it), text, BigInt(beg), BigInt(end), at, count, answer),
+        (at, count) => listed(at, count, NAME, (name) => [library.site(name), number(name + 4)])),
+        noteFind: (it, text, site, offset) => [call(c.vialshoal_note_find, note(it), text, site, offset, answer), wide(answer),
+            library.byte(answer + 8)],
+        noteFront: (it, text, site) => [call(c.vialshoal_note_front, note(it), text, site, answer), number(answer)],
+        noteSites: (it, text) => library.filled(SITE, (at, count) => call(c.vialshoal_note_sites, note(it), text, at, count, answer),
+            (at, count) => listed(at, count, SITE, (site) => [library.site(site)])),
+        notePast: (it, text, fronts) => library.rows(fronts, 2, (from, many) =>
+            library.opened(PAST, (at) => call(c.vialshoal_note_past, note(it), text, from, many, at))),
+    };
+}
+
 // What an addon answers that wants for memory.
 function answering(asked) {
     return (...given) => {
@@ -343,6 +433,7 @@ function answering(asked) {
 
 // The calls over a compiled module.
 export function callsOf(module) {
-    const { room, ...found } = calls(new Library(module));
+    const library = new Library(module);
+    const { room, ...found } = { ...calls(library), ...noteCalls(library) };
     return { room, ...Object.fromEntries(Object.entries(found).map(([name, asked]) => [name, answering(asked)])) };
 }

@@ -45,6 +45,11 @@ navigator.locks.request(name, () => new Promise((free) => {
 }));"""
 THERE = "globalThis.editors?.every(({ provider }) => provider.isSynced)"
 SHOWN = "editors.map(({ cm }) => cm.getValue())"
+# Of both editors: what isn't plain, and how it looks.
+LOOKED = """[...document.querySelectorAll('section')].map((section) => [...section.querySelectorAll('.vialshoal-looks')].map((one) => {
+  const { fontWeight, fontStyle, color, verticalAlign } = getComputedStyle(one);
+  return [one.textContent, fontWeight === '700' ? 'bold' : 'normal', fontStyle, color, verticalAlign];
+}))"""
 # Keys are one edit, however slowly a busy machine lets them come.
 SLOWLY = "&capture=600000"
 
@@ -124,6 +129,34 @@ class Editors(page.Browser):
         self.run_script("editors[0].cm.setValue('> all of')")
         self.both_show("> all of")
         self.assertEqual(self.run_script("editors[1].text.names(6, 8)"), names)
+
+    def both_look(self, looks: list[list[str]]) -> None:
+        """Waits until both editors show these stretches so, and all else plain."""
+        self.wait_for(f"{LOOKED}.every((shown) => `${{shown}}` === `${{words[0]}}`)", looks)
+
+    def test_looks(self) -> None:
+        bold, slanted = ["bold", "normal", "rgb(204, 34, 34)", "baseline"], ["normal", "italic", "rgb(0, 0, 0)", "3px"]
+        self.run_script("editors[0].text.insert(0, 'Project Oberon')")
+        self.run_script("editors[0].text.changeLooks(8, 14, { font: 'Oberon10b.Scn.Fnt', colour: 2 })")
+        self.run_script("editors[0].text.insert(0, 'x', { font: 'Syntax12i.Scn.Fnt', offset: 3 })")
+        self.both_look([["x", *slanted], ["Oberon", *bold]])
+        # What is typed is plain, also among what isn't; what comes back looks as it did.
+        self.run_script("editors[1].cm.setCursor(0, 12)")
+        self.type(1, "!")
+        self.both_look([["x", *slanted], ["Obe", *bold], ["ron", *bold]])
+        self.run_script("editors[0].cm.setSelection({ line: 0, ch: 10 }, { line: 0, ch: 20 })")
+        self.type(0, Keys.DELETE)
+        self.both_look([["x", *slanted], ["O", *bold]])
+        self.type(0, Keys.CONTROL + "z")
+        self.both_show("xProject Obe!ron")
+        self.run_script("editors[0].cm.setCursor(0, 0)")
+        self.both_look([["x", *slanted], ["Obe", *bold], ["ron", *bold]])
+        # A value that is set has them again, and an editor that is let go has none.
+        self.run_script("editors[0].cm.setValue('x Oberon')")
+        self.both_show("x Oberon")
+        self.both_look([["x", *slanted], ["ron", *bold]])
+        self.run_script("editors[0].binding.close()")
+        self.assertEqual(self.run_script(f"{LOOKED}[0]"), [])
 
     def test_page_of_the_docs(self) -> None:
         found = re.search(r"\n\n((?:    .*\n|\n)+?)(?=\n\S)", page.DOCS.read_text(encoding="utf-8").split("folder lies beside `node`:")[1])
@@ -209,7 +242,7 @@ class Editors(page.Browser):
 
     def test_at_random(self) -> None:
         seed, left, steps = int(os.environ.get("VIALSHOAL_SEED", "1")), SECONDS, 0
-        counts = dict.fromkeys(("edits", "undos", "meetings", "away"), 0)
+        counts = dict.fromkeys(("edits", "undos", "looks", "meetings", "away"), 0)
         while left > 0:
             self.open(f"room{seed}", "&capture=0")
             told = self.driver.execute_async_script(PLAY, seed, min(left, ROUND))

@@ -6,6 +6,8 @@ import { Text } from '/node/browser.mjs';
 const PIECES = ['a', 'bc', '\n', 'x\ny', '\u00e9', '\u20ac', '\ud83d\ude00', '\ud83d\ude01', 'word ', '\t'];
 // The halves of a pair; some pairs have one in common.
 const HALF = /[\ud800-\udbff](?![\udc00-\udfff])|(?<![\ud800-\udbff])[\udc00-\udfff]/g;
+const LOOKS = [{ font: 'Oberon10b.Scn.Fnt' }, { font: 'Syntax12i.Scn.Fnt' }, { font: 'Oberon10.Scn.Fnt', colour: 1, offset: 0 }, { colour: 2 },
+    { colour: 15 }, { offset: -3 }];
 const PATIENCE = 60_000;
 const WAIT = 5;
 
@@ -35,6 +37,24 @@ function namesOf(text) {
         Array.from({ length }, (_, at) => `${site}.${offset + at}`)));
 }
 
+// How each unit of an editor is marked, and how it is to be by its looks.
+function marked(cm) {
+    const styles = Array(cm.getValue().length).fill('');
+    for (const mark of cm.getAllMarks().filter(({ className }) => className === 'vialshoal-looks')) {
+        const { from, to } = mark.find(), [beg, end] = [from, to].map((place) => cm.indexFromPos(place));
+        if (styles.slice(beg, end).some((style) => style !== '')) throw new Error(`${beg} to ${end} is marked twice`);
+        styles.fill(mark.css, beg, end);
+    }
+    return styles;
+}
+
+function dressed(text) {
+    return text.runs().flatMap(({ beg, end, font, colour, offset }) => Array(end - beg).fill([
+        { 'Oberon10b.Scn.Fnt': 'font-weight: bold', 'Syntax12i.Scn.Fnt': 'font-style: italic' }[font],
+        { 2: 'color: #cc2222', 15: 'color: #66aaaa' }[colour], { '-3': 'vertical-align: -3px' }[offset],
+    ].filter(Boolean).join('; ')));
+}
+
 const without = (set, other) => [...set].filter((one) => !other.has(one));
 const sorted = (set) => [...set].sort();
 
@@ -43,7 +63,7 @@ class Player {
         this.draw = draw;
         this.editors = editors;
         this.stacks = editors.map(() => ({ done: [], undone: [] }));
-        this.counts = { edits: 0, undos: 0, meetings: 0, away: 0 };
+        this.counts = { edits: 0, undos: 0, looks: 0, meetings: 0, away: 0 };
         // (lines out of view, and the cursors in them, wouldn't be drawn)
         editors.forEach(({ cm }) => cm.setOption('viewportMargin', Infinity));
     }
@@ -95,6 +115,17 @@ class Player {
         this.counts.undos += 1;
     }
 
+    dress(index) {
+        const { cm, text } = this.editors[index], { beg, end } = this.splice(cm.getValue());
+        try {
+            text.changeLooks(beg, end, LOOKS[this.draw(LOOKS.length)]);
+        } catch (why) {
+            // (within a pair)
+            if (why.code !== 'OUT_OF_TEXT') throw why;
+        }
+        this.counts.looks += 1;
+    }
+
     select(index) {
         const { cm } = this.editors[index], shown = cm.getValue();
         cm.setSelection(...[0, 0].map(() => {
@@ -113,6 +144,7 @@ class Player {
         this.editors.forEach(({ cm, text }) => {
             same(`${text}`, `${both}`, 'met');
             same(cm.getValue(), `${both}`, 'shown');
+            same(marked(cm), dressed(both), 'looks');
         });
         await until(() => this.misplaced() === undefined, () => this.misplaced());
         both.close();
@@ -134,18 +166,20 @@ class Player {
     }
 
     async step() {
-        const index = this.draw(2), { provider, cm, text } = this.editors[index], what = this.draw(20);
+        const index = this.draw(2), { provider, cm, text } = this.editors[index], what = this.draw(22);
         if (what < 10) this.edit(index);
         else if (what < 14) this.undo(index);
         else if (what < 16) this.select(index);
         else if (what === 16) await this.meet();
         else if (what === 17) provider.connect();
         else if (what === 18) await sleep(this.draw(10));
+        else if (what > 19) this.dress(index);
         else {
             provider.disconnect();
             this.counts.away += 1;
         }
         same(cm.getValue(), `${text}`, 'shown');
+        same(marked(cm), dressed(text), 'looks');
     }
 }
 

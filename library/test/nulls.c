@@ -69,6 +69,39 @@ static void showed(vialshoal_past_text *past, uint32_t number) {
     IS(vialshoal_past_names(past, 1, 1, NULL, 0, &need) == number && (number || need == 0));
 }
 
+/* What calls of a note answer whose first text shows "abc", by an own edit. */
+static void notes(vialshoal_note *note, uint32_t number) {
+    static const vialshoal_hash author = {{1}};
+    vialshoal_head head = {author, {{0}}, 1, 1, 1, 1};
+    vialshoal_past_text past = {0};
+    uint32_t short_one = number ? number : VIALSHOAL_TOO_SHORT;
+    bool is_anew;
+    IS(vialshoal_note_add(note, &head, NULL, 0) == (number ? number : VIALSHOAL_MALFORMED));
+    IS(vialshoal_note_insert(note, 1, 0, NULL, 0, &sent) == number && sent == 0);
+    IS(vialshoal_note_change_looks(note, 1, 0, 1, VIALSHOAL_COLOUR, NULL, 0, 3, 0, &sent) == number && sent == (number == 0));
+    IS(vialshoal_note_delete_names(note, 1, NULL, 0, &sent) == number && sent == 0);
+    IS(vialshoal_note_restore_names(note, 1, NULL, 0, &sent) == number && sent == 0);
+    IS(vialshoal_note_own(note, 1, &author, 0, &head, NULL, 0, &need) == short_one && (need > 0) == (number == 0));
+    IS(vialshoal_note_sites(note, 1, NULL, 0, &need) == short_one && need == (number == 0));
+    IS(vialshoal_note_bytes(note, 1, 0, 3, NULL, 0, &need) == short_one && (number || need == 3));
+    IS(vialshoal_note_bytes(note, 1, 1, 1, NULL, 0, &need) == number && (number || need == 0));
+    IS(vialshoal_note_looks(note, 1, 0, &run, NULL, 0, &need) == short_one && (number || need == 16));
+    IS(vialshoal_note_names(note, 1, 0, 3, NULL, 0, &need) == short_one && (number || need == 3));
+    IS(vialshoal_note_changes(note, 1, &is_anew, NULL, 0, &need) == short_one);
+    IS(vialshoal_note_past(note, 1, NULL, 0, &past) == number && (number || vialshoal_past_free(&past) == 0));
+}
+
+static void of_a_note(void) {
+    static const vialshoal_hash key = {{7}}, founder = {{1}}, zeros;
+    vialshoal_note note = {0};
+    notes(&note, VIALSHOAL_NOT_OPEN);
+    IS(vialshoal_note_new(&note, 1, &key, &founder, 1, &key, &founder, NULL, 0) == VIALSHOAL_MALFORMED && note.at == NULL);
+    IS(vialshoal_note_new(&note, 1, &key, &founder, 1, &key, &zeros, NULL, 0) == 0);
+    IS(vialshoal_note_insert(&note, 1, 0, BYTES("abc"), 3, &sent) == 0);
+    notes(&note, 0);
+    IS(vialshoal_note_free(&note) == 0);
+}
+
 int main(void) {
     static const vialshoal_site_front all = {1, 9};
     vialshoal_text text = {0};
@@ -91,6 +124,7 @@ int main(void) {
     showed(&past, 0);
     IS(vialshoal_load(&text, NULL, 0) == VIALSHOAL_ALREADY_OPEN);
     IS(vialshoal_past_free(&past) == 0 && vialshoal_free(&text) == 0);
+    of_a_note();
     puts("nulls: all is so");
     return 0;
 }

@@ -93,12 +93,14 @@ class Calls(unittest.TestCase):
         self.assertEqual(calls - tested, set())
 
     def test_each_that_is_in_front_of_the_crate_has_a_name_of_its_own(self) -> None:
-        changes, reads = (set(re.findall(r"^OF_THE_CRATE\((\w+)\);", read(f"library/c/{file}.c"), re.MULTILINE))
-                          for file in ("null", "reads"))
-        self.assertEqual(reads, self.those_that_read())
-        self.assertEqual(changes, self.those_with("size_t") - reads - {"hand_out"})
+        changes, reads, notes = (set(re.findall(r"^OF_THE_CRATE\((\w+)\);", read(f"library/c/{file}.c"), re.MULTILINE))
+                                 for file in ("null", "reads", "note"))
+        of_notes = self.those_with("vialshoal_note *")
+        self.assertEqual(reads, self.those_that_read() - of_notes)
+        self.assertEqual(changes, self.those_with("size_t") - of_notes - reads - {"hand_out"})
+        self.assertEqual(notes, self.those_with("size_t") & of_notes | self.those_with("const vialshoal_note *"))
         renamed = set(re.findall(r"^vialshoal_(\w+) vialshoal_c_\1$", read("library/c/symbols"), re.MULTILINE))
-        self.assertEqual(renamed, changes | reads)
+        self.assertEqual(renamed, changes | reads | notes)
 
     def those_that_read(self) -> set[str]:
         reads = self.those_with("const vialshoal_text *") | self.those_with("const vialshoal_past_text *")

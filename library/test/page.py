@@ -32,7 +32,7 @@ WORDS = ["--headless=new", "--no-sandbox", "--disable-gpu", "--disable-dev-shm-u
 PATIENCE = 120
 MOST_SHOWN = 2_000
 # What runs in pages too, of library/node/tests.
-TESTS = ("text", "delta", "versions", "undo", "presence", "backlog", "merging")
+TESTS = ("text", "note", "delta", "versions", "undo", "presence", "backlog", "merging")
 IN_PAGE = "const [name, done] = arguments; import('/test/said.mjs').then((it) => it.said(name)).then(done, (why) => done(String(why)))"
 IN_WORKER = """const [name, done] = arguments, worker = new Worker('/test/page_worker.mjs', { type: 'module' });
 worker.onmessage = ({ data }) => data === 'listening' ? worker.postMessage(name) : done(data);

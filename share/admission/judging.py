@@ -8,6 +8,7 @@ from collections.abc import Callable, Iterable, Iterator, Sequence
 from typing import NamedTuple
 
 from share.admission.copies import Copies
+from share.admission.in_fold import WithFolds
 from share.admission.ledger import Row, Who
 from share.admission.left_out import LeftOut
 from share.format.entry import BuiltOn, Copy, Entry
@@ -24,7 +25,7 @@ class Counted(NamedTuple):
     anew: bool
 
 
-class Judging(ABC):
+class Judging(WithFolds, ABC):
     """The set of entries that came, what counts of it, and what is told of the rest."""
 
     # What is here.

@@ -146,6 +146,10 @@ class MessageChain(Passing):
             found[site] = max(found.get(site, 0), last)
         return found
 
+    def length_before(self, place: int) -> int:
+        """How many characters were inserted by the messages before a place, which were let through."""
+        return self._ends[place - 1] if place else 0
+
     def inserter_of(self, at: int) -> bytes:
         """The hash of the message that inserted a character, which was let through."""
         return self.branch.hash(bisect_right(self._ends, at))

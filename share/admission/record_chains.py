@@ -1,6 +1,7 @@
 """What is told of the chains of a note of the second form, and of messages by their hashes."""
 from collections.abc import Iterable, Iterator, Mapping, Sequence
 
+from share.admission.in_fold import InFold
 from share.admission.in_text import InText
 from share.admission.ledger import Row
 from share.admission.lines import MessageChain
@@ -11,6 +12,7 @@ from share.admission.told import ToldOfMessages
 from share.admission.twigs import Twig
 from share.format.entry import NO_HASH, Entry
 from share.format.operation import TEXT, Operation
+from share.format.second.folding import LEFT_AFTER, Foldable
 from share.format.second.form import RecordForm
 from share.format.second.record import Record
 from share.text.names import Name, Names
@@ -90,6 +92,53 @@ class RecordChains(RecordSet):
 
     def of(self, site: int, author: bytes) -> Iterator[Row]:
         return map(self._records.row, self._records.of((site, author)))
+
+    # What is folded.
+
+    def folded(self, since: int = 0) -> list[InFold]:
+        records = self._records
+        pairs = map(records.folds.pair, range(since, len(records.folds)))
+        return [InFold(records.hash(one), records.made(one), records.hash(fold), records.made(fold)) for one, fold in pairs]
+
+    def fold_of(self, of: bytes) -> bytes:
+        number = self._records.number(of)
+        return of if number is None else self._records.hash(self._records.folds.of(number))
+
+    def foldable(self, site: int, text: int = TEXT) -> Iterator[Foldable]:
+        line, records = self._line(site, text) if self.holder(site) else None, self._records
+        if line is None:
+            return
+        place, end = 0, self._end_of_foldable(line)
+        while place < end:
+            number = self._record_at(line, place)
+            last = place + records.size(number)
+            if records.first(number) == place + 1 and line.has(records.last(number)):
+                yield self._foldable(line, number, place, last)
+                place = last
+            else:
+                # It goes on in another branch.
+                place += 1
+
+    def _end_of_foldable(self, line: MessageChain) -> int:
+        """How many messages of a line are in entries after which enough others follow."""
+        end = line.front
+        for _ in range(LEFT_AFTER):
+            end = self._records.first(self._record_at(line, end - 1)) - 1 if end else 0
+        return end
+
+    def _record_at(self, line: MessageChain, place: int) -> int:
+        """The record that has the message at a place of a line, or its fold."""
+        return self._records.folds.of(self._records.having(line.branch.numbers[place]))
+
+    def _foldable(self, line: MessageChain, number: int, begin: int, end: int) -> Foldable:
+        """A record whose messages are those of a line from one place to another; without them where it is too large to be folded."""
+        found = Foldable(self._records.hash(number), self._records.length(number), line.branch.hash(begin - 1) if begin else NO_HASH,
+                         line.length_before(begin))
+        if found.is_large:
+            return found
+        sayings, numbers = self._sayings, line.branch.numbers[begin:end]
+        return found._replace(operations=[*line.branch.runs(begin, end)], hashes=[*map(sayings.hash, numbers)],
+                              ons=[*map(sayings.on, numbers)])
 
     # What is told of a record, of a message, and of copies.
 

@@ -71,7 +71,8 @@ class RecordRoom(GivenBack):
             return judge.has_begun and entry.before == NO_HASH
         first = next((at for at, of in enumerate(entry.hashes) if of not in judge), None)
         if first is None:
-            return False
+            # A fold of what holds is kept as that is.
+            return self._holds(entry)
         before, place, line = entry.hashes[first - 1] if first else entry.before, 0, text.lines.get(entry.site)
         if before != NO_HASH:
             number = sayings.number(before)
@@ -83,6 +84,12 @@ class RecordRoom(GivenBack):
         if line is None or place == len(line.branch):
             return entry.site not in text.passage.blocked and entry.site not in text.passage.ended
         return entry.hashes[first] < line.branch.hash(place)
+
+    def _holds(self, entry: Record) -> bool:
+        """Whether the messages of a record, which are all here, are in the line of who holds their number."""
+        number, text = self._judge.sayings.number(entry.hashes[-1]), self._judge.texts.get(entry.text)
+        line = text.lines.get(entry.site) if text else None
+        return line is not None and number is not None and line.has(number)
 
     def _is_too_much(self, entry: Record, weight: int) -> bool:
         """Whether there is no room for so many bytes."""

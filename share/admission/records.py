@@ -7,6 +7,7 @@ from array import array
 from collections.abc import Iterable, Sequence
 from itertools import accumulate
 
+from share.admission.folds import Folds
 from share.admission.hashes import HASH_BYTES, Hashes
 from share.admission.ledger import Row, Who
 from share.admission.letters import Letters
@@ -34,6 +35,7 @@ class Records(Hashes):
         self._lasts, self._kept = array("I"), bytearray()
         # The record that had each message first, and each of the base, by one more than its number.
         self._having, self._having_base = array("I"), array("I")
+        self.folds = Folds(self)
 
     def add(self, row: Row, entry: Record, new: Sequence[int] = ()) -> int:
         """Adds the record of a row, which is the first that has these messages; its number."""
@@ -56,6 +58,8 @@ class Records(Hashes):
         self._ends.append(len(self._kept))
         self._enter((entry.hash,), number)
         _note(self._having, new, number)
+        if len(new) < len(entry.hashes):
+            self.folds.add(number)
         return number
 
     def extend(self, rows: Sequence[Row], entries: Sequence[Record], messages: range) -> None:
@@ -124,6 +128,26 @@ class Records(Hashes):
     def having_base(self, message: int) -> int:
         """The same of one of the base."""
         return self._having_base[message] - 1
+
+    def first(self, number: int) -> int:
+        """The seq of a record's first message."""
+        return self._firsts[number]
+
+    def size(self, number: int) -> int:
+        """How many messages a record has."""
+        return self._sizes[number]
+
+    def last(self, number: int) -> int:
+        """The number of a record's last message."""
+        return self._lasts[number]
+
+    def made(self, number: int) -> bool:
+        """Whether a record was made here."""
+        return bool(self._made[number])
+
+    def length(self, number: int) -> int:
+        """The bytes of what a record of messages says."""
+        return self._ends[number] - (self._ends[number - 1] if number else 0) - self._form.tail_bytes
 
     def messages(self, number: int) -> list[int]:
         """The numbers of a record's messages."""

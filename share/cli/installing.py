@@ -22,7 +22,8 @@ LIB, CURRENT, MANIFEST, NEW = "lib", "vialshoal", "installed", "new"
 TREE = re.compile(r"vialshoal-[0-9a-f]{8}")
 ROOMS = ("text", "format", "admission", "review", "log", "relay", "program", "store", "sync", "engine", "editors", "cli")
 PARTS = ("bin/note", "bin/built", "share/*.py", *(f"share/{room}/**/*.py" for room in ROOMS), "share/editors/web/*.*",
-         "share/relay/site/*.*",
+         "share/relay/site/*.*", *(f"library/node/{name}.js" for name in ("blocks", "bytes", "delta", "host", "positions")),
+         "library/out/node/vialshoal.wasm",
          "share/completions/*", "share/systemd/*", "editors/emacs/*.el", "editors/neovim/plugin/*.lua",
          "editors/neovim/lua/vialshoal/*.lua", "editors/neovim/doc/*", "docs/SHARING.md", "docs/ENGINE.md", "docs/RELAY.md", "docs/man/*.1")
 PROGRAM = str(BUILT.relative_to(TOP))

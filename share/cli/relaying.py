@@ -10,7 +10,7 @@ from share.format.link import is_network, url_of
 from share.format.second.signature import check_library
 from share.relay.limits import Limits
 from share.relay.options import DEFAULT_LISTEN, RelayOptions, web_origin
-from share.relay.page_files import PageFiles
+from share.relay.page_files import PageFiles, missing_for_texts
 from share.relay.shelf import shelf_at
 from share.store import notes
 from share.text.errors import Trouble
@@ -69,7 +69,9 @@ def run_relay(words: Sequence[str]) -> int:
     url = url_of(given.log) if given.log else str(pathlib.Path(notes.data_folder()).absolute() / RELAY_VERB)
     host, port = options.host_and_port()
     with shelf_at(url, access.given_password(given) if is_network(url) else None) as shelf, Door(host, port, limits.connections) as door:
-        said = f"and keeps notes in {url}.\nCtrl-C ends it."
+        missing = missing_for_texts()
+        texts = f" Its page shows no texts: {missing} is missing." if missing else ""
+        said = f"and keeps notes in {url}.{texts}\nCtrl-C ends it."
         asyncio.run(serve_relay(options, shelf, door, lambda relay: print(f"A relay is at {', '.join(relay.origins)}, {said}", flush=True),
                                 lambda words: report([words])))
     return 0

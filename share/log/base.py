@@ -64,6 +64,8 @@ class Log(ABC):
     most_read = 2**20
     # Whether the last reading came to the end that the log had then.
     at_end = False
+    # Whether entries can be taken out of it; and how many were by the time that somebody last read, or asked how many there are.
+    can_take_out, taken_out = False, 0
 
     @abstractmethod
     def append(self, raws: Sequence[bytes]) -> None:
@@ -77,13 +79,17 @@ class Log(ABC):
     def watch(self, after: str, seconds: float, bell: Bell | None = None) -> None:
         """Returns when something stands after a place, when the time is over, or the bell rings."""
 
+    def take_out(self, fold: bytes, folded: Sequence[bytes]) -> None:
+        """Takes out entries all messages of which are in a fold, which the log has. What isn't there is passed over, and the last entry
+        stays."""
+
     @abstractmethod
     def size(self) -> int:
-        """How many entries there are."""
+        """How many entries there are, those that were taken out among them."""
 
     @abstractmethod
     def size_to(self, after: str) -> int:
-        """How many entries there are up to a place."""
+        """How many entries there are up to a place, all that were taken out among them."""
 
     def told(self) -> str:
         """What the server tells of itself, each thing once."""

@@ -22,3 +22,8 @@ def opener_of(url: str, form: Form, password: str | None = None) -> Callable[[],
     # Loaded where it is needed, since it takes long.
     from share.log.relay import RelayLogs
     return RelayLogs(url, form)
+
+
+def can_take_out(url: str) -> bool:
+    """Whether the log of a note lets entries be taken out, as far as its URL says; a note without a log has none that could keep any."""
+    return not is_relay(url)

@@ -3,6 +3,7 @@
 The server, and everyone who reaches it, can write under its keys whatever they like. So scripts leave out what
 can't be an entry before it is sent, and each answer is looked at.
 """
+import hashlib
 import re
 from collections.abc import Sequence
 
@@ -13,6 +14,7 @@ from share.log.bell import Bell
 from share.log.channel import Ear, RedisChannel
 from share.log.page_size import MOST_ROOM, PageSize, batches
 from share.log.resp import Answer, TooLong, Wire
+from share.text.errors import Trouble
 
 # The most bytes of an append, and what an entry costs beside its own bytes.
 MOST_APPENDED = 2**17
@@ -36,12 +38,31 @@ APPEND_SCRIPT = """
     end
     return 0
 """
-# Gives how many entries there are, whether the last one was read, and ids and bytes in turn; nothing where the
-# entry after which is read doesn't stand any more. It takes a few at a time, since some may be large.
+# Takes out entries, by hashes of their bytes, where their fold is there; a key has how many were taken out in all. The last one stays,
+# since somebody may have read up to it.
+TAKE_OUT_SCRIPT = """
+    local fold = redis.call('HGET', KEYS[2], ARGV[1])
+    local held = fold and redis.pcall('XRANGE', KEYS[1], fold, fold)
+    if not (held and held[1]) then return 0 end
+    local last, many = redis.call('XREVRANGE', KEYS[1], '+', '-', 'COUNT', 1)[1][1], 0
+    for number = 2, #ARGV do
+        local place = redis.call('HGET', KEYS[2], ARGV[number])
+        local gone = place and place ~= last and redis.pcall('XDEL', KEYS[1], place)
+        if type(gone) == 'number' then
+            many = many + gone
+            redis.call('HDEL', KEYS[2], ARGV[number])
+        end
+    end
+    if many > 0 then redis.call('INCRBY', KEYS[3], many) end
+    return many
+"""
+# Gives how many entries there are, how many were taken out, whether the last one was read, and ids and bytes in turn; nothing where the
+# entry after which is read doesn't stand any more, and none was taken out since. It takes a few at a time, since some may be large.
 READ_SCRIPT = """
     local after, field, page, most = ARGV[1], ARGV[2], tonumber(ARGV[3]), tonumber(ARGV[4])
     local room = tonumber(ARGV[5])
-    if after ~= '0-0' and #redis.call('XRANGE', KEYS[1], after, after) == 0 then return 0 end
+    local taken = KEYS[2] and tonumber(redis.call('GET', KEYS[2]) or 0) or 0
+    if after ~= '0-0' and taken == tonumber(ARGV[6]) and #redis.call('XRANGE', KEYS[1], after, after) == 0 then return 0 end
     local found, at_end = {}, 0
     while #found < 2 * page and room > 0 and at_end == 0 do
         local few = math.min(20, page - #found / 2)
@@ -56,12 +77,13 @@ READ_SCRIPT = """
         end
         if #some < few then at_end = 1 end
     end
-    return {redis.call('XLEN', KEYS[1]), at_end, found}
+    return {redis.call('XLEN', KEYS[1]), taken, at_end, found}
 """
-# Gives how many entries there are, and the id of the last one.
+# Gives how many entries there are, how many were taken out, and the id of the last one.
 END_SCRIPT = """
     local last = redis.call('XREVRANGE', KEYS[1], '+', '-', 'COUNT', 1)
-    return {redis.call('XLEN', KEYS[1]), last[1] and last[1][1] or ''}
+    local taken = KEYS[2] and tonumber(redis.call('GET', KEYS[2]) or 0) or 0
+    return {redis.call('XLEN', KEYS[1]), taken, last[1] and last[1][1] or ''}
 """
 # Gives the id of the last entry of a part of the stream, and of each claim in it the two bytes of its site.
 CLAIMED_SCRIPT = """
@@ -118,28 +140,38 @@ STREAM_PLACE = re.compile(r"([0-9]{1,20}-[0-9]{1,20})/([0-9]{1,18})")
 
 class Stream:
     """A stream whose entries have one field alone, of no more than `most` bytes. A place in it has the entry's id
-    and how many there are up to it, so that a stream that lost entries is seen."""
+    and how many there are up to it, all that were taken out among them, so that a stream that lost entries is seen."""
 
-    def __init__(self, wire: Wire, key: str, field: str, most: int):
+    def __init__(self, wire: Wire, key: str, field: str, most: int, taken_out_key: str = ""):
         self._wire, self._key, self._field, self._most = wire, key, field, most
+        self._keys = (key, taken_out_key) if taken_out_key else (key,)
         self._size = PageSize()
+        # How many were taken out, by the last answer, and as the reading began or came to the end last.
+        self.taken_out = self._taken_out_before = 0
         # Whether the last reading came to the end.
         self.at_end = False
 
     def read(self, after: str, most: int = MOST_ROOM) -> list[InLog]:
         """The entries after a place, PAGE at most, and of no more than these bytes but for some."""
         last, count = _stream_place(after)
-        words = last, self._field, READ_AT_ONCE, self._most, min(self._size.room, most)
+        words = last, self._field, READ_AT_ONCE, self._most, min(self._size.room, most), self.taken_out
         with self._size.timed():
-            answer = self._wire.run(READ_SCRIPT, (self._key,), words, MOST_READ)
+            answer = self._wire.run(READ_SCRIPT, self._keys, words, MOST_READ)
         if answer == 0:
             raise self._lost()
-        page, size = self._page(answer, last, count)
-        # They can't be more: the server tells how many there are in one breath with the last ones.
-        if size is not None and size != count + len(page):
+        page, size = self._page(answer, last)
+        if after == START:
+            # What was taken out by now isn't met.
+            count = self._taken_out_before = self.taken_out
+        missing = 0 if size is None else size - count - len(page)
+        # They can't be more, but for those that were taken out before they were met: the server tells how many there are in one breath with
+        # the last ones.
+        if not 0 <= missing <= self.taken_out - self._taken_out_before:
             raise self._lost() if after != START else self._wire.strange()
         self.at_end = size is not None
-        return page
+        if self.at_end:
+            self._taken_out_before = self.taken_out
+        return [InLog(f"{one.place}/{number}", one.raw) for number, one in enumerate(page, count + missing + 1)]
 
     def claimed(self, kind: int, at: int) -> set[int]:
         """The sites that entries of this kind claim, each of which is at a place of their bytes, as far as the server says so: it looks
@@ -170,54 +202,54 @@ class Stream:
             # Something is there, and the script that reads says what.
             return
 
-    def size(self) -> int:
-        """How many entries there are."""
-        size = self._wire.ask("XLEN", self._key)
-        if not isinstance(size, int):
-            raise self._wire.strange()
-        return size
-
-    def end(self) -> tuple[str, int]:
-        """The place of the last entry, and how many there are."""
-        match self._wire.run(END_SCRIPT, (self._key,), ()):
-            case [0, b""]:
-                return START, 0
-            case [int(size), bytes(last)] if place := _numbers(last):
-                return f"{place[0]}-{place[1]}/{size}", size
+    def end(self) -> tuple[str, int, int]:
+        """The place of the last entry, how many there are, those that were taken out among them, and how many these are."""
+        match self._wire.run(END_SCRIPT, self._keys, ()):
+            case [0, int(taken_out), b""]:
+                return START, self._saw(taken_out), taken_out
+            case [int(size), int(taken_out), bytes(last)] if place := _numbers(last):
+                size += self._saw(taken_out)
+                return f"{place[0]}-{place[1]}/{size}", size, taken_out
         raise self._wire.strange()
+
+    def _saw(self, taken_out: int) -> int:
+        """How many were taken out, as an answer says."""
+        if taken_out < 0:
+            raise self._wire.strange()
+        return taken_out
 
     def _lost(self) -> LogLost:
         return LogLost(f"{self._wire.url} has lost entries.")
 
-    def _page(self, answer: Answer, last: str, count: int) -> tuple[list[InLog], int | None]:
-        """What a reading gives, and how many entries there are, where it came to their end."""
+    def _page(self, answer: Answer, last: str) -> tuple[list[InLog], int | None]:
+        """What a reading gives, by ids, and how many entries there are, where it came to their end."""
         match answer:
-            case [int(size), int(at_end), list(found)] if len(found) <= 2 * READ_AT_ONCE and not len(found) % 2:
-                pass
+            case [int(size), int(taken_out), int(at_end), list(found)] if len(found) <= 2 * READ_AT_ONCE and not len(found) % 2:
+                self.taken_out = self._saw(taken_out)
             case _:
                 raise self._wire.strange()
         page, before = [], _numbers(last.encode())
-        for number, (one, raw) in enumerate(zip(found[::2], found[1::2]), count + 1):
+        for one, raw in zip(found[::2], found[1::2]):
             place = _numbers(one)
             if not (before and place and before < place):
                 raise self._wire.strange()
             before = place
             entry = raw if isinstance(raw, bytes) and len(raw) <= self._most else None
-            page.append(InLog(f"{place[0]}-{place[1]}/{number}", entry))
-        return page, size if at_end else None
+            page.append(InLog(f"{place[0]}-{place[1]}", entry))
+        return page, size + self.taken_out if at_end else None
 
 
 class RedisLog(Log):
     """A log in a stream of a note's own. What was lost is seen at once as something is appended, and else at the end of a watch."""
 
-    watch_seconds = 5.0
+    watch_seconds, can_take_out = 5.0, True
 
     def __init__(self, url: str, note: bytes, password: str | None = None):
         self._wire, self._ear = Wire(url, password), Ear(url, password)
         # In braces, so that a cluster of servers keeps all keys of a note together.
-        self._entries, self._places, self._times, self._said, self._on = (
-            f"vialshoal:note:{{{note.hex()}}}:{part}" for part in ("entries", "places", "times", "said", "on"))
-        self._stream = Stream(self._wire, self._entries, "e", MOST_BYTES)
+        self._entries, self._places, self._times, self._said, self._on, self._taken_out = (
+            f"vialshoal:note:{{{note.hex()}}}:{part}" for part in ("entries", "places", "times", "said", "on", "taken"))
+        self._stream = Stream(self._wire, self._entries, "e", MOST_BYTES, self._taken_out)
         try:
             self._wire.ask("PING")
         except BaseException:
@@ -228,16 +260,26 @@ class RedisLog(Log):
         for part in batches(raws, MOST_APPENDED, ENTRY_OVERHEAD):
             self._wire.run(APPEND_SCRIPT, (self._entries, self._places), part)
 
+    def take_out(self, fold: bytes, folded: Sequence[bytes]) -> None:
+        of, *others = (hashlib.sha1(raw, usedforsecurity=False).hexdigest().encode() for raw in (fold, *folded))
+        try:
+            for part in batches(others, MOST_APPENDED, ENTRY_OVERHEAD):
+                self._wire.run(TAKE_OUT_SCRIPT, (self._entries, self._places, self._taken_out), (of, *part))
+        except Trouble:
+            # Whoever keeps the server may let nobody take anything out of it.
+            self.can_take_out = False
+
     def read(self, after: str) -> list[InLog]:
         page = self._stream.read(after, self.most_read)
-        self.at_end = self._stream.at_end
+        self.at_end, self.taken_out = self._stream.at_end, self._stream.taken_out
         return page
 
     def watch(self, after: str, seconds: float, bell: Bell | None = None) -> None:
         self._stream.watch(after, seconds, bell)
 
     def size(self) -> int:
-        return self._stream.size()
+        _, size, self.taken_out = self._stream.end()
+        return size
 
     def size_to(self, after: str) -> int:
         # The reading that came to this place has seen that they are there.
@@ -247,7 +289,7 @@ class RedisLog(Log):
         return self._stream.claimed(kind, at)
 
     def end(self) -> tuple[str, int]:
-        return self._stream.end()
+        return self._stream.end()[:2]
 
     def bytes_kept(self) -> int:
         return sum(size for key in (self._entries, self._places) if isinstance(size := self._wire.ask("MEMORY", "USAGE", key), int))

@@ -32,8 +32,17 @@ NOTES = "SELECT note FROM header WHERE typeof(note) = 'blob' AND length(note) = 
 OF_OTHERS = ("SELECT EXISTS (SELECT 1 FROM entry WHERE typeof(raw) = 'blob' AND length(raw) BETWEEN ? AND ? AND "
              "substr(raw, 3, ?) <> ?)")
 HELD = "SELECT place, raw = ? FROM entry WHERE hash = ?"
+# How many entries were taken out of it. Versions of before have no such table, and leave it where it is.
+TAKEN_OUT = "taken_out"
+TAKEN_OUT_TABLE = "CREATE TABLE IF NOT EXISTS taken_out (one INTEGER PRIMARY KEY CHECK (one = 1), many INTEGER NOT NULL)"
+MANY_TAKEN_OUT = "SELECT coalesce(max(CAST(many AS INTEGER)), 0) FROM taken_out"
+# The last one stays, since somebody may have read up to it, and another one would get its place.
+TAKE_OUT = "DELETE FROM entry WHERE hash = ? AND place < (SELECT max(place) FROM entry)"
+TOOK_OUT = ("INSERT INTO taken_out VALUES (1, ?) "
+            "ON CONFLICT (one) DO UPDATE SET many = many + excluded.many")
 ADD = "INSERT INTO entry (hash, raw) VALUES (?, ?)"
 STANDS = "SELECT EXISTS (SELECT 1 FROM entry WHERE place = ? AND coalesce(CAST(mark AS INTEGER), 0) = ?)"
+AT = "SELECT EXISTS (SELECT 1 FROM entry WHERE place = ?)"
 AFTER = ("SELECT place, coalesce(CAST(mark AS INTEGER), 0), CASE WHEN typeof(raw) = 'blob' AND length(raw) <= ? "
          "THEN raw END FROM entry WHERE place > ? ORDER BY place LIMIT ?")
 LAST = ("SELECT place, coalesce(CAST(mark AS INTEGER), 0), (SELECT count(*) FROM entry) FROM entry ORDER BY place DESC LIMIT 1")
@@ -44,12 +53,15 @@ FILE_PLACE = re.compile(r"([0-9]{1,19})\.(-?[0-9]{1,19})")
 class SqliteLog(Log):
     """A log in a file. Writers of the file go one after the other, so places rise as entries are committed."""
 
+    can_take_out = True
+
     def __init__(self, path: pathlib.Path, note: bytes):
         self.path, self._note = path, note
         self._beside = [str(beside(path, end)) for end in SIDE_FILES]
         # Whether the file was seen to be a log, so that it may be set aside where it is damaged.
         self._is_log = False
-        self._size = 0
+        # How many entries had been taken out as it was read last.
+        self._size = self._taken_out = 0
         try:
             _make_log(path)
         except OSError as why:
@@ -69,6 +81,15 @@ class SqliteLog(Log):
         with self._at_file(), self._file.transaction():
             for raw in raws:
                 self._append(raw, digest(raw))
+
+    def take_out(self, fold: bytes, folded: Sequence[bytes]) -> None:
+        with self._at_file(), self._file.transaction():
+            held = self._file.execute(HELD, (fold, digest(fold))).fetchone()
+            if not (held and held[1]):
+                return
+            if many := self._file.executemany(TAKE_OUT, ((digest(raw),) for raw in folded)):
+                self._file.execute(TAKEN_OUT_TABLE)
+                self._file.execute(TOOK_OUT, (many,))
 
     def read(self, after: str) -> list[InLog]:
         with self._at_file():
@@ -98,16 +119,16 @@ class SqliteLog(Log):
 
     def size(self) -> int:
         with self._at_file():
-            return self._file.one("SELECT count(*) FROM entry")
+            return self._file.one("SELECT count(*) FROM entry") + self._many_taken_out()
 
     def size_to(self, after: str) -> int:
         with self._at_file():
-            return self._file.one("SELECT count(*) FROM entry WHERE place <= ?", _place_and_mark(after)[0])
+            return self._file.one("SELECT count(*) FROM entry WHERE place <= ?", _place_and_mark(after)[0]) + self._many_taken_out()
 
     def end(self) -> tuple[str, int]:
         with self._at_file():
-            found = self._file.execute(LAST).fetchone()
-        return (f"{found[0]}.{found[1]}", found[2]) if found else (START, 0)
+            found, taken_out = self._file.execute(LAST).fetchone(), self._many_taken_out()
+        return (f"{found[0]}.{found[1]}", found[2] + taken_out) if found else (START, taken_out)
 
     def bytes_kept(self) -> int:
         with self._at_file():
@@ -144,6 +165,7 @@ class SqliteLog(Log):
             raise Unreachable(f"{self.path}: SQLite can't write ahead in this folder")
         self._file.safe()
         self._first = self._file.one("SELECT coalesce(min(place), 0) FROM entry")
+        self._taken_out = self._many_taken_out()
         self._helpers = self._helping()
         if None in self._helpers:
             raise LogLost(f"{self.path} was changed by another program.")
@@ -177,13 +199,20 @@ class SqliteLog(Log):
 
     def _stands(self, after: str) -> int:
         """The place after which is read. A log that was put back, or lost its first entries, is seen by what
-        is missing of it."""
+        is missing of it, where nothing was taken out since it was read last."""
         place, mark = _place_and_mark(after)
-        first = self._file.one("SELECT coalesce(min(place), 0) FROM entry")
-        if after != START and not self._file.one(STANDS, place, mark) or self._first and first != self._first:
+        first, before, taken_out = self._file.one("SELECT coalesce(min(place), 0) FROM entry"), self._first, self._many_taken_out()
+        if taken_out > self._taken_out and first > before:
+            before = first
+        stands = after == START or self._file.one(STANDS, place, mark) or taken_out > self._taken_out and not self._file.one(AT, place)
+        if not stands or before and first != before:
             raise LogLost(f"{self.path} has lost entries.")
-        self._first = first
+        self._first, self._taken_out = first, taken_out
         return place
+
+    def _many_taken_out(self) -> int:
+        self.taken_out = self._file.one(MANY_TAKEN_OUT) if self._file.has_tables((TAKEN_OUT,)) else 0
+        return self.taken_out
 
     @contextlib.contextmanager
     def _at_file(self) -> Iterator[None]:

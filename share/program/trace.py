@@ -32,6 +32,8 @@ class Traced(Enum):
     DIFFERS_AS_A_WHOLE = auto()
     REBASED = auto()
     HIDDEN = auto()
+    FOLDED = auto()
+    TAKEN_OUT = auto()
     CLAIMS_GIVEN = auto()
     GIVEN = auto()
     GIVEN_AGAIN = auto()

@@ -53,7 +53,7 @@ class RelayServer:
     def application(self) -> web.Application:
         """What answers requests. Nothing of a request but its path, as it is, chooses what."""
         application = web.Application(middlewares=[self._let_in])
-        add_page(application.router, self._files)
+        add_page(application.router, self._files, self.origins)
         application.router.add_get(ABOUT_PATH, self._about, allow_head=False)
         application.router.add_get(SOCKET_PATH, self._connect, allow_head=False)
         application.on_response_prepare.append(self._rule)

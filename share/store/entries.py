@@ -44,6 +44,7 @@ NEVER_GIVEN = "FROM entry WHERE hash IN ({}) AND made AND NOT offered AND hash N
 NEVER_OFFERED = """SELECT count(*) FROM entry WHERE made AND NOT offered AND hash NOT IN (SELECT hash FROM withdrawn) AND
                    hex(substr(CAST(raw AS BLOB), 2, 1)) IN ({})"""
 OFFERED = "UPDATE entry SET offered = 1 WHERE place = ?"
+WERE_OFFERED = "SELECT hash FROM entry WHERE offered AND hash IN ({}) AND hash NOT IN (SELECT hash FROM withdrawn)"
 RAW_AT = "SELECT raw, hash FROM entry WHERE place = ? AND hash NOT IN (SELECT hash FROM withdrawn)"
 # Entries are read from the file in portions of this many, and asked for by no more hashes at once.
 ROWS_AT_ONCE, HASHES_AT_ONCE = 5_000, 500
@@ -148,6 +149,18 @@ class Entries:
                 self._sql.executemany(OFFERED, new)
         return {of: place for of, place, _ in found}
 
+    def were_offered(self, hashes: Iterable[bytes]) -> set[bytes]:
+        """Those of these entries that a log was offered."""
+        wanted = [*hashes]
+        with self._file.reading():
+            return {of for begin in range(0, len(wanted), HASHES_AT_ONCE) for some in [wanted[begin:begin + HASHES_AT_ONCE]]
+                    for of, in self._sql.execute(WERE_OFFERED.format(_marks(some)), some)}
+
+    def raws(self, places: Sequence[int]) -> list[bytes]:
+        """The bytes of the entries at these places, but for what the disk has damaged."""
+        with self._file.reading():
+            return _right(self._sql.execute(RAW_AT, (one,)).fetchone() for one in places)
+
     def places_after(self, hashes: Sequence[bytes], most: int) -> list[int]:
         """The places of the entries that name one of these as the one before them. The whole file is looked through."""
         if not hashes:
@@ -229,9 +242,8 @@ class Entries:
         """
         with self._file.writing():
             self._sql.executemany(OFFERED, ((one,) for one in places))
-            found = [self._sql.execute(RAW_AT, (one,)).fetchone() for one in places]
-        # What the disk has damaged meanwhile isn't sent.
-        return [one[0] for one in found if one and isinstance(one[0], bytes) and digest(one[0]) == one[1]]
+            # What the disk has damaged meanwhile isn't sent.
+            return _right(self._sql.execute(RAW_AT, (one,)).fetchone() for one in places)
 
     def _rows_of(self, portion: Sequence[KeptEntry]) -> list[Sequence[Row]]:
         """What some rows are, those together that follow one another; where one isn't as it was written each by itself."""
@@ -301,6 +313,11 @@ def entry_values(entry: Entry, made: bool, offered: bool, sealed: bool) -> tuple
     # Of all but numbers, words and byte arrays Python looks first how they are to be adapted, for longer than they take to be written.
     body = bytearray(entry.body) if sealed else None
     return (bytearray(entry.hash), bytearray(entry.raw), 0 if body is None else body, zlib.crc32(body or b""), int(made), int(offered))
+
+
+def _right(found: Iterable[tuple[bytes, bytes] | None]) -> list[bytes]:
+    """The bytes of those entries that are as they were written."""
+    return [one[0] for one in found if one and isinstance(one[0], bytes) and digest(one[0]) == one[1]]
 
 
 def never_offered(form: Form) -> str:

@@ -7,13 +7,13 @@ import threading
 from collections.abc import Iterable
 
 # The marks of a place: it was read in the log; the log was given it; the log had it before it is read again; it has
-# an edit of this person; and it isn't to be given.
-WAS_READ, WAS_GIVEN, WAS_HAD, OWN_EDIT, HELD_BACK = 1, 2, 4, 8, 16
+# an edit of this person; it isn't to be given; and it is folded in another one, so that the log needs no more than that.
+WAS_READ, WAS_GIVEN, WAS_HAD, OWN_EDIT, HELD_BACK, FOLDED = 1, 2, 4, 8, 16, 32
 IN_LOG = WAS_READ | WAS_GIVEN | WAS_HAD
-_AFTER_BEGIN = bytes(mark & OWN_EDIT | (WAS_HAD if mark & IN_LOG else 0) for mark in range(256))
-_AFTER_END = bytes(mark & (OWN_EDIT | WAS_READ | WAS_GIVEN) for mark in range(256))
+_AFTER_BEGIN = bytes(mark & (OWN_EDIT | FOLDED) | (WAS_HAD if mark & IN_LOG else 0) for mark in range(256))
+_AFTER_END = bytes(mark & (OWN_EDIT | FOLDED | WAS_READ | WAS_GIVEN) for mark in range(256))
 _LET_GO = bytes(mark & ~HELD_BACK for mark in range(256))
-_MARKED = {bit: bytes(mark | bit for mark in range(256)) for bit in (WAS_READ, WAS_GIVEN, OWN_EDIT, HELD_BACK)}
+_MARKED = {bit: bytes(mark | bit for mark in range(256)) for bit in (WAS_READ, WAS_GIVEN, OWN_EDIT, HELD_BACK, FOLDED)}
 
 
 class Carried:
@@ -81,6 +81,24 @@ class Carried:
             self._unmark(places, OWN_EDIT)
             self.withdrawn = max(self.withdrawn, number)
 
+    def fold(self, places: Iterable[int]) -> None:
+        """Takes over that what is at these places is folded in something that is in the file for good: the log isn't to be given it, nor
+        has it lost it."""
+        with self._lock:
+            places = [*places]
+            self._mark(places, FOLDED)
+            self._given.difference_update(places)
+
+    def is_folded(self, place: int) -> bool:
+        """Whether what is at a place is folded."""
+        with self._lock:
+            return bool(self._of(place) & FOLDED)
+
+    def took_out(self, places: Iterable[int]) -> None:
+        """What is at these places, which is folded, was taken out of the log."""
+        with self._lock:
+            self._unmark(places, IN_LOG)
+
     def begin(self) -> None:
         """The log is to be read from its front."""
         with self._lock:
@@ -98,7 +116,7 @@ class Carried:
     def missing(self) -> list[int]:
         """The places that the log had as `begin` was called, and that weren't read there since."""
         with self._lock:
-            return [place for place, mark in enumerate(self._marks) if mark & IN_LOG == WAS_HAD]
+            return [place for place, mark in enumerate(self._marks) if mark & (IN_LOG | FOLDED) == WAS_HAD]
 
     def end(self) -> None:
         """All that the log had as `begin` was called was read; it isn't known to have any more what is missing."""
@@ -113,7 +131,7 @@ class Carried:
         with self._lock:
             places = [place for place in places if not self._of(place) & WAS_READ]
             self._mark(places, WAS_GIVEN)
-            self._given.update(places)
+            self._given.update(place for place in places if not self._of(place) & FOLDED)
 
     def given(self) -> frozenset[int]:
         """What the log was given and wasn't read there yet."""

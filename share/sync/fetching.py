@@ -30,8 +30,10 @@ class Fetcher:
     def __init__(self, ends: Ends, form: Form, known: Known, meeting: Meeting, losses: Losses, giver: Giver, threads: Threads):
         self._ends, self._form, self._known, self._meeting = ends, form, known, meeting
         self._losses, self._giver, self._threads = losses, giver, threads
-        # How often the log was read whole, and how many entries were read since that was begun.
+        # How often the log was read whole, and how many entries were read since that was begun; what was taken out before counts, too.
         self.readings = self.size = 0
+        # How many were taken out as that was begun, and as its end was last come to.
+        self._taken_out_first = self._taken_out = 0
         # How many entries the log had when it was opened, and whether the editor has taken them in.
         self._first, self.is_taken_in = 0, False
         # Where it is in the log, how many entries it reads until the log was read whole, and for which file.
@@ -46,7 +48,8 @@ class Fetcher:
     def progress(self) -> tuple[int, int] | None:
         """How much was read of what the log had when it was opened, until all of that was taken in; None then, and before it
         answers."""
-        return None if not self._first or self.is_taken_in else (min(self.size, self._first), self._first)
+        done = self.size - self._taken_out_first
+        return None if not self._first or self.is_taken_in else (min(done, self._first), self._first)
 
     def run(self) -> None:
         """Reads and watches until all stop."""
@@ -60,7 +63,7 @@ class Fetcher:
                     self._threads.tell(words)
                 if self._goal is not None and (self.size >= self._goal or not has_more):
                     self._end_reading(disk, carried)
-                elif not has_more and log.size_to(self._after) != self.size:
+                elif not has_more and not self._is_as_read(log):
                     # Something was taken out of the log, or put back.
                     self._known.reads_from_front = True
                 elif not has_more and not self._known.reads_from_front:
@@ -81,15 +84,26 @@ class Fetcher:
         # What is given from now on may be after what the log has by then.
         goal = log.size()
         self._known.reads_from_front, self._read_for, self._goal = False, carried, goal
-        self._first = self._first if self.readings else goal
-        self._after, self.size = START, 0
+        self._after, self.size = START, log.taken_out
+        self._taken_out = self._taken_out_first = log.taken_out
+        self._first = self._first if self.readings else goal - self.size
         trace(Traced.READ_FROM_FRONT, entries=goal)
+
+    def _is_as_read(self, log: Log) -> bool:
+        """Whether the log, which was read to its end, has up to there what was read, but for what was taken out, perhaps before it was
+        met."""
+        size = log.size_to(self._after)
+        if not 0 <= size - self.size <= log.taken_out - self._taken_out:
+            return False
+        self.size, self._taken_out = size, log.taken_out
+        return True
 
     def _end_reading(self, disk: Disk, carried: Carried) -> None:
         """All that the log had as its reading began was read. The giver gives it all that it lacks."""
         # Where that can't be counted now the reading ends once it can, and the loss is told.
         missing = disk.entries.many_at(carried.missing())
         self._goal = None
+        self._known.read_whole()
         carried.end()
         if missing:
             self._tell_of_loss(missing)

@@ -53,6 +53,7 @@ class Giver:
                     due = time.monotonic() + ANSWER_SECONDS
                 self._threads.works(Task.GIVE)
                 self._work.clear()
+                self._take_out(disk, log, carried)
                 if not self._give_more(disk, log, carried):
                     self._work.wait(ABOUT_TO_READ_SECONDS if self._known.reads_from_front else IDLE_SECONDS)
 
@@ -75,7 +76,8 @@ class Giver:
         self._known.look_at(disk, carried)
         if self._losses.is_due():
             carried.lets_go()
-        return bool(whole) and carried.many_given() < MOST_GIVEN and self._give(disk, log, carried)
+        may_give = bool(whole) and carried.many_given() < MOST_GIVEN and self._known.may_give_more(disk)
+        return may_give and self._give(disk, log, carried)
 
     def _give(self, disk: Disk, log: Log, carried: Carried) -> bool:
         """Gives the log some of what it lacks; whether there may be more."""
@@ -91,7 +93,8 @@ class Giver:
         # What is let go meanwhile is looked at once more: the file may say by now that it may be given.
         lettings, found = carried.lettings, disk.entries.places(place - 1, GIVEN_AT_ONCE)
         had = {one.place for one in found if carried.has(one.place)}
-        lacks = {one.hash: one.place for one in found if one.place not in had and self._known.may_give(one)}
+        lacks = {one.hash: one.place for one in found if one.place not in had
+                 and not carried.is_folded(one.place) and self._known.may_give(one)}
         raws = disk.entries.offer([*lacks.values()])
         given = {lacks[of] for of in map(digest, raws) if of in lacks}
         if raws:
@@ -107,6 +110,16 @@ class Giver:
         # Of what was withdrawn, dropped or damaged there is nothing at its place.
         last = found[-1].place if found else carried.looked
         carried.holds_back({*range(place, last + 1)} - had - given, lettings)
+
+    def _take_out(self, disk: Disk, log: Log, carried: Carried) -> None:
+        """Takes out of the log what is folded in something that was read there, each once: what comes back stays until the note is opened
+        again, since who gives it doesn't know of folds."""
+        for fold, folded in self._known.to_take_out(disk, carried) if log.can_take_out else ():
+            raws = disk.entries.raws([fold]), disk.entries.raws(folded)
+            if all(raws):
+                log.take_out(raws[0][0], raws[1])
+                trace(Traced.TAKEN_OUT, entries=len(folded))
+                carried.took_out(folded)
 
     def _answer(self, disk: Disk, log: Log, carried: Carried) -> None:
         """Gives the log again what others lack, of what it seemed to have."""

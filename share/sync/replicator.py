@@ -5,6 +5,7 @@ from collections.abc import Callable, Iterable, Sequence
 from contextlib import closing
 from itertools import count
 
+from share.admission.in_fold import InFold
 from share.format.entry import Entry, Form
 from share.format.heartbeat import Lack, new_token
 from share.log.base import ON_SECONDS, Log, Unreachable
@@ -12,6 +13,7 @@ from share.store.note_file import Disk
 from share.sync.backoff import Losses
 from share.sync.carried import Carried
 from share.sync.fetching import Fetcher
+from share.sync.folded import Folded
 from share.sync.giving import Giver
 from share.sync.handover import Handover
 from share.sync.known import Known
@@ -84,23 +86,23 @@ class Replicator:
     alone calls it. What the log has is owned by `Known` for all threads; each part has its own state beside that."""
 
     def __init__(self, open_disk: Callable[[], Disk], open_log: Callable[[], Log] | None, form: Form,
-                 wake: Callable[[], None], own_disk: Callable[[], Disk], handover: Handover):
+                 wake: Callable[[], None], own_disk: Callable[[], Disk], handover: Handover, folded: Folded | None = None):
         # The file as the editor's thread has it open.
         self._own_disk, self._has_log = own_disk, open_log is not None
         # What tells this one from the others that are on.
         self.token, self._wake, self._is_closed = new_token(), wake, False
         self._threads = Threads(wake, self.read_from_front)
         try:
-            self._make(Ends(open_disk, open_log or _no_log), form, handover)
+            self._make(Ends(open_disk, open_log or _no_log), form, handover, folded)
             self._start()
         except BaseException:
             self._threads.stop()
             raise
 
-    def _make(self, ends: Ends, form: Form, handover: Handover) -> None:
+    def _make(self, ends: Ends, form: Form, handover: Handover, folded: Folded | None) -> None:
         # What is said to others has a count that rises.
         threads, losses, counts = self._threads, Losses(), count(1)
-        self._known = Known(self._has_log, handover, threads.bell())
+        self._known = Known(self._has_log, handover, threads.bell(), folded)
         self._meeting = Meeting(form, self.token, counts, self._wake)
         self._giver = Giver(ends, form, self._known, self._meeting, losses, threads)
         self._fetcher = Fetcher(ends, form, self._known, self._meeting, losses, self._giver, threads)
@@ -170,6 +172,18 @@ class Replicator:
     def has(self, of: bytes) -> bool:
         """Whether the log is known to have an entry; where there is none nothing has to be sent."""
         return not self._has_log or self._known.says(self._own_disk(), of, Carried.has)
+
+    def were_read(self, hashes: Sequence[bytes]) -> bool:
+        """Whether some entries were read in the log; where there is none nothing has to be."""
+        return not self._has_log or self._known.all_say(self._own_disk(), hashes, Carried.was_read)
+
+    def fold(self, found: Sequence[InFold], taken_in: int) -> None:
+        """Says what is folded by now, which the log needs no more, and up to which place of the file that was found."""
+        if self._has_log:
+            waits = not self._known.may_give_more(self._own_disk())
+            self._known.fold(self._own_disk(), found, taken_in)
+            if found or waits:
+                self._giver.has_work()
 
     def unsent(self) -> int:
         """How many edits of this person the log isn't known to have; while it can't be reached, by what the file says."""

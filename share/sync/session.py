@@ -9,17 +9,21 @@ from share.admission.ledger import Row
 from share.format.history import Messages
 from share.format.link import is_network
 from share.format.operation import TEXT
-from share.log.opening import opener_of
+from share.format.second.form import RecordForm
+from share.log.opening import can_take_out, opener_of
 from share.program import retyping
 from share.program.retyping import Lost
 from share.program.site import Told
 from share.program.trace import Traced, trace
 from share.review.record import MARGIN
+from share.store.folded_away import take_away
 from share.store.guarded import Unkept
 from share.store.note_file import Disk
 from share.store.read_only import uncollected
 from share.store.renewal import renewed_by
 from share.sync.edits import OwnEdits
+from share.sync.folded import Folded
+from share.sync.folding import Folding
 from share.sync.handover import Handover
 from share.sync.hiding import Hiders
 from share.sync.margin import OpenMargin
@@ -59,9 +63,11 @@ class Session(EditedNote):
         self._looks = self._has_read = False
         self._left_out, self._notices, handover = retyping.Totals(), Notices(), Handover()
         self._holdings = Holdings(self._form, handover)
-        self._file = OpenFile(disk, self._holdings, self._notices)
+        self._file, self._folded = OpenFile(disk, self._holdings, self._notices), Folded()
         self.tidy = self._file.tidy
         with ExitStack() as opened:
+            # Once nothing of it is open.
+            opened.callback(lambda: take_away(self._file.disk.path, self._folded.kept_with_folds()))
             opened.callback(lambda: self._file.disk.close())
             self._open_all(opened, password, bar, wake, handover)
             self._begin()
@@ -77,7 +83,10 @@ class Session(EditedNote):
         self._numbers = Numbers(self._holdings, self._form, bool(url), self._file)
         self._file.moved = self._numbers.lock_again
         opens = opener_of(url, self._form, password) if url else None
-        self._replicator = Replicator(lambda: Disk(path), opens, self._form, wake, lambda: self._file.disk, handover)
+        self._folding = Folding(self._file, self._holdings, self._folded, bool(url))
+        with suppress(Unkept):
+            self._folding.found()
+        self._replicator = Replicator(lambda: Disk(path), opens, self._form, wake, lambda: self._file.disk, handover, self._folded)
         opened.callback(self._replicator.close, 0)
         if search := self._numbers.search:
             self._replicator.wake_for(search.has_ended)
@@ -171,6 +180,7 @@ class Session(EditedNote):
         for one in self._texts:
             one.replica.close()
         with suppress(Unkept, Trouble):
+            self._folding.found()
             # From here on all that is kept of the note is its file.
             self._file.mended(lambda: self._file.look(at_end=True))
         trace(Traced.NOTE_CLOSED)
@@ -196,6 +206,7 @@ class Session(EditedNote):
 
     def _arrived(self) -> Told:
         found, has_read = self._counted()
+        self._replicator.fold(self._folding.found(), self._holdings.place)
         is_other = self._rebaser.settle(found.messages if found.anew else None, has_read)
         self._rebaser.say_what_was_rebased()
         if found.anew or is_other:
@@ -213,9 +224,15 @@ class Session(EditedNote):
             one.replica.take_in(self.turn_seconds / 2, False)
         told = self._replica.take_in(self.turn_seconds / 2, self._looks)
         hidden = [] if self.has_more() else self._hiders.hide()
+        self._fold()
         if isinstance(told, list) and isinstance(hidden, list):
             return told + hidden
         return self.site.text() if self._looks else []
+
+    def _fold(self) -> None:
+        """Folds own entries that are due, while nothing waits."""
+        if isinstance(self._form, RecordForm) and can_take_out(self._about.url) and not self.has_more():
+            self._folding.fold(self._form, self._replicator)
 
     def _counted(self) -> tuple[Counted, bool]:
         """What counts of the note since this was last asked, and whether all was read that the log had."""

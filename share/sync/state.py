@@ -183,9 +183,9 @@ class Holdings(WhatWasLost):
     def found(self, lack: Lack) -> list[bytes]:
         """The hashes of what others lack and name by a message, or as what begins after a claim."""
         if lack.way is Way.AFTER:
-            return self.judge.begins(lack.hash)
+            return [*map(self.judge.fold_of, self.judge.begins(lack.hash))]
         row = self.judge.row(lack.hash)
-        return [row.entry.hash] if row else []
+        return [self.judge.fold_of(row.entry.hash)] if row else []
 
     def claim_of(self, client: Client) -> Entry | None:
         """The claim of a number of this person, where it has one that is here."""
@@ -237,6 +237,12 @@ class Holdings(WhatWasLost):
         """The texts in which something is said to be a copy."""
         return self.standing.texts() | self.standing_for_all.texts() | self.recovered.texts()
 
+    def _is_folded_here(self, of: bytes) -> bool:
+        """Whether an entry is folded in one that was made here: it comes back, and nobody else wrote it."""
+        fold = self.judge.fold_of(of)
+        row = self.judge.row(fold) if fold != of else None
+        return row is not None and row.made
+
     def _extends(self, run: Sequence[Row]) -> bool:
         """Adds entries of messages, each of which follows the one before it, together, where nothing was said of them; whether it did."""
         is_plain = len(run) > 1 and not (self._withdrawn or self.standing.waits or self.standing_for_all.waits)
@@ -250,9 +256,9 @@ class Holdings(WhatWasLost):
         is_own = of in self.clients
         if self._withdrawn.pop(entry.hash, None):
             self.rows = RowsInMemory(self.judge, self._withdrawn)
-        if is_own and not row.made and entry.kind.is_under_a_number:
-            self._shared.add(of)
         self.judge.add_new(row)
+        if is_own and not row.made and entry.kind.is_under_a_number and not self._is_folded_here(entry.hash):
+            self._shared.add(of)
         if entry.kind.says_copies and entry.hash not in self.judge:
             # There was no room for it.
             return

@@ -16,6 +16,7 @@ from collections.abc import Iterable, Iterator, Sequence
 from multiprocessing import connection
 from typing import NamedTuple
 
+from share.relay.page_files import core_path
 from share.tests.byte_code import use_byte_code_of
 from share.tests.forms import FIRST_FORM_ALONE, is_second_form, of_second_form
 from share.tests.left_open import left_open, open_now
@@ -41,7 +42,10 @@ MODULES = ["test_storm", "test_spots", "test_all_editors", "test_page", "test_re
            "test_rebasing", "test_record_judge", "test_second_notes", "test_not_begun", "test_turns", "test_said_by_others", "test_margin",
            "test_review", "test_reviews", "test_critic", "test_review_scripts", "test_review_terminal", "test_relay", "test_relay_logs",
            "test_relay_notes", "test_relay_security", "test_relay_page", "test_site_modules", "test_relay_front", "test_relay_firefox",
-           "test_relay_offline", "test_relay_people", "test_note_definitions"]
+           "test_relay_offline", "test_relay_people", "test_note_definitions", "test_folding",
+           "test_folded_notes"]
+# These need the core as WebAssembly, which bin/library --wasm makes where Rust can. Where it isn't here they aren't run, which is said.
+OVER_THE_CORE = ["test_relay_text", "test_site_texts"]
 # These run over notes of the second form, too, which has rules of its own for what they are about: numbers, copies, losses, what is
 # sent, who is on, and attacks. Any module does as "test_one:2".
 OVER_BOTH = frozenset(("test_all_editors", "test_carried", "test_changed", "test_copied_numbers", "test_copies", "test_left_out",
@@ -281,14 +285,17 @@ def count(modules: Sequence[str], folder: pathlib.Path, seconds: float = MODULE_
 def all_modules() -> list[str]:
     """All modules, those that run over both forms twice; where tests make notes of the second form anyway once."""
     twice = frozenset[str]() if is_second_form() else OVER_BOTH
-    return [one for module in MODULES for one in (module, f"{module}:2")[:1 + (module in twice)]]
+    if not core_path():
+        print(f"not run, since the core isn't here as WebAssembly: {', '.join(OVER_THE_CORE)}", flush=True)
+    modules = [*(OVER_THE_CORE if core_path() else []), *MODULES]
+    return [one for module in modules for one in (module, f"{module}:2")[:1 + (module in twice)]]
 
 
 def main() -> int:
     """Runs all modules, or those that are named."""
     stand = {path.stem for path in pathlib.Path(__file__).parent.glob("test_*.py")}
-    if stand != set(MODULES):
-        sys.exit(f"not all modules of tests are listed: {sorted(stand ^ set(MODULES))}")
+    if stand != {*MODULES, *OVER_THE_CORE}:
+        sys.exit(f"not all modules of tests are listed: {sorted(stand ^ {*MODULES, *OVER_THE_CORE})}")
     with tempfile.TemporaryDirectory(prefix="share-python-") as name:
         use_byte_code_of(pathlib.Path(name) / "python")
         # What nearly all modules need is loaded once, before each has a process of its own.

@@ -7,7 +7,7 @@ import tempfile
 from contextlib import ExitStack, closing
 
 from share.editors.mirror import Mirror
-from share.tests.browser import Browser, Window
+from share.tests.browser import MIRROR, Browser, Window
 from share.tests.editors import Editor
 from share.tests.pages import Server
 from share.tests.relays import RelayHere
@@ -82,18 +82,23 @@ def at_relay(folder: pathlib.Path) -> None:
         window = browser.window()
         window.driver.get(relay.url)
         window.wait_for("!document.getElementById('front').hidden")
-        window.element("#your-name").send_keys("Ada")
+        window.element("#your-name").send_keys("Ada\n")
         window.element("#name").send_keys(NOTE_NAME)
         window.element("#make button").click()
-        window.wait_for("document.getElementById('facts').textContent.includes('found and kept here')")
+        window.wait_for("document.getElementById('address').value")
         link = window.run("document.getElementById('address').value")
+        window.press("text")
+        window.wait_for("document.title !== 'Note'")
+        window.run(f"{MIRROR}.focus()")
+        window.paste(TEXT)
+        window.state("all sent")
         with closing(Editor(folder / "bob", NOTE_NAME, link=link, opens=False)) as bob:
-            bob.ask("open", protocol=1, units=["utf-16"], name="Bob")
-            window.wait_for("document.getElementById('people').textContent.includes('Bob')")
+            bob.mirror = Mirror(bob.ask("open", protocol=1, units=["utf-16"], name="Bob"), bob.send)
+            bob.shows(TEXT)
+            bob.send({"do": "cursor", "version": bob.mirror.version, "at": TEXT.index("the lake")})
+            window.wait_for("document.querySelector('.caret.moved')")
             for size, name in (WIDE_DESK, "relay.png"), (PHONE, "relay-phone.png"):
                 sized(window, size)
-                window.run("document.getElementById('new-words').scrollIntoView()" if size is WIDE_DESK
-                           else "document.getElementById('title').scrollIntoView()")
                 keep(window, name)
 
 

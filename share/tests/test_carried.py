@@ -23,6 +23,27 @@ from share.tests.support import Case, Person, change, claim_of, damage, raws_of,
 class Marks(unittest.TestCase):
     """The marks of places, beside plain sets."""
 
+    def test_what_is_folded_is_neither_lacking_nor_lost(self) -> None:
+        carried = Carried(None)
+        carried.found(6, [1, 2, 3])
+        carried.begin()
+        carried.read([1, 2])
+        carried.end()
+        carried.gave([3, 4])
+        self.assertEqual((carried.unsent, carried.next_lacking()), (0, 5))
+        carried.fold([1, 2, 3])
+        self.assertEqual([carried.is_folded(place) for place in range(1, 5)], [True, True, True, False])
+        # Who has read the log to its end, without what was taken out of it before that was read, takes no more than the other one for lost.
+        self.assertEqual(carried.came_to_end(frozenset([3, 4])), 1)
+        carried.took_out([1, 2])
+        carried.begin()
+        self.assertEqual(carried.missing(), [])
+        carried.end()
+        carried.lets_go()
+        self.assertEqual(([carried.has(place) for place in range(1, 4)], carried.unsent, carried.next_lacking()), ([False] * 3, 0, 4))
+        carried.read([4, 5, 6])
+        self.assertTrue(carried.is_given())
+
     def test_marks_are_what_sets_say(self) -> None:
         chance = random.Random(5)
         for _ in range(50):

@@ -1,21 +1,27 @@
 """The files of a relay's page: what their addresses stand for, by which rules they are answered, and who may ask."""
 import asyncio
+import contextlib
 import gzip
 import hashlib
+import os
 import pathlib
 import re
 import subprocess
+import tempfile
 import unittest
 import urllib.request
+from collections.abc import Iterator
+from unittest import mock
 
-from share.relay.page_files import PageFiles
+from share.relay.page_files import CORE_VARIABLE, PAGE_FOLDER, PageFiles
 from share.tests.relays import RelayProcess
 from share.tests.support import NOTE, Case
 from share.tests.test_relay import AtPort
 from share.text.errors import Trouble
 
 PAGE_ELSEWHERE = "https://page.example"
-HASHED = re.compile(r"/[a-z]+\.[0-9a-f]{32}\.(js|css)")
+HASHED = re.compile(r"/[a-z]+\.[0-9a-f]{32}\.(js|css|html|wasm)")
+OF_TEXTS = re.compile(r"/note\.[0-9a-f]{32}\.html")
 
 
 class Files(Case):
@@ -52,10 +58,32 @@ class Files(Case):
         self.assertEqual([*one.files], ["/"])
 
     def test_the_page_itself(self) -> None:
-        """All that it needs is in the folder, and nothing else."""
-        site, folder = PageFiles(), pathlib.Path(NOTE).parents[1] / "share" / "relay" / "site"
-        stand = {path.name for path in folder.iterdir()} - {"package.json"}
-        self.assertEqual({re.sub(r"^/(\w+)\.\w+\.", r"\1.", address) if address != "/" else "index.html" for address in site.files}, stand)
+        """All of the folder belongs to it where texts are shown, and else what shows none."""
+        stand = {path.name for path in PAGE_FOLDER.iterdir()} - {"package.json"}
+        with with_core(self.folder):
+            site = PageFiles()
+        names = named(site)
+        self.assertLessEqual(stand | {"vialshoal.wasm", "codemirror.js", "page.js", "positions.js"}, names)
+        self.assertIn(b'<main id="text"', next(one.data for address, one in site.files.items() if OF_TEXTS.fullmatch(address)))
+        with with_core(None):
+            fewer = named(PageFiles())
+        self.assertLess(fewer, stand)
+        self.assertFalse({"note.html", "vialshoal.wasm", "codemirror.js"} & fewer)
+
+
+def named(site: PageFiles) -> set[str]:
+    """What the files are called of which a page is made."""
+    return {re.sub(r"^/(\w+)\.\w+\.", r"\1.", address) if address != "/" else "index.html" for address in site.files}
+
+
+@contextlib.contextmanager
+def with_core(folder: pathlib.Path | None) -> Iterator[None]:
+    """A core is there meanwhile, or isn't."""
+    path = folder / "vialshoal.wasm" if folder else None
+    if path:
+        path.write_bytes(b"'./front.js'")
+    with mock.patch.dict(os.environ, {CORE_VARIABLE: str(path or "")}):
+        yield
 
 
 class Answers(AtPort):
@@ -68,6 +96,14 @@ class Answers(AtPort):
         status, *fields = head.decode().split("\r\n")
         return int(status.split()[1]), {name.lower(): value for name, _, value in (field.partition(": ") for field in fields)}, body
 
+    def setUp(self) -> None:
+        folder = tempfile.TemporaryDirectory(prefix="share-core-")
+        self.addCleanup(folder.cleanup)
+        core = with_core(pathlib.Path(folder.name))
+        core.__enter__()
+        self.addCleanup(core.__exit__, None, None, None)
+        super().setUp()
+
     def addresses(self) -> list[str]:
         """Those of the page's files, and the list of them."""
         return [*PageFiles().files, "/digests"]
@@ -78,8 +114,11 @@ class Answers(AtPort):
             status, headers, body = await self.get(path)
             self.assertEqual(status, 200, path)
             policy = dict(one.split(" ", 1) for one in headers["content-security-policy"].split("; "))
-            self.assertEqual((policy["default-src"], policy["script-src"], policy["frame-ancestors"]), ("'none'", "'self'", "'none'"))
-            self.assertNotIn("unsafe", headers["content-security-policy"])
+            self.assertEqual((policy["default-src"], policy["frame-ancestors"]), ("'none'", "'none'"))
+            # The page of a text alone compiles the core.
+            runs, types = ("'self' 'wasm-unsafe-eval'", "relay page") if OF_TEXTS.fullmatch(path) else ("'self'", "relay")
+            self.assertEqual((policy["script-src"], policy["trusted-types"]), (runs, types))
+            self.assertEqual(headers["content-security-policy"].count("unsafe"), runs.count("unsafe"))
             self.assertEqual(policy["connect-src"].split(), ["'self'", *(one.replace("http", "ws") for one in here)])
             self.assertEqual(policy["img-src"], "'self'")
             for name, value in (("x-content-type-options", "nosniff"), ("referrer-policy", "no-referrer"), ("x-frame-options", "DENY"),

@@ -279,7 +279,7 @@ class Price(unittest.TestCase):
     def test_the_page_says_it_in_time(self) -> None:
         """The page's seconds are its tries by its hashes a second."""
         rows = [line.split(" | ") for line in NOTES_PAGE.read_text(encoding="utf-8").splitlines() if " | 2^" in line]
-        self.assertEqual([tries for _, tries, *_ in rows], ["2^20", "2^36", "2^37", "2^39.5", "2^39.3", "2^42.6"])
+        self.assertEqual([tries for _, tries, *_ in rows], ["2^20", "2^36", "2^37", "2^39.5"])
         for words, tries, *times in rows:
             for a_second, said in zip((3.4e6, 7.5e9), times):
                 seconds, unit = said.split(";")[0].split()

@@ -12,7 +12,7 @@ from typing import Any
 
 from share.format.entry import NO_HASH, Author, Bad, Copied
 from share.format.heartbeat import Hears, Lack, Said, Way, heartbeat_of, token_of
-from share.format.presence import Present, leaving, presence_of, read_presence, with_count
+from share.format.presence import AT_FRONT, Present, leaving, presence_of, read_presence, with_count
 from share.format.second.claim import found_among, number_of_rank, rank_of
 from share.format.second.form import SealedRecords
 from share.format.second.key_link import KeyLink, link_of
@@ -147,7 +147,7 @@ class Vectors(Modules):
         raws = [form.presence(heartbeat_of(Said(token, 1, 0, (), Hears.CHANNEL_FROM_NOW))),
                 form.presence(with_count(presence_of(Present(token, bytes(16), 7, "#112233", None, None, "Ann")), 2))]
         found = self.asked("clockSetBack", key=VECTORS["sealed"]["key"], raws=[raw.hex() for raw in raws])
-        self.assertEqual(found, [{"name": "Ann", "colour": "#112233"}])
+        self.assertEqual([(one["name"], one["colour"], one["site"]) for one in found], [("Ann", "#112233", 7)])
 
     def test_facts(self) -> None:
         note, authors, claims = VECTORS["sealed"], VECTORS["authors"], VECTORS["claims"]
@@ -282,9 +282,12 @@ class BesidePython(Modules):
         for name in names:
             engine, editor, site = self.chance.randbytes(8), self.chance.randbytes(16), self.chance.randrange(65_529)
             colour, count = f"#{self.chance.randrange(2**24):06x}", self.chance.randrange(1, 2**32)
-            said = presence_of(Present(token_of(engine), editor, site, colour, None, None, name))
+            there = self.chance.randrange(1, 65_529), self.chance.randrange(2**24)
+            cursor, anchor = self.chance.choices([None, AT_FRONT, there], k=2)
+            said = presence_of(Present(token_of(engine), editor, site, colour, cursor, anchor, name))
             said = with_count(said, count)
-            words = {"engine": engine.hex(), "editor": editor.hex(), "site": site, "colour": colour, "name": name, "count": count}
+            words = {"engine": engine.hex(), "editor": editor.hex(), "site": site, "colour": colour, "name": name, "count": count,
+                     "cursor": cursor and [*cursor], "anchor": anchor and [*anchor]}
             for leaves, data in (False, said), (True, leaving(said)):
                 self.assertEqual(self.asked("ofEditor", leaves=leaves, **words), data.hex())
                 read = Present(*read_presence(said) or ())

@@ -170,11 +170,11 @@ class HostileServers(Case):
         for answer in (b"$5\r\nhello\r\n", b"*0\r\n", b"*-1\r\n", b"$-1\r\n", b"+OK\r\n", b"*1\r\n:7\r\n"):
             self.ends_in_words(answer, 1, 2, 3, 7)
 
-    def reading(self, size: int, *entries: tuple[bytes, bytes | None], at_end: int = 1) -> bytes:
+    def reading(self, size: int, *entries: tuple[bytes, bytes | None], taken_out: int = 0, at_end: int = 1) -> bytes:
         """The answer to a reading."""
         found = b"".join(b"$%d\r\n%b\r\n" % (len(one), one) if one is not None else b"$-1\r\n"
                          for entry in entries for one in entry)
-        return b"*3\r\n:%d\r\n:%d\r\n*%d\r\n" % (size, at_end, 2 * len(entries)) + found
+        return b"*4\r\n:%d\r\n:%d\r\n:%d\r\n*%d\r\n" % (size, taken_out, at_end, 2 * len(entries)) + found
 
     def test_places_that_do_not_rise(self) -> None:
         right = self.reading(2, (b"1-1", b"x"), (b"1-2", None))
@@ -198,7 +198,7 @@ class HostileServers(Case):
                 log.append([raw(1)])
 
     def test_a_large_answer_takes_little_memory(self) -> None:
-        log = self.answering(b"*3\r\n:1\r\n:1\r\n*2000\r\n" + b"$16384\r\n" + bytes(2**25))
+        log = self.answering(b"*4\r\n:1\r\n:0\r\n:1\r\n*2000\r\n" + b"$16384\r\n" + bytes(2**25))
         tracemalloc.start()
         try:
             for call in self.calls(log):

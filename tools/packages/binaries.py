@@ -22,6 +22,8 @@ HEAP, HOST = (Path(__file__).with_name(name) for name in ("heap.c", "host.c"))
 HEADER, IN_C = TOP / "library" / "vialshoal.h", TOP / "library" / "c"
 SHARED = "libvialshoal.so"
 EXPORTS = "{ global: vialshoal_*; local: *; };\n"
+# What the addon is made of, beside the library.
+ADDON = ("addon.c", "note.c", "counted.c")
 # Nothing is kept that isn't reached.
 LINKED: Words = ["-shared", "-Wl,--gc-sections,--strip-debug"]
 # What Rust's own library has beside its code; where it has bitcode, ar would ask LLVM's plugin which symbols there are.
@@ -82,7 +84,7 @@ class Binaries:
         """Compiles and links the library that Node loads, with what the sources have for that."""
         made = room / "vialshoal.node"
         words: Words = [*LINKED, "-std=c11", "-O2", "-Wall", "-Wextra", "-fPIC", "-fvisibility=hidden", "-Wl,--exclude-libs,ALL"]
-        words += ["-I/usr/include/node", "-I", sources, *(sources / "node" / name for name in ("addon.c", "counted.c")), self.archive()]
+        words += ["-I/usr/include/node", "-I", sources, *(sources / "node" / name for name in ADDON), self.archive()]
         call([*self.tools.compiler, "-o", made, *words])
         return made
 

@@ -1,5 +1,5 @@
 -- What an own edit leaves of a text's replica.
-use Rattle.std.proofs.Common.{◌≡◌, ◌≢◌, ℕ, ◌+◌, ◌-◌, ◌<◌, inl, inr, List, [], ◌∷◌, ◌++◌, length, take, slice_index_or, Bool, true, false, MatchBool, MatchOption}
+use Rattle.std.proofs.Common.{◌≡◌, ◌≢◌, ℕ, ◌+◌, ◌-◌, ◌<◌, ◌≤◌, inl, inr, List, [], ◌∷◌, ◌++◌, length, take, slice_index_or, Bool, true, false, MatchBool, MatchOption}
 use Rattle.std.proofs.Common.{Option, Some, None, Result, Ok, Err, refl, sym, ap, subst, ◌∙◌, arith}
 use Rattle.std.proofs.lemmas.Bool.{cases_eq}
 use Rattle.std.specs.Prelude.{IfOk}
@@ -10,7 +10,7 @@ use Rattle.operations.specs.Operation.{Operation}
 use Rattle.texts.specs.Edit.{Edit, after, insertion, deletion, looks_change, plan, with_operation}
 use Rattle.texts.specs.Named.{EditsByNamesSending, IsLeft, IsMade, changes_any, names_changed, op_by_names, refusal_of_names}
 use Rattle.texts.specs.Outcome.{Edits, EditsSending, EditsShort, Stand}
-use Rattle.texts.specs.TextState.{TextState}
+use Rattle.texts.specs.TextState.{TextState, all_told}
 use Rattle.texts.specs.declared.by_names.ByNames.{ByNames}
 use Rattle.texts.specs.declared.edit_refusal.EditRefusal.{EditRefusal}
 use Rattle.texts.specs.declared.edit_refusal.EditRefusal.TheVariants.{Whole, Partial}
@@ -142,6 +142,19 @@ if_said key author before op on t (Ok s) is builds =
     }
 if_said key author before op on t (Err why) is builds = tt
 
+-- so it does where only its changes were told
+pub told_still : (t : NoteText) (new : TextState) (anew : Bool) → IsFollowing t → new ≡ all_told t.replica
+    → IsFollowing (record t { replica = new; anew = anew })
+told_still t new anew is same =
+    let taken : new.operations ≡ t.replica.operations = ap (λ (u : TextState). u.operations) same in
+    record {
+      of_text = ap (λ (u : TextState). u.text) same ∙ is.of_text;
+      none_waits = ap (λ (u : TextState). u.waiting_room) same ∙ is.none_waits;
+      taken = subst (λ (ops : List Operation). t.alike ≤ length ops) (sym taken) is.taken;
+      admitted = is.admitted;
+      same = ap (take t.alike) taken ∙ is.same;
+    }
+
 -- each text is of the same entries, where one was edited
 pub texts_edited : (note : Note) (entries : Entries) (old new : List NoteText) → length new ≡ length old
     → EachText (λ k t. IsTextOfNote note entries t) old
@@ -152,15 +165,14 @@ texts_edited note entries old new many are same k d lt =
     let (admitted, is) = are k d within in
     (admitted, subst (λ (a : TextSeen). AreAdmitted note entries a admitted) (sym (same k d)) is)
 
--- an edit leaves what is admitted of each text
-pub admissions_stay : (old new : List NoteText) (at : ℕ) (edit : OwnEdit) (result : Result ℕ EditRefusal) (sent sent' : List (List ℕ))
+-- what is admitted of each text stays, where it stays of one, and the others stay as they are
+pub admissions_stay : (old new : List NoteText) (at : ℕ)
     → ((k : ℕ) (d : NoteText) → k ≢ at → slice_index_or new k d ≡ slice_index_or old k d)
-    → ((d : NoteText) → HasEditedText edit (slice_index_or old at d) result (slice_index_or new at d) sent sent')
+    → ((d : NoteText) → (slice_index_or new at d).admission ≡ (slice_index_or old at d).admission)
     → (k : ℕ) (d : NoteText) → (slice_index_or new k d).admission ≡ (slice_index_or old k d).admission
-admissions_stay old new at edit result sent sent' others own k d = elim (cases_eq k at) [
+admissions_stay old new at others own k d = elim (cases_eq k at) [
   | inl same ↦
-      subst (λ (n : ℕ). (slice_index_or new n d).admission ≡ (slice_index_or old n d).admission) (sym same)
-      (ap (λ (t : NoteText). t.admission) (own d).1)
+      subst (λ (n : ℕ). (slice_index_or new n d).admission ≡ (slice_index_or old n d).admission) (sym same) (own d)
   | inr apart ↦ ap (λ (t : NoteText). t.admission) (others k d apart)
 ]
 

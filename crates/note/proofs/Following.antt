@@ -9,9 +9,10 @@ use Rattle.note_laws.specs.Note.{Saying}
 use Rattle.note_hashes.specs.Hashes.{digest_of}
 use Rattle.note_admission.specs.Growing.{AdmissionGrows, AreAdmitted, FollowsEntries, LogGoesOn, StaysAdmitted, TextSeen}
 use Rattle.note_admission.specs.Standing.{AreChainsOf, ChainsSeen}
-use Rattle.note_replicas.specs.Following.{HasTakenBeginning, HasTakenJust, IsOfPlace}
+use Rattle.note_replicas.specs.Following.{GoesOn, HasTakenBeginning, HasTakenJust, IsOfPlace}
 use Rattle.note_replicas.proofs.Counting.{one_more}
-use Rattle.note.specs.Texts.{HasAdmittedMore, IsFollowing, IsSameText, NoteText}
+use Rattle.note_replicas.proofs.Ready.{on_itself, on_then}
+use Rattle.note.specs.Texts.{HasAdmittedMore, IsFollowing, IsSameText, KeepsNoting, NoteText}
 
 -- the first of a list are no more than it has
 first_part : (ops taken : List Operation) → taken ≡ take (length taken) ops → length taken ≤ length ops
@@ -63,12 +64,24 @@ same_place t u same = record { text = ap (λ (x : TextState). x.text) same; site
 -- where more was admitted, and it is the same site's copy
 pub grown : (key : List ℕ) (chains : ChainsSeen) (t new : NoteText) (mid : TextSeen)
     → AdmissionGrows (digest_of key) (λ note entries. AreChainsOf chains note entries) t.admission mid
-    → mid.text ≡ t.admission.text → new.admission ≡ mid → IsOfPlace t.replica new.replica → HasAdmittedMore key chains t new
-grown key chains t new mid grows text same place = (
+    → mid.text ≡ t.admission.text → new.admission ≡ mid → IsOfPlace t.replica new.replica → KeepsNoting t new
+    → HasAdmittedMore key chains t new
+grown key chains t new mid grows text same place noting = (
   subst (λ (a : TextSeen). AdmissionGrows (digest_of key) (λ note entries. AreChainsOf chains note entries) t.admission a)
       (sym same) grows,
   (ap (λ (a : TextSeen). a.text) same ∙ text, place),
+  noting,
 )
+
+-- noting goes on where the replica does, unless it was begun anew
+pub noting_on : (t new : NoteText) → new.anew ≡ t.anew → GoesOn t.replica new.replica → KeepsNoting t new
+noting_on t new same on kept = (sym same ∙ kept, on)
+
+pub noting_then : (t u v : NoteText) → KeepsNoting t u → KeepsNoting u v → KeepsNoting t v
+noting_then t u v first next kept =
+    let (mid, on) = next kept in
+    let (begun, before) = first mid in
+    (begun, on_then t.replica u.replica v.replica before on)
 
 -- what is the same stays so
 pub stays_itself : (t : NoteText) → StaysAdmitted t.admission t.admission × IsSameText t t
@@ -79,6 +92,7 @@ pub grown_itself : (key : List ℕ) (chains : ChainsSeen) (t : NoteText) → Has
 grown_itself key chains t = (
   λ note entries admitted given is. ([], subst (AreAdmitted note entries t.admission) (sym (append-nil admitted)) is),
   (refl, record { text = refl; site = refl }),
+  λ kept. (kept, on_itself t.replica t.replica refl),
 )
 
 -- what is all alike begins the log

@@ -1,5 +1,5 @@
 -- Edits of a site's own, in a text of a note.
-use Rattle.std.specs.Prelude.{◌≡◌, ◌≢◌, ℕ, ◌+◌, ◌-◌, ◌≤◌, IsTrue, List, length, slice_index_or, Result}
+use Rattle.std.specs.Prelude.{◌≡◌, ◌≢◌, ℕ, ◌+◌, ◌-◌, ◌<◌, ◌≤◌, IsTrue, List, length, slice_index_or, Result}
 use Rattle.operations.specs.Operation.{Operation}
 use Rattle.texts.specs.Edit.{insertion, deletion, looks_change}
 use Rattle.texts.specs.Named.{EditsByNamesSending, are_here}
@@ -13,6 +13,7 @@ use Rattle.note_hashes.specs.Hashes.{digest_of, said_by}
 use Rattle.note.specs.Notes.{NoteSeen}
 use Rattle.note.specs.Texts.{NoteText}
 use Rattle.note.specs.declared.own_edit.OwnEdit.{OwnEdit}
+use Rattle.note.specs.declared.own_entry.OwnEntry.{OwnEntry}
 use Rattle.note.specs.declared.own_edit.OwnEdit.TheVariants.{Insert, Delete, ChangeLooks, ByNames}
 
 -- its positions lie in the text, and the characters that it names are here
@@ -57,3 +58,10 @@ pub record IsSaidWell (key : List ℕ) (author before : ℕ) (op : Operation) (t
   pub said : s ≡ said_by key author before op s.on
   pub builds : (note : Note) (entries : Entries) (admitted : List Saying) → note.digest ≡ digest_of key
       → AreTaken note entries t.admission admitted → BuildsOn note admitted s
+
+-- an entry of messages by this author, of the text's site
+pub record IsOwnEntry (author : ℕ) (t : NoteText) (entry : OwnEntry) : Type 0 where
+  pub author_is : entry.head.author ≡ author
+  pub site_is : entry.head.site ≡ t.replica.site
+  pub text_is : entry.head.text ≡ t.replica.text
+  pub some : 0 < entry.head.count

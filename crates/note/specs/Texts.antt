@@ -1,18 +1,22 @@
 -- A text of a note: what is admitted of it, and the replica that takes that in.
-use Rattle.std.specs.Prelude.{◌≡◌, ℕ, ◌<◌, ◌≤◌, List, [], length, slice_index_or, take}
-use Rattle.texts.specs.TextState.{TextState}
+use Rattle.std.specs.Prelude.{◌≡◌, ℕ, ◌<◌, ◌≤◌, List, [], length, slice_index_or, take, Bool, false, true, MatchOption, Option}
+use Rattle.list_changes.specs.declared.change.Change.{Change}
+use Rattle.texts.specs.Changes.{TellsOfChanges}
+use Rattle.texts.specs.TextState.{TextState, all_told}
 use Rattle.note_laws.specs.Note.{Note, Entries, Saying}
 use Rattle.note_admission.specs.declared.text_admission.Unsettled.TheVariants.{Nothing}
 use Rattle.note_hashes.specs.Hashes.{digest_of}
 use Rattle.note_admission.specs.Growing.{AdmissionGrows, AreAdmitted, FollowsEntries, TextSeen}
 use Rattle.note_admission.specs.Standing.{AreChainsOf, ChainsSeen}
-use Rattle.note_replicas.specs.Following.{HasTakenJust, IsOfPlace}
+use Rattle.note_replicas.specs.Following.{GoesOn, HasTakenJust, IsOfPlace}
 
--- what is seen of a text of a note: what is admitted of it, its replica, and how many operations are known to be alike
+-- What is seen of a text of a note: what is admitted of it, its replica, how many operations are known to be alike, and whether
+-- the replica was begun anew since its changes were asked for.
 pub record NoteText : Type 0 where
   pub admission : TextSeen
   pub replica : TextState
   pub alike : ℕ
+  pub anew : Bool
 
 -- the replica is of that text, and nothing waits in it; so many of its first operations are the first that are admitted
 pub record IsFollowing (t : NoteText) : Type 0 where
@@ -35,11 +39,21 @@ IsTextOfNote note entries t = (admitted : List Saying) × AreAdmitted note entri
 abbrev pub IsSameText : (old new : NoteText) → Type 0
 IsSameText old new = (new.admission.text ≡ old.admission.text) × IsOfPlace old.replica new.replica
 
+-- where its replica wasn't begun anew, that only took in more, and no change was told
+abbrev pub KeepsNoting : (old new : NoteText) → Type 0
+KeepsNoting old new = new.anew ≡ false → (old.anew ≡ false) × GoesOn old.replica new.replica
+
+-- What changed since that was asked for, of a replica that wasn't begun anew since; all was told then.
+abbrev pub TellsChanges : (old : NoteText) → Option (List Change) → (new : NoteText) → Type 0
+TellsChanges old told new =
+    (new ≡ record old { replica = all_told old.replica; anew = false })
+    × MatchOption told (old.anew ≡ true) (λ changes. (old.anew ≡ false) × TellsOfChanges old.replica changes)
+
 -- more is admitted of the same text
 abbrev pub HasAdmittedMore : (key : List ℕ) (chains : ChainsSeen) (old new : NoteText) → Type 0
 HasAdmittedMore key chains old new =
     AdmissionGrows (digest_of key) (λ note entries. AreChainsOf chains note entries) old.admission new.admission
-    × IsSameText old new
+    × IsSameText old new × KeepsNoting old new
 
 -- what is admitted of the same text is what may be with more entries
 abbrev pub HasFollowed : (site : ℕ) (MayLose : Saying → Type 0) (old new : NoteText) → Type 0

@@ -1,16 +1,18 @@
 //! What is done with each text of a note.
 
 ghost use Rattle.std.specs.Prelude.{◌≡◌, ◌≢◌, ℕ, ◌<◌, ◌↔◌, [], length, slice_index_or, Contains, IfOk, OnOk};
+ghost use Rattle.std.specs.Option.{option_map};
 ghost use Rattle.looks.specs.Refusal.{RefusedForMemoryAlone};
 ghost use Rattle.note_laws.specs.Note.{Note, Entries, IsOfBase};
 ghost use Rattle.note_admission.specs.Growing.{AreAdmitted, IsOfLost, IsReplaced, StaysAdmitted};
 ghost use Rattle.note.specs.Notes.{AreNumberedTexts};
-ghost use Rattle.note.specs.Texts.{ArePairs, EachText, HasFollowed, HasAdmittedMore, IsSameText, IsUpToDate, NoteText as Seen};
+ghost use Rattle.note.specs.Texts.{ArePairs, EachText, HasFollowed, HasAdmittedMore, IsSameText, IsUpToDate, NoteText as Seen, TellsChanges};
 ghost use Rattle.note.specs.Editing.{FitsText, HasEditedText};
 
 use crate::note_text::NoteText;
 use crate::own_edit::OwnEdit;
 use char_files::{SiteNo, TextNo};
+use list_changes::Change;
 use looks::Refusal;
 use note_admission::NoteChains;
 use note_bodies::TEXTS;
@@ -52,6 +54,17 @@ pub(crate) fn edit(
         outbox.old outbox.new }
 {
     texts[at].edit(edit, outbox)
+}
+
+// What changed of what a text shows since this was asked for, or `None` where it was begun anew.
+pub(crate) fn changes(texts: &mut [NoteText], at: usize) -> Option<Vec<Change>>
+    requires at { at < length texts.old }
+    ensures len { length texts.new ≡ length texts.old }
+    ensures others { (k : ℕ) (d : Seen) → k ≢ at → slice_index_or texts.new k d ≡ slice_index_or texts.old k d }
+    ensures own { (d : Seen) → TellsChanges (slice_index_or texts.old at d) (option_map (λ changes. changes.items) result)
+        (slice_index_or texts.new at d) }
+{
+    texts[at].changes()
 }
 
 // A message of this number may come to a text. Refused `OutOfMemory` alone.

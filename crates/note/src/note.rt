@@ -1,4 +1,5 @@
-ghost use Rattle.std.specs.Prelude.{◌≡◌, ◌+◌, ◌<◌, ◌≤◌, ◌⊎◌, List, Err, IfErr, IfNone, IfOk, IfSome, OnErr, OnOk, length};
+ghost use Rattle.std.specs.Prelude.{◌≡◌, ◌+◌, ◌-◌, ◌<◌, ◌≤◌, ◌⊎◌, List, All, Err, IfErr, IfNone, IfOk, IfSome, OnErr, OnOk, Some as Just, length, slice_get};
+ghost use Rattle.std.specs.Option.{option_map};
 ghost use Rattle.looks.specs.declared.refusal.Refusal.TheVariants as refusal;
 ghost use Rattle.looks.specs.Refusal.{RefusedForMemoryAlone};
 ghost use Rattle.note_laws.specs.Note.{Note as Definition, Entries, Saying as Said};
@@ -9,15 +10,17 @@ ghost use Rattle.note_hashes.specs.Hashes.{digest_of};
 ghost use Rattle.note_admission.specs.Standing.{BeginsNote};
 ghost use Rattle.note_bodies.specs.Bodies.{AreMessagesOf};
 ghost use Rattle.note_bodies.specs.declared.messages.TheConstants.{TEXTS};
-ghost use Rattle.note.specs.Texts.{ArePairs, EachText, IsSameText};
+ghost use Rattle.note.specs.Texts.{ArePairs, EachText, IsSameText, KeepsNoting, TellsChanges};
 ghost use Rattle.note.specs.Notes.{IsOfEntries, KeepsEntries, ShowsWhatCounts, TakesClaim, TakesEntry, TakesSaying, TakesSomeOf};
 ghost use Rattle.note.specs.Texts.{NoteText as NoteTextSeen};
-ghost use Rattle.note.specs.Editing.{FitsText, HasEditedText, IsLastOfText, IsOtherwiseAsBefore, IsSaidWell, numbered_text};
+ghost use Rattle.note.specs.Editing.{FitsText, HasEditedText, IsLastOfText, IsOtherwiseAsBefore, IsOwnEntry, IsSaidWell, numbered_text};
 
 use crate::each_text;
 use crate::note_text::NoteText;
 use crate::own_edit::OwnEdit;
+use crate::own_entry::OwnEntry;
 use char_files::{SiteNo, TextNo};
+use list_changes::Change;
 use looks::Refusal;
 use note_admission::{NoteChains, Opening};
 use note_bodies::{Head, TEXTS, messages_of};
@@ -39,7 +42,7 @@ pub struct Note {
 }
 
 impl Model for Note {
-    ghost use Rattle.note.specs.Texts.{ArePairs, EachText, IsSameText};
+    ghost use Rattle.note.specs.Texts.{ArePairs, EachText, IsSameText, KeepsNoting, TellsChanges};
     ghost use Rattle.note.specs.Notes.{AreNumberedTexts, NoteSeen};
 
     ghost Value = { NoteSeen };
@@ -77,6 +80,7 @@ impl Note {
     pub fn update(&mut self) -> Result<(), Refusal>
         ensures keeps { KeepsEntries self.old self.new }
         ensures place { ArePairs (λ was t. IsSameText was t) self.old.texts self.new.texts }
+        ensures noting { ArePairs (λ was t. KeepsNoting was t) self.old.texts self.new.texts }
         ensures ok { OnOk result (ShowsWhatCounts self.new) }
         ensures errors { RefusedForMemoryAlone result }
     {
@@ -168,6 +172,37 @@ impl Note {
         each_text::edit(&mut self.texts, at, edit, outbox)
     }
 
+    /// What changed of what a text shows since this was asked for, one change after the other; `None` where the text was begun anew since, as
+    /// where a lesser hash came: then all that it showed gives way to what it shows. Own edits are among the changes.
+    pub fn changes(&mut self, text: TextNo) -> Option<Vec<Change>>
+        requires has { text ≤ TEXTS }
+        ensures own { (d : NoteTextSeen) → TellsChanges (numbered_text self.old text d) (option_map (λ changes. changes.items) result)
+            (numbered_text self.new text d) }
+        ensures rest { IsOtherwiseAsBefore text self.old self.new }
+        ensures keeps { KeepsEntries self.old self.new }
+    {
+        let Some(at) = self.place(text) else {
+            unreachable!()
+        };
+        each_text::changes(&mut self.texts, at)
+    }
+
+    /// The entries that say the site's own messages of a text that don't count yet, as those of its edits since the last `update`, in the
+    /// order of their making; none where all count. They are to be added before the next `update`, which takes back what isn't.
+    ///
+    /// Refused `Behind` where one mentions another's character that doesn't count, and `OutOfMemory`.
+    pub fn own_entries(&self, text: TextNo, author: Hash) -> Result<Vec<OwnEntry>, Refusal>
+        requires { text ≤ TEXTS }
+        ensures heads { IfOk result (λ entries. (d : NoteTextSeen)
+            → All (IsOwnEntry author (numbered_text self.now text d)) entries.items) }
+        ensures errors { IfErr result (λ why. (why ≡ refusal.Behind) ⊎ (why ≡ refusal.OutOfMemory)) }
+    {
+        let Some(at) = self.place(text) else {
+            unreachable!()
+        };
+        self.texts[at].own_entries(&self.key, author)
+    }
+
     /// The hash of the last message that counts of a number in a text, as of the last `update`; zeros for none. The number's next message
     /// is said after it.
     pub fn last(&self, text: TextNo, site: SiteNo) -> Hash
@@ -200,6 +235,8 @@ impl Note {
     pub fn text(&self, text: TextNo) -> Option<&Replica>
         ensures some { IfSome result (λ r. (note : Definition) (entries : Entries) → IsOfEntries self.now note entries
             → ShowsWhatCounts self.now → TookWhatCounts note entries r.now) }
+        ensures value { IfSome result (λ r. (d : NoteTextSeen) → (numbered_text self.now text d).replica ≡ r.now) }
+        ensures here { IfSome result (λ r. option_map (λ t. t.replica) (slice_get self.now.texts (text - 1)) ≡ Just r.now) }
         ensures number { IfSome result (λ r. r.now.text ≡ text) }
         ensures none { IfNone result (TEXTS < text) }
     {

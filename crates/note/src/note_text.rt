@@ -1,34 +1,39 @@
 //! A text of a note.
 
-ghost use Rattle.std.specs.Prelude.{◌≡◌, ℕ, ◌<◌, ◌↔◌, ◌⊎◌, [], length, slice_get, Contains, IfErr, IfOk, IsTrue, OnErr, OnOk};
+ghost use Rattle.std.specs.Prelude.{◌≡◌, false, ℕ, ◌<◌, ◌↔◌, ◌⊎◌, [], length, slice_get, Contains, IfErr, IfOk, IsTrue, OnErr, OnOk};
+ghost use Rattle.std.specs.Option.{option_map};
 ghost use Rattle.looks.specs.declared.refusal.Refusal.TheVariants as refusal;
 ghost use Rattle.looks.specs.Refusal.{RefusedForMemoryAlone};
 ghost use Rattle.note_laws.specs.Note.{Note, Entries, IsOfBase};
 ghost use Rattle.note_admission.specs.Growing.{AreAdmitted, IsOfLost, IsReplaced, StaysAdmitted};
-ghost use Rattle.note_replicas.specs.Following.{HasTakenJust};
-ghost use Rattle.note.specs.Texts.{HasFollowed, HasAdmittedMore, IsSameText, IsUpToDate};
+ghost use Rattle.note_replicas.specs.Following.{GoesOn, HasTakenJust};
+ghost use Rattle.note.specs.Texts.{HasFollowed, HasAdmittedMore, IsSameText, IsUpToDate, TellsChanges};
 ghost use Rattle.note.specs.Editing.{FitsText, HasEditedText, IsLastOfText, IsSaidWell};
 
 use crate::own_edit::OwnEdit;
 use char_files::{SiteNo, TextNo};
+use list_changes::Change;
 use looks::Refusal;
-use note_admission::{NoteChains, TextAdmission};
+use note_admission::{Continuing, NoteChains, TextAdmission};
 use note_entries::{Hash, Saying};
 use note_hashes::NoteKey;
 use note_replicas::take_rest;
 use operations::Op;
 use std::alloc::Global;
 use std::marker::Model;
+use std::mem::replace;
 use texts::{EditRefusal, Outbox, Replica};
 
 // A replica that takes in what is admitted of its text.
 #[derive(Drop)]
 pub(crate) struct NoteText {
-    admission: TextAdmission,
-    replica: Replica,
+    pub(crate) admission: TextAdmission,
+    pub(crate) replica: Replica,
     // How many of the first operations of both are known to be the same.
-    alike: u64,
-    alloc: Global,
+    pub(crate) alike: u64,
+    // Whether the replica was begun anew since its changes were asked for.
+    anew: bool,
+    pub(crate) alloc: Global,
 }
 
 impl Model for NoteText {
@@ -36,9 +41,9 @@ impl Model for NoteText {
 
     ghost Value = { Seen };
 
-    ghost view = { λ t. record { admission = t.admission; replica = t.replica; alike = t.alike } };
+    ghost view = { λ t. record { admission = t.admission; replica = t.replica; alike = t.alike; anew = t.anew } };
 
-    ghost invariant = { λ t. IsFollowing (record { admission = t.admission; replica = t.replica; alike = t.alike }) };
+    ghost invariant = { λ t. IsFollowing (record { admission = t.admission; replica = t.replica; alike = t.alike; anew = t.anew }) };
 }
 
 impl NoteText {
@@ -61,6 +66,7 @@ impl NoteText {
             admission,
             replica,
             alike: 0,
+            anew: false,
             alloc,
         })
     }
@@ -90,6 +96,17 @@ impl NoteText {
         }
     }
 
+    // What changed of what the replica shows since this was asked for, or `None` where the replica was begun anew.
+    pub(crate) fn changes(&mut self) -> Option<Vec<Change>>
+        ensures { TellsChanges self.old (option_map (λ changes. changes.items) result) self.new }
+    {
+        let changes = self.replica.changes();
+        if replace(&mut self.anew, false) {
+            return None;
+        }
+        Some(changes)
+    }
+
     // The hash of the last message that is admitted of a number, zeros for none.
     pub(crate) fn last(&self, site: SiteNo) -> Hash
         ensures { IsLastOfText self.now site result }
@@ -110,7 +127,9 @@ impl NoteText {
         ensures ok { IfOk result (λ s. IsSaidWell key.now author before op self.now s) }
         ensures errors { IfErr result (λ why. (why ≡ refusal.Behind) ⊎ (why ≡ refusal.OutOfMemory)) }
     {
-        let on = self.admission.builds_on(key, &op)?;
+        let on = self
+            .admission
+            .builds_on(key, &op, &Continuing::new(self.alloc))?;
         key.saying(self.alloc, author, before, op, on)
     }
 
@@ -160,6 +179,7 @@ impl NoteText {
     fn compare(&mut self) -> Result<(), Refusal>
         ensures admission { self.new.admission ≡ self.old.admission }
         ensures replica { self.new.replica ≡ self.old.replica }
+        ensures anew { self.new.anew ≡ self.old.anew }
         ensures errors { RefusedForMemoryAlone result }
     {
         while self.alike < self.replica.taken_len() && self.alike < self.admission.log().len() {
@@ -176,12 +196,14 @@ impl NoteText {
         ensures ok { OnOk result (self.new.alike ≡ length self.new.replica.operations) }
         ensures admission { self.new.admission ≡ self.old.admission }
         ensures same { IsSameText self.old self.new }
+        ensures noting { self.new.anew ≡ false → (self.old.anew ≡ false) × (self.new.replica ≡ self.old.replica) }
         ensures err { OnErr result (self.new ≡ self.old) }
         ensures errors { RefusedForMemoryAlone result }
     {
         if self.alike < self.replica.taken_len() {
             self.replica = Replica::new(self.alloc, self.replica.text(), self.replica.site())?;
             self.alike = 0;
+            self.anew = true;
         }
         Ok(())
     }
@@ -192,6 +214,8 @@ impl NoteText {
         ensures ok { OnOk result (HasTakenJust self.new.replica self.new.admission.ops) }
         ensures admission { self.new.admission ≡ self.old.admission }
         ensures same { IsSameText self.old self.new }
+        ensures anew { self.new.anew ≡ self.old.anew }
+        ensures on { GoesOn self.old.replica self.new.replica }
         ensures errors { RefusedForMemoryAlone result }
     {
         let taken = take_rest(&mut self.replica, self.admission.log());

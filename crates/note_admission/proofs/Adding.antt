@@ -1,8 +1,8 @@
 -- Which messages get places by one entry more.
-use Rattle.std.proofs.Common.{◌≡◌, ◌⊎◌, inl, inr, ◌∷◌, [], ◌++◌, Contains, sym, ap, ◌∙◌}
+use Rattle.std.proofs.Common.{◌≡◌, ◌⊎◌, inl, inr, ◌∷◌, [], sym, ap, ◌∙◌}
 use Rattle.std.proofs.lemmas.Bool.{cases_eq}
 use Rattle.std.proofs.lemmas.List.Elements.{Contains-append_left, Contains-push_cases}
-use Rattle.note_laws.specs.Note.{Note, Entries, Saying, Claim, IsLeastClaim}
+use Rattle.note_laws.specs.Note.{Note, Entries, Saying, Claim}
 use Rattle.note_laws.specs.Chains.{HoldsItsPlace}
 use Rattle.note_entries.specs.Kept.{with_claim, with_saying}
 

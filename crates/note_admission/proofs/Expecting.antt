@@ -15,7 +15,7 @@ use Rattle.note_laws.proofs.Adding.{still_in_turn}
 use Rattle.note_laws.proofs.Lists.{has_op}
 use Rattle.note_admission.specs.declared.text_admission.Unsettled.{Unsettled}
 use Rattle.note_admission.specs.declared.text_admission.Unsettled.TheVariants.{Nothing, Any}
-use Rattle.note_admission.specs.Growing.{AddsOf, AreAdmitted, AreKnown, FollowsEntries, IsSoundLog, HasCome, MayCount, StaysAdmitted, TextSeen}
+use Rattle.note_admission.specs.Growing.{AreAdmitted, AreKnown, FollowsEntries, IsSoundLog, HasCome, MayCount, StaysAdmitted, TextSeen}
 use Rattle.note_admission.specs.Kept.{BaseSites, IsKeptOf, seen_of}
 
 pub nothing_is_sound : (text : ℕ) → IsSoundLog text [] []

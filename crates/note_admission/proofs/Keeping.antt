@@ -34,9 +34,9 @@ by_names ranges set site off = (
       omega arith,
 )
 
-module _ (note : Note) (admitted : List Saying) (s : Saying) (set : IsSet (mentioned_ranges_by s.op.kind)) where
+module _ (admitted : List Saying) (s : Saying) (set : IsSet (mentioned_ranges_by s.op.kind)) where
   -- its names besides all that were mentioned before
-  below_with_own : (site off : ℕ)
+  pub below_with_own : (site off : ℕ)
       → MentionBelow admitted s.op.site site off × RangesEndBy (mentioned_ranges_by s.op.kind) site off
       ↔ MentionBelow (admitted ++ s ∷ []) s.op.site site off
   below_with_own site off = (
@@ -63,11 +63,11 @@ module _ (note : Note) (admitted : List Saying) (s : Saying) (set : IsSet (menti
     λ all p name held on m at. all p name (Contains-append_left admitted (s ∷ []) p held) on m at,
   )
 
-  pub kept_more : (old new : Kept) (mid : Seen) → IsKeptOf note admitted old
+  pub kept_more : (note : Note) (old new : Kept) (mid : Seen) → IsKeptOf note admitted old
       → ((other site : ℕ) → seen_of mid other site ≡ seen_of old.seen other site)
       → new.hashes ≡ old.hashes ++ s.hash ∷ [] → AreSeenBy mid s.op.site (mentioned_ranges_by s.op.kind) new.seen
       → new.base ≡ old.base → IsKeptOf note (admitted ++ s ∷ []) new
-  kept_more old new mid is same hashes seen base = record {
+  kept_more note old new mid is same hashes seen base = record {
     hashes = hashes ∙ (ap (λ (xs : List ℕ). xs ++ s.hash ∷ []) is.hashes
         ∙ sym (map-append (λ (x : Saying). x.hash) admitted (s ∷ [])));
     base = λ site. subst (λ b. IsSome (lookup (nat_eq site) b) ↔ IsOfBase note site) (sym base) (is.base site);

@@ -1,6 +1,7 @@
 pub mod Adding
 pub mod Base
 pub mod Bases
+pub mod Between
 pub mod Expecting
 pub mod Fating
 pub mod Finding

@@ -46,7 +46,7 @@ module _ (note : Note) (admitted : List Saying) (kept : Kept) (is : IsKeptOf not
   EndOf site = seen_of kept.seen s.op.site site
 
   -- a name that is mentioned is one beyond
-  beyond : (name : CharName) → Mentions s.op name → So name ≡ true → MentionsBeyond note admitted s name
+  pub beyond : (name : CharName) → Mentions s.op name → So name ≡ true → MentionsBeyond note admitted s name
   beyond name m so =
       let (both, past) = and_parts (Other name && Free name) _ so in
       let (other, free) = and_parts (Other name) (Free name) both in
@@ -58,7 +58,7 @@ module _ (note : Note) (admitted : List Saying) (kept : Kept) (is : IsKeptOf not
             (is.seen s.op.site name.site name.off).0 (leb-true _ _ past) p seen held on mentioned same;
       }
 
-  so_if : (name : CharName) → MentionsBeyond note admitted s name → So name ≡ true
+  pub so_if : (name : CharName) → MentionsBeyond note admitted s name → So name ≡ true
   so_if name b =
       let other : Other name ≡ true = not_true _ (λ same. b.foreign (eqb-true _ _ same)) in
       let free : Free name ≡ true = not_true _ (λ some. b.not_of_base ((is.base name.site).0 some)) in
@@ -152,7 +152,7 @@ module _ (note : Note) (admitted : List Saying) (kept : Kept) (is : IsKeptOf not
               cc
         ]
 
-    all_inserted : (names : List CharName) (hashes : List ℕ)
+    pub all_inserted : (names : List CharName) (hashes : List ℕ)
         → AllZip (IsHashOfInsert (operations admitted) kept.hashes) names hashes
         → AllZip (IsInsertedBy admitted) names hashes
     all_inserted [] [] all = tt

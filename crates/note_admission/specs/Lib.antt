@@ -1,4 +1,5 @@
 pub mod Base
+pub mod Continuing
 pub mod Fates
 pub mod Growing
 pub mod Kept

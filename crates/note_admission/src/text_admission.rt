@@ -4,19 +4,21 @@ ghost use Rattle.std.specs.Prelude.{◌≡◌, ℕ, ◌^◌, ◌<◌, ◌≤◌,
 ghost use Rattle.looks.specs.Refusal.{RefusedForMemoryAlone};
 ghost use Rattle.looks.specs.declared.refusal.Refusal.TheVariants as refusal;
 ghost use Rattle.operations.specs.Operation.{Operation};
-ghost use Rattle.set_laws.specs.Fronts.{IsHeld};
+ghost use Rattle.set_laws.specs.Fronts.{IsHeld, front_of};
 ghost use Rattle.set_laws.specs.Verdict as verdict;
 ghost use Rattle.note_laws.specs.Note.{Note, Entries, IsOfBase, Saying as Said};
 ghost use Rattle.note_laws.specs.Admission.{BuildsOn, IsAdmission};
 ghost use Rattle.note_laws.specs.Chains.{ComesNext};
 ghost use Rattle.note_laws.specs.Laws.{AreReadyInTurn};
 ghost use Rattle.note_admission.specs.Kept.{IsKeptOf};
+ghost use Rattle.note_admission.specs.Continuing.{AreMentionedIn};
 ghost use Rattle.note_admission.specs.Fates.{fate_of};
 ghost use Rattle.note_admission.specs.Growing.{AreAdmitted, AreOfNote, AreTaken, FollowsEntries, LogGoesOn, GoesOnOrAnew, HasNoNext, IsHashOf, IsHeadOfChain, IsLastHash, IsOfLost, IsReplaced, AdmissionGrows, IsNextOfNumber, MayCount, StaysAdmitted, TakesAllOfNumber, TakesNone, TakesOn};
 ghost use Rattle.note_admission.specs.declared.text_admission.Unsettled.TheVariants.{Any, Nothing, One};
 
 use crate::admitted::Admitted;
 use crate::chains::Chains;
+use crate::continuing::Continuing;
 use crate::fate::Fate;
 use char_files::{SiteNo, TextNo};
 use looks::Refusal;
@@ -125,6 +127,13 @@ impl TextAdmission {
         self.admitted.hash(place)
     }
 
+    /// The seq of the last message that is admitted of a number, 0 for none.
+    pub fn front(&self, site: SiteNo) -> u32
+        ensures { result ≡ front_of self.now.ops site }
+    {
+        self.log.front(site)
+    }
+
     // The hash of the chain's admitted message of this seq, zeros before the first.
     fn hash_of(&self, site: SiteNo, seq: u32) -> Hash
         ensures held { IsHeld self.now.ops site seq → IsHashOf self.now.ops self.now.kept.hashes site seq result }
@@ -191,16 +200,23 @@ impl TextAdmission {
         }
     }
 
-    /// What the next message of a chain has to say that it builds on, where this is its operation.
+    /// What the next message of a chain has to say that it builds on, where this is its operation, and these messages of the chain come
+    /// between what is admitted and it.
     ///
     /// Refused `Behind` where it mentions another's character that isn't there, and `OutOfMemory`.
-    pub fn builds_on<D: Digest>(&self, digest: &D, op: &Op) -> Result<Option<Hash>, Refusal>
-        ensures ok { IfOk result (λ on. (note : Note) (entries : Entries) (admitted : List Said)
-            → note.digest ≡ D.digest digest.now → AreTaken note entries self.now admitted → (s : Said) → s.op ≡ op.now
-            → s.on ≡ on → BuildsOn note admitted s) }
+    pub fn builds_on<D: Digest>(
+        &self,
+        digest: &D,
+        op: &Op,
+        between: &Continuing,
+    ) -> Result<Option<Hash>, Refusal>
+        ensures ok { IfOk result (λ on. (note : Note) (entries : Entries) (admitted more : List Said)
+            → note.digest ≡ D.digest digest.now → AreTaken note entries self.now admitted
+            → AreMentionedIn op.now.site more between.now → (s : Said) → s.op ≡ op.now → s.on ≡ on
+            → BuildsOn note (admitted ++ more) s) }
         ensures errors { IfErr result (λ why. (why ≡ refusal.Behind) ⊎ (why ≡ refusal.OutOfMemory)) }
     {
-        self.admitted.builds_on(&self.log, digest, op)
+        self.admitted.builds_on(&self.log, digest, op, between)
     }
 
     // Admits the next message of a chain, which counts. Refused `OutOfMemory` alone, and then it isn't.

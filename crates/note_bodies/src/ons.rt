@@ -13,8 +13,8 @@ use std::alloc::Global;
 // The hash that a message of this index builds on.
 #[derive(Clone, Copy)]
 pub(crate) struct On {
-    index: u16,
-    hash: Hash,
+    pub(crate) index: u16,
+    pub(crate) hash: Hash,
 }
 
 // A hash.

@@ -17,14 +17,21 @@ const OUTER_PAD: u8 = 0x5c;
 #[derive(Drop)]
 pub struct HmacKey {
     bytes: [u8; 32],
+    // Both hold the padded key, so that it is hashed once.
+    inner: Sha256,
+    outer: Sha256,
 }
 
 impl Model for HmacKey {
     ghost use Rattle.std.specs.Prelude.{ℕ, List};
+    ghost use Rattle.sha2.specs.Hashers.{Holds256};
+    ghost use Rattle.note_hashes.specs.Hmac.{padded};
 
     ghost Value = { List ℕ };
 
     ghost view = { λ k. k.bytes };
+
+    ghost invariant = { λ k. Holds256 k.inner (padded 0x36 k.bytes) × Holds256 k.outer (padded 0x5C k.bytes) };
 }
 
 // Adds bytes to what a hasher holds.
@@ -34,47 +41,62 @@ pub(crate) fn add(hasher: &mut Sha256, bytes: &[u8])
     hasher.update(bytes);
 }
 
+// The bytes of a key, each xored with the pad.
+fn xored(bytes: [u8; 32], pad: u8) -> [u8; 32]
+    ensures { result ≡ map (λ b. bit_xor b pad) bytes }
+{
+    let mut xored = [0; 32];
+    for i in 0..32 {
+        xored[i] = bytes[i] ^ pad;
+    }
+    xored
+}
+
+// A hasher that holds the padded key.
+fn keyed(bytes: [u8; 32], pad: u8) -> Sha256
+    ensures { Holds256 result (padded pad bytes) }
+{
+    let mut hasher = Sha256::new();
+    hasher.update(xored(bytes, pad));
+    hasher.update([pad; BLOCK - 32]);
+    hasher
+}
+
+// The same hasher again.
+fn again(hasher: &Sha256) -> Sha256
+    ensures { result ≡ hasher.now }
+{
+    // It takes no memory.
+    let Ok(copy) = hasher.clone() else {
+        unreachable!()
+    };
+    copy
+}
+
 impl HmacKey {
     /// The key of these bytes.
     pub fn new(bytes: [u8; 32]) -> HmacKey
         ensures { result ≡ bytes }
     {
-        HmacKey { bytes }
-    }
-
-    // Its bytes, each xored with the pad.
-    fn xored(&self, pad: u8) -> [u8; 32]
-        ensures { result ≡ map (λ b. bit_xor b pad) self.now }
-    {
-        let mut xored = [0; 32];
-        for i in 0..32 {
-            xored[i] = self.bytes[i] ^ pad;
+        HmacKey {
+            bytes,
+            inner: keyed(bytes, INNER_PAD),
+            outer: keyed(bytes, OUTER_PAD),
         }
-        xored
-    }
-
-    // A hasher that holds the padded key.
-    fn keyed(&self, pad: u8) -> Sha256
-        ensures { Holds256 result (padded pad self.now) }
-    {
-        let mut hasher = Sha256::new();
-        hasher.update(self.xored(pad));
-        hasher.update([pad; BLOCK - 32]);
-        hasher
     }
 
     // A hasher, to which the message is to be added.
     pub(crate) fn begin(&self) -> Sha256
         ensures { Holds256 result (padded 0x36 self.now) }
     {
-        self.keyed(INNER_PAD)
+        again(&self.inner)
     }
 
     // The HMAC of the message that was added to such a hasher.
     pub(crate) fn finish(&self, hasher: Sha256) -> [u8; 32]
         ensures { (message : List ℕ) → Holds256 hasher (padded 0x36 self.now ++ message) → result ≡ hmac self.now message }
     {
-        let mut outer = self.keyed(OUTER_PAD);
+        let mut outer = again(&self.outer);
         outer.update(hasher.finalize());
         outer.finalize()
     }

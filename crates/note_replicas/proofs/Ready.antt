@@ -1,5 +1,6 @@
 -- What is ready, where nothing waits, is taken in, and nothing waits then.
-use Rattle.std.proofs.Common.{◌≡◌, ◌≢◌, ℕ, List, [], ◌∷◌, ◌++◌, inl, inr, Bool, true, false, Result, Ok, Err, refl, sym, ap, subst, ◌∙◌, ◌⊎◌, Contains, arith}
+use Rattle.std.proofs.Common.{◌≡◌, ◌≢◌, ℕ, List, [], ◌∷◌, ◌++◌, inl, inr, Bool, true, false, Result, Ok, Err, refl, sym, ap, subst, ◌∙◌, ◌⊎◌, Contains, arith, append_assoc}
+use Rattle.std.proofs.lemmas.List.{append-nil}
 use Rattle.looks.specs.declared.refusal.Refusal.{Refusal}
 use Rattle.looks.specs.declared.refusal.Refusal.TheVariants.{OutOfMemory}
 use Rattle.operations.specs.Operation.{Operation}
@@ -14,7 +15,7 @@ use Rattle.texts.specs.declared.fate.Fate.{Fate}
 use Rattle.texts.specs.declared.fate.Fate.TheVariants.{Wait, Ready}
 use Rattle.texts.specs.declared.took.Took.{Took}
 use Rattle.convergence.proofs.Fates.{same_fate}
-use Rattle.note_replicas.specs.Following.{HasTakenJust, IsOfPlace}
+use Rattle.note_replicas.specs.Following.{GoesOn, HasTakenJust, IsOfPlace}
 
 -- a list with an element in it isn't empty
 not_empty : (before after : List Operation) (op : Operation) → [] ≢ before ++ op ∷ after
@@ -35,6 +36,23 @@ none_in op (i, below, same) = absurd (omega (arith, below))
 same_err : (a b : Refusal) → ◌≡◌ {A = Result Took Refusal} (Err a) (Err b) → a ≡ b
 same_err a b e = cc
 
+-- what stays as it is goes on
+pub on_itself : (t new : TextState) → new ≡ t → GoesOn t new
+on_itself t new same = record {
+  more = [];
+  taken = ap (λ (u : TextState). u.operations) same ∙ sym (append-nil t.operations);
+  asked = ap (λ (u : TextState). u.asked) same;
+}
+
+-- what goes on twice goes on
+pub on_then : (t u v : TextState) → GoesOn t u → GoesOn u v → GoesOn t v
+on_then t u v first next = record {
+  more = first.more ++ next.more;
+  taken = next.taken ∙ ap (λ (ops : List Operation). ops ++ next.more) first.taken
+      ∙ append_assoc t.operations first.more next.more;
+  asked = next.asked ∙ first.asked;
+}
+
 module _ (t new : TextState) (op : Operation) (is : IsText t) (judged : IsJudged t op ready) (none : t.waiting_room ≡ []) where
   -- nothing waits under its identity
   none_under : ¬ IsHeld t.waiting_room op.site op.seq
@@ -45,18 +63,19 @@ module _ (t new : TextState) (op : Operation) (is : IsText t) (judged : IsJudged
 
   -- it was taken in
   taken : (stopped : Bool) (result : Result Took Refusal) → TakesIn t op stopped result new
-      → HasTakenJust new (t.operations ++ op ∷ []) × IsOfPlace t new
+      → HasTakenJust new (t.operations ++ op ∷ []) × IsOfPlace t new × GoesOn t new
   taken stopped result (with_op, drained, dropped, has, drains, answer) =
       let grown = has.grown in
       let same : new ≡ with_op = drains_nothing (ap (λ (u : TextState). u.waiting_room) grown ∙ none) drains in
       let all = same ∙ grown in (
         record { taken = ap (λ (u : TextState). u.operations) all; none_waits = ap (λ (u : TextState). u.waiting_room) all ∙ none },
         record { text = ap (λ (u : TextState). u.text) all; site = ap (λ (u : TextState). u.site) all },
+        record { more = op ∷ []; taken = ap (λ (u : TextState). u.operations) all; asked = ap (λ (u : TextState). u.asked) all },
       )
 
   -- an answer says that it was taken in
   pub taken_in : (took : Took) → (TakesOp t op (Ok took) new ⊎ TakesOpShort t op (Ok took) new)
-      → HasTakenJust new (t.operations ++ op ∷ []) × IsOfPlace t new
+      → HasTakenJust new (t.operations ++ op ∷ []) × IsOfPlace t new × GoesOn t new
   taken_in took (inl (fate, has, becomes)) =
       let same : fate ≡ Ready = same_fate t op is fate Ready has its_fate in
       taken false (Ok took) (subst (λ (f : Fate). Becomes t op f (Ok took) new) same becomes)

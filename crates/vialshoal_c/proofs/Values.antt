@@ -36,6 +36,8 @@ use Rattle.vialshoal_c.specs.contracts.handle.Handle as handle
 use Rattle.vialshoal_c.specs.contracts.session.Session as session
 use Rattle.vialshoal_c.specs.contracts.past_handle.PastHandle as past_handle
 use Rattle.texts.specs.contracts.past.Past as past
+use Rattle.vialshoal_c.specs.contracts.note_handle.NoteHandle as note_handle
+use Rattle.vialshoal_c.specs.contracts.note_session.NoteSession as note
 
 abbrev pub both : Val → Val → Val
 both v w = vstruct (vcons v (vcons w vnil))
@@ -99,6 +101,18 @@ module _ {M : Type 1} {𝓤 : Ura M} (𝓛 : Logic 𝓤) where
   past_shuts d = let v : Val = word (ptr_val d.at) in qed 𝓛 (‵ (owned past.the_row d.at d.value) ∷ []) ∵
       nothing ! $ feq_i ! (List Val) (ptr_val d.at ∷ []) (ptr_val d.at ∷ []) refl $ fjoin ! $ feq_i ! (List Val) (v ∷ []) (v ∷ []) refl $ fjoin ! $
       fpack ! (Valss (RawPtr ∷ [])) (within (shape past_handle.the_type) (d.at, tt) (v ∷ [])) (ptr_val d.at ∷ [], tt) $ fjoin ! $ done !
+
+  -- a note's handle alike
+  pub note_opens : (d : note_handle.the_row.Denot) (vs : List Val)
+      → ent 𝓤 (sem 𝓛 (note_handle.the_row.own_val d vs)) (guard 𝓤 (vs ≡ word (ptr_val d.at) ∷ []) (sem 𝓛 (owned note.the_row d.at d.value)))
+  note_opens d vs = qed 𝓛 (‵ (note_handle.the_row.own_val d vs) ∷ []) ∵
+      fsplit ! $ fpick ! (λ vss. fsplit ! $ feq_l ! (λ ev. fsplit ! $ feq_l ! (λ ep. drop ! $
+      by ! (guard_i 𝓤 _ _ (subst (λ (ps : List Val). vs ≡ vstruct (of_list (ps ++ [])) ∷ []) ep ev)))))
+
+  pub note_shuts : (d : note_handle.the_row.Denot) → ent 𝓤 (sem 𝓛 (owned note.the_row d.at d.value)) (sem 𝓛 (note_handle.the_row.own_val d (word (ptr_val d.at) ∷ [])))
+  note_shuts d = let v : Val = word (ptr_val d.at) in qed 𝓛 (‵ (owned note.the_row d.at d.value) ∷ []) ∵
+      nothing ! $ feq_i ! (List Val) (ptr_val d.at ∷ []) (ptr_val d.at ∷ []) refl $ fjoin ! $ feq_i ! (List Val) (v ∷ []) (v ∷ []) refl $ fjoin ! $
+      fpack ! (Valss (RawPtr ∷ [])) (within (shape note_handle.the_type) (d.at, tt) (v ∷ [])) (ptr_val d.at ∷ [], tt) $ fjoin ! $ done !
 
 module _ {M : Type 1} {𝓤 : Ura M} {𝓛 : Logic 𝓤} {K : Type 0} {Γ : List (Item 𝓤)} {G : Goal 𝓤 𝓛.H} where
   -- what a handle owns is nothing, at null, or a box, whose pointer may be tested

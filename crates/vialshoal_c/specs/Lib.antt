@@ -4,6 +4,9 @@ pub mod Feeding
 pub mod History
 pub mod Keeping
 pub mod Naming
+pub mod NoteEditing
+pub mod NoteFeeding
+pub mod NoteState
 pub mod Opened
 pub mod Outputs
 pub mod Owned

@@ -53,7 +53,7 @@ impl Edited {
 }
 
 // The looks that are selected of these, and the default ones elsewhere; `None` where one that is selected is none.
-fn asked_looks(sel: Sel, font: &[u8], colour: u8, offset: i8) -> Option<Looks>
+pub(crate) fn asked_looks(sel: Sel, font: &[u8], colour: u8, offset: i8) -> Option<Looks>
     ensures some { IfSome result (λ looks. looks ≡ asked_looks sel font.now colour offset) }
     ensures valid { IsSome result ↔ AreLooks sel font.now colour }
 {
@@ -71,7 +71,7 @@ fn asked_looks(sel: Sel, font: &[u8], colour: u8, offset: i8) -> Option<Looks>
 }
 
 // Whether these bytes aren't too many for any text.
-fn are_few(bytes: &[u8]) -> bool
+pub(crate) fn are_few(bytes: &[u8]) -> bool
     ensures { result ≡ nat_le (length bytes.now) MAX_FILE }
 {
     bytes.len() as u64 <= MAX_FILE
@@ -90,7 +90,7 @@ fn looks_of(font: &[u8], colour: u8, offset: i8) -> Option<Looks>
 }
 
 // These bytes in these looks. Refused `OutOfMemory` alone, and where there are bytes.
-fn stretch_of(alloc: Global, bytes: &[u8], looks: &Looks) -> Result<Buffer, Refusal>
+pub(crate) fn stretch_of(alloc: Global, bytes: &[u8], looks: &Looks) -> Result<Buffer, Refusal>
     requires { length bytes.now ≤ MAX_FILE }
     ensures ok { IfOk result (λ stretch. stretch ≡ map (λ b. (b, looks.now)) bytes.now) }
     ensures some { IfErr result (λ _. 0 < length bytes.now) }

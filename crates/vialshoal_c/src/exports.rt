@@ -15,6 +15,7 @@ ghost use Rattle.vialshoal_c.specs.Keeping.{Opens, OpensFile, PutsFile, PutsText
 ghost use Rattle.vialshoal_c.specs.Naming.{EditsSessionNames};
 ghost use Rattle.vialshoal_c.specs.Opened.{OnOpen, Reads};
 
+use crate::asking::{put_sites_of, tell_front};
 use crate::handle::Handle;
 use crate::inputs::{CharNames, SiteFront};
 use crate::numbers::{ALREADY_OPEN, NO_NUMBER, NOT_OPEN};
@@ -576,7 +577,7 @@ pub extern "C" fn vialshoal_front(
     let Some(session) = handle.open(alloc) else {
         return NOT_OPEN;
     };
-    let number = session.front(site, front);
+    let number = tell_front(&session.replica, site, front);
     handle.close(alloc, session);
     number
 }
@@ -596,7 +597,7 @@ pub extern "C" fn vialshoal_sites(
     let Some(session) = handle.open(alloc) else {
         return NOT_OPEN;
     };
-    let put = session.sites(room);
+    let put = put_sites_of(&session.replica, room);
     handle.close(alloc, session);
     *need = put.need;
     put.number

@@ -1,10 +1,14 @@
 //! What calls read of memory that C owns.
 
 ghost use Rattle.std.specs.Prelude.{◌≡◌};
+ghost use Rattle.note_entries.specs.Bytes.{hash_of};
 ghost use Rattle.vialshoal_c.specs.History.{front_given};
 ghost use Rattle.vialshoal_c.specs.Naming.{checked_range};
+ghost use Rattle.vialshoal_c.specs.NoteFeeding.{c_head, head_given};
 
-use char_files::{MAX_FILE, SiteNo};
+use char_files::{MAX_FILE, SiteNo, TextNo};
+use note::Head;
+use note_entries::Hash;
 use operations::NameRange;
 use texts::Front;
 
@@ -52,6 +56,75 @@ impl SiteFront {
         Some(Front {
             site,
             seq: self.seq,
+        })
+    }
+}
+
+/// A hash or a key.
+#[repr(C)]
+#[derive(Clone, Copy, Debug, PartialEq, Eq)]
+pub struct NoteHash {
+    /// The bytes.
+    pub bytes: [u8; 32],
+}
+
+impl NoteHash {
+    // This hash as a note takes it.
+    pub(crate) fn hash(&self) -> Hash
+        ensures { result ≡ hash_of self.now.bytes }
+    {
+        Hash::of_bytes(self.bytes)
+    }
+}
+
+/// The head of an entry of messages.
+#[repr(C)]
+#[derive(Clone, Copy, Debug, PartialEq, Eq)]
+pub struct EntryHead {
+    /// Its author's key.
+    pub author: NoteHash,
+    /// The hash of the message before its first one, zeros before seq 1.
+    pub before: NoteHash,
+    /// The seq of its first message.
+    pub first: u32,
+    /// How many messages it has.
+    pub count: u16,
+    /// The site.
+    pub site: u16,
+    /// The text.
+    pub text: u16,
+}
+
+impl EntryHead {
+    // A head, as C sees it.
+    pub(crate) fn of(head: &Head) -> EntryHead
+        ensures { result ≡ c_head head.now }
+    {
+        EntryHead {
+            author: NoteHash {
+                bytes: head.author.bytes(),
+            },
+            before: NoteHash {
+                bytes: head.before.bytes(),
+            },
+            first: head.first,
+            count: head.count,
+            site: head.site.get(),
+            text: head.text.get(),
+        }
+    }
+
+    // This head as a note takes it, or `None` where the numbers are those of no site or text.
+    pub(crate) fn head(&self) -> Option<Head>
+        ensures { result ≡ head_given self.now }
+    {
+        Some(Head {
+            author: self.author.hash(),
+            site: SiteNo::new(self.site)?,
+            text: TextNo::new(self.text)?,
+            first: self.first,
+            count: self.count,
+            before: self.before.hash(),
         })
     }
 }

@@ -1,4 +1,4 @@
-//! Texts for C: a handle holds a site's replica of a text, and each call does to it what a replica's call does.
+//! Texts for C: a handle holds a site's replica of a text, and each call does to it what a replica's call does; notes alike.
 #![tactic(auto)]
 
 mod asking;
@@ -11,6 +11,10 @@ mod inputs;
 mod keeping;
 mod loose;
 mod naming;
+mod note_base;
+mod note_exports;
+mod note_handle;
+mod note_session;
 mod numbers;
 mod outputs;
 mod past_exports;

@@ -16,7 +16,7 @@ use std::alloc::Global;
 use texts::{ByNames, EditRefusal, Replica};
 
 // Whether all of these are names.
-fn are_ranges(names: &[CharNames]) -> bool
+pub(crate) fn are_ranges(names: &[CharNames]) -> bool
     ensures { result ≡ list_all is_range names.now }
 {
     names.iter().all(|some| some.range().is_some())
@@ -33,7 +33,7 @@ fn has(replica: &Replica, names: CharNames) -> bool
 }
 
 // Whether all of these names are those of characters.
-fn has_all(replica: &Replica, names: &[CharNames]) -> bool
+pub(crate) fn has_all(replica: &Replica, names: &[CharNames]) -> bool
     ensures { result ≡ list_all (is_here replica.now) names.now }
 {
     names.iter().all(|some| has(replica, *some))
@@ -55,7 +55,7 @@ fn put(names: &[CharNames], ranges: &mut Vec<NameRange>)
 }
 
 // The names as a replica takes them. Refused `OutOfMemory` alone, and where there are names.
-fn ranges_of(alloc: Global, names: &[CharNames]) -> Result<Vec<NameRange>, Refusal>
+pub(crate) fn ranges_of(alloc: Global, names: &[CharNames]) -> Result<Vec<NameRange>, Refusal>
     requires { IsTrue (list_all is_range names.now) }
     ensures ok { IfOk result (λ ranges. ranges.items ≡ replica_ranges names.now) }
     ensures some { IfErr result (λ _. 0 < length names.now) }

@@ -8,29 +8,29 @@ ghost use Rattle.vialshoal_c.specs.History.{OpensPast};
 ghost use Rattle.vialshoal_c.specs.Opened.{Reads};
 
 use crate::handle::Handle;
-use crate::history::are_fronts;
+use crate::history::{are_fronts, past_of};
 use crate::inputs::SiteFront;
 use crate::numbers::{ALREADY_OPEN, NO_NUMBER, NOT_OPEN};
 use crate::outputs::{CharName, LooksRun, Place};
 use crate::past_handle::PastHandle;
-use crate::session::Session;
 use crate::showing::{find_name, put_shown_bytes, put_shown_names, tell_run};
 use std::alloc::Global;
+use texts::Replica;
 
-// Opens an empty past handle with a session's text as it was, if all of these are fronts.
+// Opens an empty past handle with a replica's text as it was, if all of these are fronts.
 fn open_past_of(
     alloc: Global,
-    session: &Session,
+    replica: &Replica,
     fronts: &[SiteFront],
     past: &mut PastHandle,
 ) -> u32
     requires { past.old.value ≡ None }
-    ensures { OpensPast session.now.text None fronts.now result past.new.value }
+    ensures { OpensPast replica.now None fronts.now result past.new.value }
 {
     if !are_fronts(fronts) {
         return NO_NUMBER;
     }
-    match session.past(alloc, fronts) {
+    match past_of(alloc, replica, fronts) {
         Ok(text) => {
             past.close(alloc, text);
             0
@@ -40,15 +40,20 @@ fn open_past_of(
 }
 
 // Opens a past handle so, if it is empty.
-fn open_past(alloc: Global, session: &Session, fronts: &[SiteFront], past: &mut PastHandle) -> u32
-    ensures { OpensPast session.now.text past.old.value fronts.now result past.new.value }
+pub(crate) fn open_past(
+    alloc: Global,
+    replica: &Replica,
+    fronts: &[SiteFront],
+    past: &mut PastHandle,
+) -> u32
+    ensures { OpensPast replica.now past.old.value fronts.now result past.new.value }
 {
     match past.open(alloc) {
         Some(held) => {
             past.close(alloc, held);
             ALREADY_OPEN
         }
-        None => open_past_of(alloc, session, fronts, past),
+        None => open_past_of(alloc, replica, fronts, past),
     }
 }
 
@@ -66,7 +71,7 @@ pub extern "C" fn vialshoal_past(
     let Some(session) = handle.open(alloc) else {
         return NOT_OPEN;
     };
-    let number = open_past(alloc, &session, fronts, past);
+    let number = open_past(alloc, &session.replica, fronts, past);
     handle.close(alloc, session);
     number
 }

@@ -181,6 +181,7 @@ refuses(105, () => e.insert(0, 'x', { offset: -129 }));
 refuses(103, () => e.insert(9, 'x', {}));
 e.insert(0, Buffer.alloc(1 << 20));
 refuses(13, () => e.save());
+assert.throws(() => e.save(), ({ code, message }) => code === 'BAD_FILE' && message.includes('a text file would pass 2^20 bytes'));
 
 refuses(13, () => Text.load(Buffer.from('none')));
 refuses(103, () => a.insert(5, 'x'));

@@ -1,6 +1,6 @@
 // Calls as users write them, for the compiler alone: the types of index.d.ts.
 import {
-    Backlog, Damaged, FrontsDiffer, Misused, Past, Presence, Refused, Text, UndoManager, mergeChunks, type Anchor, type Delta, type Edit,
+    Backlog, Damaged, FrontsDiffer, Misused, Note, Past, Presence, Refused, Text, UndoManager, mergeChunks, type Anchor, type Delta, type Edit, type Entry,
 } from '../index.js';
 import { CodeMirrorBinding, type Cursor } from '../codemirror.js';
 import { IndexedDBStore } from '../indexeddb.js';
@@ -60,4 +60,12 @@ export async function kept(): Promise<number> {
     } catch (why) {
         return why instanceof Damaged ? why.code.length : 0;
     }
+}
+
+export function said(site: number, key: Uint8Array, author: Uint8Array, came: Entry[]): Entry[] {
+    const note = new Note(site, { key, founder: author, number: site }), text = note.text(1, { units: 'utf-16' });
+    came.forEach((entry) => note.add(entry));
+    note.update();
+    text.insert(text.length, '!');
+    return note.say(author).filter(({ head, body }) => head.count > 0 && body.length > 0 && text.past(text.fronts()).length > 0);
 }

@@ -42,6 +42,7 @@ from ._answers import (Anchor, Change, ChangeKind, Damaged, FrontsDiffer, Looks,
 from ._backlog import Backlog, Received
 from ._deltas import Delete, Delta, Insert, Retain
 from ._merging import merge_chunks
+from ._note import Entry, Head, Note, NoteText
 from ._shown import Shown, Units
 from ._text import Past, Text
 from ._undo import Undone, UndoManager
@@ -49,7 +50,7 @@ from .presence import Presence
 from .site_numbers import SiteNumbers
 
 __version__ = "0.1.0"
-__all__ = ["Anchor", "Backlog", "Change", "ChangeKind", "Damaged", "Delete", "Delta", "FrontsDiffer", "Insert", "Looks",
-           "Misused", "Name", "NameRange", "Past", "Place", "Presence", "Received", "Refused", "Replacement", "Retain", "Run",
+__all__ = ["Anchor", "Backlog", "Change", "ChangeKind", "Damaged", "Delete", "Delta", "Entry", "FrontsDiffer", "Head", "Insert",
+           "Looks", "Misused", "Name", "NameRange", "Note", "NoteText", "Past", "Place", "Presence", "Received", "Refused", "Replacement", "Retain", "Run",
            "Settling", "Shown", "SiteNumbers", "Taking", "TakingKind", "Text", "UndoManager", "Undone", "Units", "Unpacking",
            "merge_chunks"]

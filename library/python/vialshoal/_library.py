@@ -38,7 +38,7 @@ REASONS = {
     8: "what waits shows that the site was further once",
     9: "the greatest stamp was taken in",
     10: "the site would have put in more than 2^24 bytes",
-    13: "the bytes are no file of a site, or the text is too long for a file",
+    13: "the bytes are no file of a site; or a text file would pass 2^20 bytes, a packed one 2^22 operations",
     12: "a set of names needs more than 1,024 ranges",
     23: "the site has made its last operation in the text",
     NOT_OPEN: "the text is closed",
@@ -57,6 +57,18 @@ class Handle(ctypes.Structure):
 
 class PastHandle(ctypes.Structure):
     _fields_ = [("at", c_void_p)]
+
+
+class NoteHandle(ctypes.Structure):
+    _fields_ = [("at", c_void_p)]
+
+
+CHash = c_uint8 * 32
+
+
+class CHead(ctypes.Structure):
+    _fields_ = [("author", CHash), ("before", CHash), ("first", c_uint32), ("count", c_uint16), ("site", c_uint16),
+                ("text", c_uint16)]
 
 
 class CSiteFront(ctypes.Structure):
@@ -101,6 +113,7 @@ class CLooksRun(ctypes.Structure):
 
 HANDLE = POINTER(Handle)
 PAST = POINTER(PastHandle)
+NOTE = POINTER(NoteHandle)
 FRONTS = POINTER(CSiteFront)
 U32 = POINTER(c_uint32)
 U64 = POINTER(c_uint64)
@@ -138,7 +151,25 @@ CALLS = {
     "past": (HANDLE, FRONTS, c_size_t, PAST),
     "past_free": (PAST,),
 }
-# What a handle of either kind is asked.
+# A hash or a key is 32 bytes.
+NOTE_CALLS = {
+    "new": (NOTE, c_uint16, c_char_p, c_char_p, c_uint16, c_char_p, c_char_p, c_char_p, c_size_t),
+    "free": (NOTE,),
+    "claim": (NOTE, c_char_p, c_uint16, c_char_p),
+    "add": (NOTE, POINTER(CHead), c_char_p, c_size_t),
+    "update": (NOTE,),
+    "insert": (NOTE, c_uint16, c_uint64, c_char_p, c_size_t, U32),
+    "delete": (NOTE, c_uint16, c_uint64, c_uint64, U32),
+    "change_looks": (NOTE, c_uint16, c_uint64, c_uint64, c_uint8, c_char_p, c_size_t, c_uint8, c_int8, U32),
+    "delete_names": (NOTE, c_uint16, POINTER(CNameRange), c_size_t, U32),
+    "restore_names": (NOTE, c_uint16, POINTER(CNameRange), c_size_t, U32),
+    "own": (NOTE, c_uint16, c_char_p, c_uint64, POINTER(CHead), c_char_p, c_size_t, U64),
+    "changes": (NOTE, c_uint16, POINTER(c_bool), POINTER(CChange), c_size_t, U64),
+    "front": (NOTE, c_uint16, c_uint16, U32),
+    "sites": (NOTE, c_uint16, POINTER(c_uint16), c_size_t, U64),
+    "past": (NOTE, c_uint16, FRONTS, c_size_t, PAST),
+}
+# What a handle of each kind is asked; that of a note with the number of a text.
 READS = {
     "length": (U64,),
     "bytes": (c_uint64, c_uint64, c_char_p, c_size_t, U64),
@@ -148,10 +179,13 @@ READS = {
 }
 
 
+AnyHandle = Union[Handle, PastHandle, NoteHandle]
+
+
 class Reads(NamedTuple):
     """A kind of handle, and the calls that free and read it."""
 
-    handle: Callable[[], Union[Handle, PastHandle]]
+    handle: Callable[[], AnyHandle]
     free: Callable[..., int]
     length: Callable[..., int]
     bytes: Callable[..., int]
@@ -172,9 +206,10 @@ def path() -> str:
 
 def load(kind: type[ctypes.CDLL]) -> ctypes.CDLL:
     library = kind(path())
-    reads = {f"{kind}{name}": (handle, *arguments)
-             for kind, handle in (("", HANDLE), ("past_", PAST)) for name, arguments in READS.items()}
-    for name, arguments in {**CALLS, **reads}.items():
+    reads = {f"{kind}{name}": (*handle, *arguments)
+             for kind, handle in (("", (HANDLE,)), ("past_", (PAST,)), ("note_", (NOTE, c_uint16))) for name, arguments in READS.items()}
+    of_notes = {f"note_{name}": arguments for name, arguments in NOTE_CALLS.items()}
+    for name, arguments in {**CALLS, **reads, **of_notes}.items():
         call = getattr(library, f"vialshoal_{name}")
         call.argtypes = arguments
         call.restype = c_uint32
@@ -206,5 +241,16 @@ def chunks_in(packed: bytes) -> Iterator[bytes]:
         yield packed[beg:end]
 
 
-def reads(library: ctypes.CDLL, handle: Callable[[], Union[Handle, PastHandle]], kind: str) -> Reads:
+def reads(library: ctypes.CDLL, handle: Callable[[], AnyHandle], kind: str) -> Reads:
     return Reads(handle, *(getattr(library, f"vialshoal_{kind}{name}") for name in ("free", *READS)))
+
+
+def reads_of_note(library: ctypes.CDLL, note: NoteHandle, text: int) -> Reads:
+    """The calls that read a text of a note. To free it does nothing: the note has it."""
+    def of_text(name: str) -> Callable[..., int]:
+        call = getattr(library, f"vialshoal_note_{name}")
+
+        def asked(handle: NoteHandle, *words: object) -> int:
+            return cast(int, call(handle, text, *words))
+        return asked
+    return Reads(lambda: note, lambda handle: 0, *map(of_text, READS))

@@ -9,12 +9,12 @@ from ctypes import byref, c_uint64
 from functools import wraps
 from itertools import groupby
 from types import TracebackType
-from typing import Any, AnyStr, ClassVar, Concatenate, Generic, Literal, NoReturn, Optional, ParamSpec, TypeVar, Union, cast, overload
+from typing import Any, AnyStr, Concatenate, Generic, Literal, NoReturn, Optional, ParamSpec, TypeVar, Union, cast, overload
 
 from . import _given as given
 from . import _library as c
 from ._answers import Anchor, Misused, Name, NameRange, Place, Run, Side, done
-from ._code_points import CodePoints, begins, decoded
+from ._code_points import CodePoints, begins, decoded, encoded
 
 # What positions and lengths count.
 Units = Literal["bytes", "code points"]
@@ -41,9 +41,9 @@ class Shown(Generic[AnyStr]):
     points", all positions and lengths count code points. Threads may share it: its calls are made one after the other."""
 
     _lock: threading.RLock
-    _reads: ClassVar[c.Reads]
+    _reads: c.Reads
     # The same calls, which let other threads run meanwhile.
-    _long_reads: ClassVar[c.Reads]
+    _long_reads: c.Reads
 
     def _begin(self, units: Units) -> None:
         if units not in ("bytes", "code points"):
@@ -85,6 +85,11 @@ class Shown(Generic[AnyStr]):
 
     def _shown(self, data: bytes) -> AnyStr:
         return cast(AnyStr, data if self._points is None else decoded(data))
+
+    def _spelled(self, data: Union[given.Buffer, str]) -> bytes:
+        if isinstance(data, str) == (self._points is None):
+            raise TypeError("str goes into a text of code points, and bytes into another one")
+        return encoded(data) if isinstance(data, str) else given.data(data)
 
     def _byte(self, pos: int) -> int:
         """How many bytes stand before a position."""

@@ -3,7 +3,7 @@ from __future__ import annotations
 
 import ctypes
 import os
-from collections.abc import Iterable, Iterator, Mapping
+from collections.abc import Callable, Iterable, Iterator, Mapping
 from ctypes import byref, c_uint32, c_uint64
 from typing import Any, AnyStr, Literal, Optional, Union, overload
 
@@ -11,7 +11,6 @@ from . import _given as given
 from . import _library as c
 from ._answers import Damaged, FrontsDiffer, Looks, NameRange, Refused, Settling, Taking, TakingKind, Unpacking, done
 from ._changing import Changing, edits, takes
-from ._code_points import encoded
 from ._composing import INSERT
 from ._deltas import Delta
 from ._given import Buffer
@@ -155,11 +154,6 @@ class Text(Changing[AnyStr]):
         return self._file(c.long_calls.vialshoal_save)
 
     # -- edits
-
-    def _spelled(self, data: Union[Buffer, str]) -> bytes:
-        if isinstance(data, str) == (self._points is None):
-            raise TypeError("str goes into a text of code points, and bytes into another one")
-        return encoded(data) if isinstance(data, str) else given.data(data)
 
     @edits
     def insert(self, pos: int, data: AnyStr, looks: Optional[Looks] = None) -> list[bytes]:
@@ -369,8 +363,18 @@ class Past(Shown[AnyStr]):
 
     def __init__(self, text: Text[AnyStr], fronts: Fronts) -> None:
         asked = given.fronts(given.instance(text, Text)._asked(fronts))
+        self._open(text, lambda past: c.long_calls.vialshoal_past(text._handle, asked, len(asked), past))
+
+    @classmethod
+    def _opened(cls, text: Shown[AnyStr], opens: Callable[[Any], Any]) -> Past[AnyStr]:
+        """A text as it was, which a call opens."""
+        made = cls.__new__(cls)
+        made._open(text, opens)
+        return made
+
+    def _open(self, text: Shown[AnyStr], opens: Callable[[Any], Any]) -> None:
         self._begin(text.units)
         with text._lock:
-            done(c.long_calls.vialshoal_past(text._handle, asked, len(asked), self._handle))
+            done(opens(self._handle))
         if self._points is not None:
             self._points.follow([(INSERT, 0, self._length())], self._range)

@@ -7,10 +7,17 @@ const AGAIN_MS = 500;
 const HELD_MS = 20;
 const NONCE_BYTES = 32;
 // How the server ends a WebSocket whose secret is wrong, and one whose engine has ended.
-export const WRONG_SECRET = 1008;
-export const NO_ENGINE = 1011;
+const WRONG_SECRET = 1008;
+const NO_ENGINE = 1011;
 
 const hex = (bytes) => [...new Uint8Array(bytes)].map((one) => one.toString(16).padStart(2, "0")).join("");
+
+/** What a user is told of an end. */
+function wordsOf(code, reason) {
+  if (code === WRONG_SECRET) return "This page can't be opened so: open the file that bin/note web has named.";
+  return code === NO_ENGINE ? `${reason} Trying again. What was answered is kept.`
+    : "bin/note web has ended. What was answered is kept. This page goes on when it runs again.";
+}
 
 /** What shows that somebody has the key, as `guard.py` spells it. */
 async function proof(key, who, ...nonces) {
@@ -32,7 +39,7 @@ export class Connection {
   #held = [];
   #timer;
 
-  /** `told` is told of `came(line)`, of `ended(code, reason)`, which says whether to connect at once, and of `waits(many)` while
+  /** `told` is told of `came(line)`, of `ended(words)`, which says whether to connect at once, and of `waits(many)` while
    * lines wait; `isBusy()` says whether they are to, and `settles()` ends that. */
   constructor(told) {
     this.#told = told;
@@ -114,7 +121,7 @@ export class Connection {
     // What was answered was done.
     while (this.#held.length) this.#came(this.#held.shift());
     const isWaitedFor = Boolean(this.#key) && code !== WRONG_SECRET;
-    const isAtOnce = this.#told.ended(code, reason);
+    const isAtOnce = this.#told.ended(wordsOf(code, reason));
     if (isWaitedFor) setTimeout(() => this.open(), isAtOnce ? 0 : AGAIN_MS);
   }
 }

@@ -1,7 +1,6 @@
-// The page of a note: a connection to the note's engine, and what is shown of it.
+// The page of a note: a way to the note's engine, and what is shown of it.
 import { Changes, isHeard } from "./aloud.js";
 import { Client } from "./client.js";
-import { Connection, NO_ENGINE, WRONG_SECRET } from "./connection.js";
 import { Editor, paste } from "./editor.js";
 import { Finding } from "./finding.js";
 import { Formatted } from "./formatted.js";
@@ -28,21 +27,23 @@ const WAITING = 100;
 /** @type {(id: string) => any} */
 const element = (id) => document.getElementById(id);
 
-class Page {
-  #connection = new Connection({
-    came: (line) => this.#came(line),
-    ended: (code, reason) => this.#ended(code, reason),
-    isBusy: () => this.editor.composing.isOn,
-    waits: (many) => this.#waits(many),
-    settles: () => this.#settle(),
-  });
+export class Page {
+  #connection;
   // Who talks to the engine; none while there is no connection. And who did so last.
   #client;
   #last;
   #cursorTimer;
   #isRenamed = false;
 
-  constructor() {
+  /** `connects` gives the way to the engine, which tells what comes; `lists` shows the user's other notes, where that isn't done here. */
+  constructor(connects, lists = () => this.notes.show()) {
+    this.#connection = connects({
+      came: (line) => this.#came(line),
+      ended: (words) => this.#ended(words),
+      isBusy: () => this.editor.composing.isOn,
+      waits: (many) => this.#waits(many),
+      settles: () => this.#settle(),
+    });
     this.editor = new Editor(element("text"), {
       edit: (changes) => this.#client?.edit(changes), moved: () => this.#moved(), changed: (place) => this.changes.at(place),
       takes: (change) => this.review?.suggesting.takes(change),
@@ -65,11 +66,11 @@ class Page {
     opensLinks(cm);
     isHeard(cm, "Text of the note");
     printsAll(() => this.#printed());
-    this.#bind();
+    this.#bind(lists);
     this.#connection.open();
   }
 
-  #bind() {
+  #bind(lists) {
     const { cm } = this.editor;
     this.#commands();
     cm.setOption("extraKeys", { ...SIGN_KEYS, "Ctrl-B": "bold", "Cmd-B": "bold", "Ctrl-H": "replace" });
@@ -83,7 +84,7 @@ class Page {
       cm.focus();
     });
     element("history").addEventListener("click", () => this.past.show());
-    element("notes").addEventListener("click", () => this.notes.show());
+    element("notes").addEventListener("click", lists);
     element("format").addEventListener("click", () => this.formatted.toggle());
     element("writers").addEventListener("click", () => {
       this.#settle();
@@ -205,7 +206,7 @@ class Page {
     this.#moved();
   }
 
-  #ended(code, reason) {
+  #ended(words) {
     this.#client?.end();
     this.#client = undefined;
     this.editor.types = false;
@@ -214,9 +215,7 @@ class Page {
       this.#isRenamed = false;
       return true;
     }
-    const words = { [WRONG_SECRET]: "This page can't be opened so: open the file that bin/note web has named.",
-      [NO_ENGINE]: `${reason} Trying again. What was answered is kept.` };
-    showState(words[code] ?? "bin/note web has ended. What was answered is kept. This page goes on when it runs again.", true);
+    showState(words, true);
     return false;
   }
 
@@ -269,5 +268,3 @@ class Page {
     }, CURSOR_MS);
   }
 }
-
-new Page();

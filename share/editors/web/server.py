@@ -16,15 +16,15 @@ from share.editors.web import guard, listing
 from share.editors.web.bridge import MOST_MESSAGE, bridged
 from share.editors.web.loopback import BACKLOG, OwnSocket
 from share.engine.protocol import serialize
+from share.relay.page_files import CODEMIRROR
 from share.text.errors import Trouble
 
 HERE = pathlib.Path(__file__).absolute().parent
-CODEMIRROR = pathlib.Path("/usr/share/javascript/codemirror")
 PAGE_FILES = ["secret.js", "page.js", "page.css", "text.css", "review.css", "aloud.js", "card.js", "cards.js", "client.js",
               "composing.js", "connection.js", "drafts.js", "edited.js", "editor.js", "finding.js", "formatted.js", "forms.js",
-              "gathered.js", "graphemes.js", "keys.js", "links.js", "margin.js", "markdown.js", "notes.js", "others.js", "past.js",
-              "people.js", "places.js", "present.js", "printing.js", "review.js", "said.js", "shown.js", "since.js", "state.js",
-              "stretches.js", "suggesting.js", "threads.js", "writers.js"]
+              "gathered.js", "graphemes.js", "keys.js", "links.js", "local.js", "margin.js", "markdown.js", "notes.js",
+              "others.js", "past.js", "people.js", "places.js", "present.js", "printing.js", "review.js", "said.js", "shown.js",
+              "since.js", "state.js", "stretches.js", "suggesting.js", "threads.js", "writers.js"]
 LIBRARY = ["lib/codemirror.js", "lib/codemirror.css", "addon/search/searchcursor.js"]
 # What one view needs alone: its address, its file, and the package of Debian's that has it.
 MARKDOWN = "/markdown-it/markdown-it.js", pathlib.Path("/usr/share/javascript/markdown-it/markdown-it.js"), "libjs-markdown-it"

@@ -69,6 +69,15 @@ export async function opened(keys, raw, zeroBits = ZERO_BITS) {
   return one;
 }
 
+/** What an entry says that was found right, and that this browser has kept since.
+ * @param {NoteKeys} keys @param {Uint8Array} raw @returns {Promise<Entry>} */
+export async function openedKept(keys, raw) {
+  const [head, nonce] = [raw.slice(0, HEAD_BYTES), raw.slice(HEAD_BYTES, HEAD_BYTES + NONCE_BYTES)];
+  const body = await unboxed(keys.seal, nonce, raw.slice(HEAD_BYTES + NONCE_BYTES, -SIGNED_BYTES), head);
+  if (!body) throw new Trouble("What this browser keeps of the note was changed. Forget the note here, and open its link again.");
+  return { ...headOf(raw), body };
+}
+
 /** Raises Bad where an entry says what can't be.
  * @param {NoteKeys} keys @param {Entry} one @param {number} zeroBits */
 async function check(keys, one, zeroBits) {

@@ -11,14 +11,16 @@ import { Away, Refused, RelayLine } from "./relay.js";
 const [FULL_MS, RATE_MS] = [60_000, 5_000];
 const AT_ONCE = 200;
 
-/** How a note stands: whether the relay is reached, in words where not, how many entries it lacks, how much of its log was read, and who
- * else is on.
- * @typedef {{ isUp: boolean, words: string, unsent: number, read: number, of: number, bad: number,
- *   people: import("./presence.js").Person[] }} Standing */
+/** How a note stands: whether the relay is reached, in words where not, how many entries it lacks, and how much of its log was read.
+ * @typedef {{ isUp: boolean, words: string, unsent: number, read: number, of: number, bad: number }} Standing */
 
 export class Followed {
   /** @type {Standing} */
-  standing = { isUp: false, words: "", unsent: 0, read: 0, of: 0, bad: 0, people: [] };
+  standing = { isUp: false, words: "", unsent: 0, read: 0, of: 0, bad: 0 };
+  // Each tab is an editor of its own to others; what it says goes by the one that has the line.
+  presence;
+  // Under which number is typed in this tab.
+  site = 0;
   #keys;
   #id;
   #url;
@@ -29,8 +31,6 @@ export class Followed {
   #ends = new AbortController();
   /** @type {RelayLine | null} */
   #line = null;
-  /** @type {Presence | null} */
-  #presence = null;
   // What the relay tells of the note, until something comes of it.
   #told = "";
   #turn = Promise.resolve();
@@ -49,7 +49,12 @@ export class Followed {
     this.#read = read;
     this.#channel = new BroadcastChannel(`vialshoal ${this.#id}`);
     this.#channel.onmessage = ({ data }) => this.#heard(data);
+    this.presence = new Presence(keys, (raw) => {
+      this.#line?.say(raw);
+      this.#channel.postMessage({ said: raw });
+    }, () => this.#changed(false));
     this.#channel.postMessage("who");
+    this.#next(() => this.#sayYou());
     const lock = { signal: this.#ends.signal };
     navigator.locks.request(`vialshoal ${this.#id}`, lock, () => this.#lead()).catch((why) => {
       if (!this.#ends.signal.aborted) this.#stands({ words: String(why?.message ?? why) });
@@ -62,6 +67,12 @@ export class Followed {
     else this.#channel.postMessage("send");
   }
 
+  /** Has all tabs show what was kept by this one, and it be sent. */
+  kept() {
+    this.#channel.postMessage("kept");
+    this.send();
+  }
+
   /** Has all tabs show what else is kept of the note now. */
   changed() {
     this.#stands({});
@@ -69,47 +80,64 @@ export class Followed {
 
   /** Has others see by which name and colour this browser's user goes. */
   isCalled() {
-    if (this.#line) this.#next(() => this.#sayYou());
-    else this.#channel.postMessage("you");
+    this.#channel.postMessage("you");
+    this.#next(() => this.#sayYou());
   }
 
   close() {
     this.#ends.abort();
-    void this.#presence?.leave().then(() => this.#line?.close());
-    this.#channel.close();
+    void this.presence.leave().then(() => {
+      this.#line?.close();
+      this.#channel.close();
+    });
     clearTimeout(this.#later);
   }
 
-  /** @param {unknown} data */
+  /** @param {any} data what another tab of this browser says */
   #heard(data) {
+    if (this.#ends.signal.aborted) return;
     if (data === "who" && this.#line) this.#channel.postMessage({ standing: this.standing, hasEntries: false });
     else if (data === "send" && this.#line) this.#next(() => this.#give());
-    else if (data === "you" && this.#line) this.#next(() => this.#sayYou());
-    else if (typeof data === "object" && data && !this.#line) {
-      const { standing, hasEntries } = /** @type {any} */ (data);
-      this.standing = standing;
-      this.#changed(hasEntries);
-    }
+    else if (data === "kept") this.#changed(true);
+    else if (data === "you") this.#next(() => this.#sayYou());
+    else if (data?.said) this.#said(data.said);
+    else if (data?.heard) this.presence.heard(data.heard);
+    else if (data?.standing && !this.#line) this.#stood(data);
+  }
+
+  /** Another tab shows itself, for which this one may have the line.
+   * @param {Uint8Array} raw */
+  #said(raw) {
+    this.presence.heard(raw, true);
+    this.#line?.say(raw);
+  }
+
+  /** @param {{ standing: Standing, hasEntries: boolean }} told by the tab that has the line */
+  #stood({ standing, hasEntries }) {
+    this.standing = standing;
+    if (standing.isUp) this.presence.up();
+    else this.presence.down();
+    this.#changed(hasEntries);
   }
 
   /** Has the line until this tab ends. */
   async #lead() {
     if (this.#ends.signal.aborted) return;
-    const presence = new Presence(this.#keys, (raw) => this.#line?.say(raw), () => this.#stands({ people: presence.people() }));
-    this.#presence = presence;
     this.#line = new RelayLine(this.#keys, this.#url, {
       up: () => {
         this.#told = "";
-        this.#next(() => this.#sayYou());
-        presence.up();
+        this.presence.up();
         this.#next(() => this.#readOn());
       },
       down: (words) => {
-        presence.down();
+        this.presence.down();
         this.#next(async () => this.#stands({ isUp: false, words, unsent: await this.#store.unsentCount(this.#id) }));
       },
       came: (page) => this.#next(() => this.#took(page)),
-      said: (raw) => presence.heard(raw),
+      said: (raw) => {
+        this.presence.heard(raw);
+        this.#channel.postMessage({ heard: raw });
+      },
       told: (_, words) => {
         this.#told = words;
         this.#stands({ words });
@@ -231,7 +259,7 @@ export class Followed {
 
   async #sayYou() {
     const { name, colour } = await this.#store.you();
-    this.#presence?.isCalled({ name, colour, site: (await this.#note()).author?.site ?? 0 });
+    this.presence.isCalled({ name, colour, site: this.site || ((await this.#note()).author?.site ?? 0) });
   }
 
   async #note() {

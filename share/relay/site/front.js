@@ -9,6 +9,8 @@ import { Shown } from "./shown.js";
 import { Store } from "./store.js";
 import { keepVersion } from "./version.js";
 
+// Where texts are shown, if the relay has what that needs.
+const textPage = document.querySelector("meta[name=text]")?.getAttribute("content") ?? "";
 const COLOURS = ["#c0392b", "#2471a3", "#1e8449", "#7d3c98", "#a04000", "#117a65"];
 const relay = document.querySelector("meta[name=relay]")?.getAttribute("content") || location.origin;
 const NO_CIPHERS = "This browser lacks Ed25519, by which notes are signed: nothing can be opened here. Chromium 137, Firefox 129, Safari 17 and "
@@ -50,6 +52,13 @@ function show(store, note) {
   return turn;
 }
 
+/** Goes to a note's text, where it can be shown; whether it can.
+ * @param {string} id */
+function goToText(id) {
+  if (textPage) location.assign(`${textPage}#${id}`);
+  return Boolean(textPage);
+}
+
 async function copy() {
   const field = byId("address");
   try {
@@ -86,8 +95,8 @@ async function openLink(store, given, name) {
   const keys = await NoteKeys.of(key);
   const note = noteOf(keys, url, name || `Note ${(await store.notes()).length + 1}`);
   await store.add(note);
-  await show(store, await store.note(note.id) ?? note);
   await sayWhetherItLasts(true);
+  if (!goToText(note.id)) await show(store, await store.note(note.id) ?? note);
 }
 
 /** @param {Store} store @param {string} name */
@@ -135,7 +144,9 @@ function listen(store) {
     if (file) await openFile(store, file);
     target.value = "";
   });
+  on("you", "submit", async () => {});
   on("copy", "click", copy);
+  on("text", "click", async () => goToText(shown?.id ?? ""));
   on("save", "click", async () => shown?.save());
   on("saved", "change", async ({ target }) => target.files[0] && shown?.read(target.files[0]));
   on("rename", "click", async () => {
@@ -172,8 +183,20 @@ async function begin() {
   await list(store);
   await sayWhetherItLasts(false);
   byId("front").hidden = false;
+  byId("text").hidden = !textPage;
+  byId("no-text").hidden = Boolean(textPage);
   does(() => keepVersion(import.meta.url, does));
   if (given.length > 1) await openLink(store, given.slice(1));
+  else await showLast(store);
+}
+
+/** Shows the note again whose text was left in this tab.
+ * @param {Store} store */
+async function showLast(store) {
+  const id = sessionStorage.getItem("note");
+  sessionStorage.removeItem("note");
+  const note = id && await store.note(id);
+  if (note) await show(store, note);
 }
 
 does(begin);

@@ -7,9 +7,11 @@
   const { origin, pathname: own, searchParams } = new URL(worker.location.href);
   const [FRONT, VERSION, CACHES] = ["/", searchParams.get("page") ?? "", "page "];
   const CACHE = CACHES + VERSION;
-  const NAMED = /(?<=["'])\.\/([a-z]+\.([0-9a-f]{32})\.(?:js|css))(?=["'])/g;
-  const ADDRESS = /^\/[a-z]+\.([0-9a-f]{32})\.(?:js|css)$/;
-  const TYPES = { "/": "text/html", js: "text/javascript", css: "text/css" };
+  const NAMED = /(?<=["'])\.\/([a-z]+\.([0-9a-f]{32})\.(?:js|css|html|wasm))(?=["'])/g;
+  const ADDRESS = /^\/[a-z]+\.([0-9a-f]{32})\.(?:js|css|wasm)$/;
+  const DOCUMENT = /^\/note\.[0-9a-f]{32}\.html$/;
+  const TYPES = { "/": "text/html; charset=utf-8", html: "text/html; charset=utf-8", js: "text/javascript; charset=utf-8",
+    css: "text/css; charset=utf-8", wasm: "application/wasm" };
   // What is kept of what a server says of a file. Nothing else is, since some of it loads more.
   const RULES = ["Content-Security-Policy", "Cross-Origin-Opener-Policy", "Cross-Origin-Resource-Policy", "Permissions-Policy",
     "Referrer-Policy", "X-Content-Type-Options", "X-DNS-Prefetch-Control", "X-Frame-Options"];
@@ -22,7 +24,7 @@
     const found = Array.from(new Uint8Array(await crypto.subtle.digest("SHA-256", data)), (byte) => byte.toString(16).padStart(2, "0")).join("");
     if (!answer.ok || !digest || !found.startsWith(digest)) throw new Error(`${address} isn't of the version ${VERSION}.`);
     const type = TYPES[/** @type {keyof TYPES} */ (address.split(".").pop() ?? "")];
-    const headers = new Headers({ "Content-Type": `${type}; charset=utf-8` });
+    const headers = new Headers({ "Content-Type": type });
     for (const name of RULES) if (answer.headers.has(name)) headers.set(name, answer.headers.get(name) ?? "");
     return new Response(data, { headers });
   }
@@ -63,6 +65,12 @@
     }
   }
 
+  /** The page of a note's text, of this version alone: whoever has the address of another one comes to the front.
+   * @param {string} address */
+  async function text(address) {
+    return await (await caches.open(CACHE)).match(address) ?? Response.redirect(FRONT);
+  }
+
   /** What else the server has there, as text alone: a document that runs something could read all notes.
    * @param {string} address */
   async function asText(address) {
@@ -89,6 +97,8 @@
     } else if (method === "GET" && mode === "navigate" && pathname === FRONT) {
       event.respondWith(front());
       event.waitUntil(forget());
+    } else if (method === "GET" && mode === "navigate" && DOCUMENT.test(pathname)) {
+      event.respondWith(text(pathname));
     } else if (mode === "navigate") {
       event.respondWith(asText(url));
     }

@@ -3,19 +3,27 @@ import { equal, hex, join, number, numberAt, random } from "./bytes.js";
 import { boxed, unboxed } from "./keys.js";
 
 /** @typedef {import("./keys.js").NoteKeys} NoteKeys */
+/** A place in a text, by the site and the offset of the character before it; zeros at the front.
+ * @typedef {[number, number]} Place */
 /** What an editor says of itself.
- * @typedef {{ engine: Uint8Array, editor: Uint8Array, site: number, colour: string, name: string, count: number, leaves: boolean }} Shown */
+ * @typedef {{ engine: Uint8Array, editor: Uint8Array, site: number, colour: string, name: string, count: number, leaves: boolean,
+ *   cursor: Place | null, anchor: Place | null }} Shown */
 /** What an engine says of itself: that it is on, and how it hears others.
  * @typedef {{ engine: Uint8Array, count: number, hears: number }} Beat */
-/** Somebody who is on.
+/** What somebody is called.
  * @typedef {{ name: string, colour: string }} Person */
+/** Somebody who is on, and where.
+ * @typedef {Person & { who: string, site: number, cursor: Place | null, anchor: Place | null, own: boolean }} Present */
 
 export const HEARS = { table: 0, channel: 1, fromNow: 2, nothing: 3 };
 const [ENGINE_BYTES, EDITOR_BYTES, HEAD_BYTES, NAME_BYTES, BEAT_BYTES] = [8, 16, 50, 160, 216];
-const [HEARS_AT, MOST_PRESENCE, NONCE_BYTES, BOX_TAG_BYTES, OF_PRESENCE] = [189, 256, 12, 16, 5];
+const [FLAGS_AT, HEARS_AT, MOST_PRESENCE, NONCE_BYTES, BOX_TAG_BYTES, OF_PRESENCE] = [37, 189, 256, 12, 16, 5];
 const [MOST_NAME, MOST_TOKENS, MOST_SHOWN] = [40, 4_096, 200];
-// How often one says that one is on, how long one is on then, and how soon all is said again to who has come, at most.
-const [BEAT_MS, ON_MS, AGAIN_MS] = [5_000, 15_000, 1_000];
+// How often one says that one is on, how long one is on then, how soon all is said again to who has come, and how often where one is.
+const [BEAT_MS, ON_MS, AGAIN_MS, MOVED_MS] = [5_000, 15_000, 1_000, 100];
+const [HAS_CURSOR, HAS_ANCHOR, TEXT_BIT, MOST_OFFSET] = [1, 2, 4, 2 ** 24];
+/** @type {Place} */
+const AT_FRONT = [0, 0];
 // What a name doesn't have: controls, what turns the direction of writing, and what is no character.
 const NO_NAME = /[\p{Cc}\p{Cs}\u061c\u200e\u200f\u2028-\u202e\u2066-\u2069]/gu;
 
@@ -33,13 +41,14 @@ function filled(bytes, size) {
   return found;
 }
 
-/** What an editor says, whose cursor nobody sees.
+/** What an editor says.
  * @param {Shown} one */
-export function ofEditor({ engine, editor, site, colour, name, count, leaves }) {
+export function ofEditor({ engine, editor, site, colour, name, count, leaves, cursor, anchor }) {
   const digits = colour.match(/[0-9a-f]{2}/gi) ?? [];
   const named = filled(join(name.replace(/\p{Cs}/gu, "")), NAME_BYTES);
-  return join(engine, number(0, 4), number(count, 4), editor, number(site, 2), digits.map((two) => parseInt(two, 16)), new Uint8Array(13),
-    named, leaves ? [0] : []);
+  const places = [cursor, anchor].flatMap((one) => [number((one ?? AT_FRONT)[0], 2), number((one ?? AT_FRONT)[1], 4)]);
+  return join(engine, number(0, 4), number(count, 4), editor, number(site, 2), digits.map((two) => parseInt(two, 16)),
+    [(cursor ? HAS_CURSOR : 0) | (anchor ? HAS_ANCHOR : 0)], ...places, named, leaves ? [0] : []);
 }
 
 /** What an engine says, which lacks nothing.
@@ -47,13 +56,22 @@ export function ofEditor({ engine, editor, site, colour, name, count, leaves }) 
 export const ofEngine = ({ engine, count, hears }) => join(engine, new Uint8Array(8), number(count, 4),
   new Uint8Array(HEARS_AT - 20), [hears], new Uint8Array(BEAT_BYTES - HEARS_AT - 1));
 
+/** A place that is told at some bytes, if it is one.
+ * @param {Uint8Array} data @param {number} at @param {number} flag @returns {Place | null} */
+function placeIn(data, at, flag) {
+  const [site, offset] = [numberAt(data, at, 2), numberAt(data, at + 2, 4)];
+  // Of another text its characters have the names of others here.
+  return (data[FLAGS_AT] & flag) && data[FLAGS_AT] < 2 ** TEXT_BIT && offset < MOST_OFFSET && (site || !offset) ? [site, offset] : null;
+}
+
 /** What an editor has said; nothing where these bytes are something else.
  * @param {Uint8Array} data @returns {Shown | null} */
 export function readEditor(data) {
   if (data.length < HEAD_BYTES || data.length > HEAD_BYTES + NAME_BYTES + 1 || numberAt(data, ENGINE_BYTES, 4) > 0) return null;
   const name = new TextDecoder().decode(data.subarray(HEAD_BYTES, HEAD_BYTES + NAME_BYTES)).replaceAll("\ufffd", "");
   return { engine: data.slice(0, ENGINE_BYTES), editor: data.slice(16, 16 + EDITOR_BYTES), site: numberAt(data, 32, 2),
-    colour: `#${hex(data.subarray(34, 37))}`, name: clean(name), count: numberAt(data, 12, 4),
+    colour: `#${hex(data.subarray(34, FLAGS_AT))}`, name: clean(name), count: numberAt(data, 12, 4),
+    cursor: placeIn(data, FLAGS_AT + 1, HAS_CURSOR), anchor: placeIn(data, FLAGS_AT + 7, HAS_ANCHOR),
     leaves: data.length === HEAD_BYTES + NAME_BYTES + 1 };
 }
 
@@ -124,9 +142,15 @@ export class Presence {
   #hears = new Map();
   /** @type {Map<string, Shown>} */
   #shown = new Map();
+  /** @type {Set<string>} */
+  #own = new Set();
   #told = "[]";
   #turn = Promise.resolve();
   #timer;
+  /** @type {{ cursor: Place | null, anchor: Place | null }} */
+  #places = { cursor: null, anchor: null };
+  /** @type {ReturnType<typeof setTimeout> | undefined} */
+  #moving;
 
   /** @param {NoteKeys} keys @param {(raw: Uint8Array) => void} say @param {() => void} changed is called as somebody comes or goes */
   constructor(keys, say, changed) {
@@ -136,11 +160,13 @@ export class Presence {
     this.#timer = setInterval(() => this.#next(() => this.#sayDue()), AGAIN_MS);
   }
 
-  /** Those who are on beside this page.
-   * @returns {Person[]} */
+  /** Those who are on beside this page; other tabs of this browser are its user's own.
+   * @returns {Present[]} */
   people() {
-    const on = [...this.#shown.values()].filter(({ engine }) => this.#isOn(hex(engine))).slice(0, MOST_SHOWN);
-    return on.map(({ name, colour }) => ({ name, colour })).sort((one, other) => one.name.localeCompare(other.name));
+    const on = [...this.#shown].filter(([, { engine }]) => this.#isOn(hex(engine))).slice(0, MOST_SHOWN);
+    return on.map(([who, { engine, name, colour, site, cursor, anchor }]) => (
+      { who, name, colour, site, cursor, anchor, own: this.#own.has(hex(engine)) }))
+      .sort((one, other) => one.name.localeCompare(other.name));
   }
 
   /** Takes over what this page's user is called.
@@ -151,8 +177,20 @@ export class Presence {
     if (isNew && this.#isUp) this.#next(() => this.#showYou(false));
   }
 
+  /** Takes over where this page's user is in the text, which is told where somebody is there to hear it.
+   * @param {Place | null} cursor @param {Place | null} anchor */
+  isAt(cursor, anchor) {
+    this.#places = { cursor, anchor };
+    if (!this.#isUp || !this.people().length || this.#moving) return;
+    this.#moving = setTimeout(() => {
+      this.#moving = undefined;
+      this.#next(() => this.#showYou(false));
+    }, MOVED_MS);
+  }
+
   /** There is a line, from now on. */
   up() {
+    if (this.#isUp) return;
     this.#isUp = true;
     this.#next(async () => {
       await this.#beat(HEARS.fromNow);
@@ -162,17 +200,19 @@ export class Presence {
 
   /** There is none. */
   down() {
+    if (!this.#isUp) return;
     this.#isUp = false;
     this.#hears.clear();
     this.#tell();
   }
 
-  /** Takes over what somebody said.
+  /** Takes over what somebody said, or another tab of this browser.
    * @param {Uint8Array} raw */
-  heard(raw) {
+  heard(raw, isOwn = false) {
     this.#next(async () => {
       const data = await openedPresence(this.#keys, raw);
       if (!data || equal(data.slice(0, ENGINE_BYTES), this.#engine)) return;
+      if (isOwn) this.#own.add(hex(data.slice(0, ENGINE_BYTES)));
       const [beat, shown] = [readEngine(data), readEditor(data)];
       if (beat) this.#heardEngine(beat);
       else if (shown) this.#heardEditor(shown);
@@ -184,6 +224,7 @@ export class Presence {
   /** Says that this page is on no more. */
   leave() {
     clearInterval(this.#timer);
+    clearTimeout(this.#moving);
     this.#next(async () => {
       await this.#showYou(true);
       await this.#beat(HEARS.nothing);
@@ -242,7 +283,7 @@ export class Presence {
 
   /** @param {boolean} leaves */
   async #showYou(leaves) {
-    const one = { ...this.#you, engine: this.#engine, editor: this.#editor, count: this.#counted(), leaves };
+    const one = { ...this.#you, ...this.#places, engine: this.#engine, editor: this.#editor, count: this.#counted(), leaves };
     this.#say(await sealedPresence(this.#keys, ofEditor(one)));
   }
 

@@ -136,7 +136,7 @@ export class Shown {
     const isFull = standing.isUp && standing.words;
     byId("standing").textContent = this.#words(standing);
     byId("standing").classList.toggle("trouble", Boolean(isFull));
-    this.#showPeople(standing.people);
+    this.#showPeople(this.#followed.presence.people().filter(({ own }) => !own));
     if (hasEntries) await this.#count();
     if (!this.#hasEnded) this.#showFacts(note);
   }

@@ -34,15 +34,15 @@ export class Spare {
   /** Has one be there, all of whose log was read; where somebody has claimed it meanwhile another one is searched for.
    * @param {number} [zeroBits] */
   async keep(zeroBits) {
-    if (this.#search || this.#ends.signal.aborted) return;
-    this.#search = this.#keep(zeroBits);
+    if (this.#ends.signal.aborted) return;
+    this.#search ??= this.#keep(zeroBits).finally(() => {
+      this.#search = null;
+    });
     try {
       await this.#search;
     } catch (why) {
       // Where it was broken off nothing is lost.
       if (!this.#ends.signal.aborted) throw why;
-    } finally {
-      this.#search = null;
     }
   }
 

@@ -8,9 +8,13 @@ const GONE = "What this browser kept was removed while the page was open. Notes 
 const WORDS = { QuotaExceededError: NO_ROOM, VersionError: NEWER, InvalidStateError: GONE, NotFoundError: GONE };
 
 /** A note as it is kept: by its identity, in hexadecimal digits. `place` is how far its relay's log was read, after `size` entries;
- * `author` the secret and the number of who founded it here, `spare` those of a number that was searched for, and the counter of its claim.
+ * `author` the secret and the number of who founded it here, `spare` those of a number that was searched for, and the counter of its claim;
+ * `numbers` those that were taken so, of which each tab writes under one; `people` what those with some numbers are called.
  * @typedef {{ id: string, key: Uint8Array, url: string, name: string, place: string, size: number, heard: number, bad: number,
- *   author: { secret: Uint8Array, site: number } | null, spare?: { secret: Uint8Array, site: number, counter: bigint } | null }} Note */
+ *   author: { secret: Uint8Array, site: number } | null, spare?: Searched | null, numbers?: Searched[],
+ *   people?: Record<number, string> }} Note */
+/** A number that was searched for, and whose claim may be in the log.
+ * @typedef {{ secret: Uint8Array, site: number, counter: bigint, isClaimed?: boolean }} Searched */
 /** An entry, named by its hash. The relay may lack what isn't sent.
  * @typedef {{ hash: string, raw: Uint8Array, isSent: boolean }} Kept */
 /** @typedef {{ name: string, colour: string }} You */
@@ -124,14 +128,14 @@ export class Store {
   }
 
   /** Keeps entries, and what else changes of a note with them; how many are new.
-   * @param {string} id @param {Kept[]} entries @param {Partial<Note>} changes */
+   * @param {string} id @param {Kept[]} entries @param {Partial<Note> | ((note: Note) => Partial<Note>)} changes */
   keep(id, entries, changes = {}) {
     return this.#do("readwrite", async (store) => {
       const note = await asked(store("notes").get(id));
       if (!note) throw new DOMException("", "NotFoundError");
       let many = 0;
       for (const one of entries) many += await keepOne(store("entries"), id, one);
-      await asked(store("notes").put({ ...note, ...changes, ...(many ? { heard: Date.now() } : {}) }));
+      await asked(store("notes").put({ ...note, ...(typeof changes === "function" ? changes(note) : changes), ...(many ? { heard: Date.now() } : {}) }));
       return many;
     });
   }

@@ -1,5 +1,5 @@
 // Workers begin from this page's own files alone.
-const policy = /** @type {any} */ (globalThis).trustedTypes?.createPolicy("page", {
+const policy = /** @type {any} */ (globalThis).trustedTypes?.createPolicy("relay", {
   createScriptURL: (/** @type {string} */ address) => {
     if (new URL(address).origin !== location.origin) throw new TypeError(address);
     return address;

@@ -5,6 +5,7 @@ use crate::note_text::NoteText;
 use crate::own_edit::OwnEdit;
 use char_files::{SiteNo, TextNo};
 use fallible::{Global, Vec};
+use list_changes::Change;
 use looks::Refusal;
 use note_admission::NoteChains;
 use note_bodies::TEXTS;
@@ -31,6 +32,11 @@ pub(crate) fn edit(
     outbox: &mut Outbox,
 ) -> Result<u32, EditRefusal> {
     texts[at].edit(edit, outbox)
+}
+
+// What changed of what a text shows since this was asked for, or `None` where it was begun anew.
+pub(crate) fn changes(texts: &mut [NoteText], at: usize) -> Option<Vec<Change>> {
+    texts[at].changes()
 }
 
 // A message of this number may come to a text. Refused `OutOfMemory` alone.

@@ -2,8 +2,10 @@
 use crate::each_text;
 use crate::note_text::NoteText;
 use crate::own_edit::OwnEdit;
+use crate::own_entry::OwnEntry;
 use char_files::{SiteNo, TextNo};
 use fallible::{Global, Vec};
+use list_changes::Change;
 use looks::Refusal;
 use note_admission::{NoteChains, Opening};
 use note_bodies::{Head, TEXTS, messages_of};
@@ -101,6 +103,30 @@ impl Note {
             unreachable!()
         };
         each_text::edit(&mut self.texts, at, edit, outbox)
+    }
+
+    /// What changed of what a text shows since this was asked for, one change after the other; `None` where the text was begun anew since, as
+    /// where a lesser hash came: then all that it showed gives way to what it shows. Own edits are among the changes.
+    ///
+    /// Asks of its caller: `has: text ≤ TEXTS`.
+    pub fn changes(&mut self, text: TextNo) -> Option<Vec<Change>> {
+        let Some(at) = self.place(text) else {
+            unreachable!()
+        };
+        each_text::changes(&mut self.texts, at)
+    }
+
+    /// The entries that say the site's own messages of a text that don't count yet, as those of its edits since the last `update`, in the
+    /// order of their making; none where all count. They are to be added before the next `update`, which takes back what isn't.
+    ///
+    /// Refused `Behind` where one mentions another's character that doesn't count, and `OutOfMemory`.
+    ///
+    /// Asks of its caller: `text ≤ TEXTS`.
+    pub fn own_entries(&self, text: TextNo, author: Hash) -> Result<Vec<OwnEntry>, Refusal> {
+        let Some(at) = self.place(text) else {
+            unreachable!()
+        };
+        self.texts[at].own_entries(&self.key, author)
     }
 
     /// The hash of the last message that counts of a number in a text, as of the last `update`; zeros for none. The number's next message

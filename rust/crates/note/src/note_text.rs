@@ -3,22 +3,26 @@
 
 use crate::own_edit::OwnEdit;
 use char_files::{SiteNo, TextNo};
-use fallible::Global;
+use fallible::{Global, Vec};
+use list_changes::Change;
 use looks::Refusal;
-use note_admission::{NoteChains, TextAdmission};
+use note_admission::{Continuing, NoteChains, TextAdmission};
 use note_entries::{Hash, Saying};
 use note_hashes::NoteKey;
 use note_replicas::take_rest;
 use operations::Op;
+use std::mem::replace;
 use texts::{EditRefusal, Outbox, Replica};
 
 // A replica that takes in what is admitted of its text.
 pub(crate) struct NoteText {
-    admission: TextAdmission,
-    replica: Replica,
+    pub(crate) admission: TextAdmission,
+    pub(crate) replica: Replica,
     // How many of the first operations of both are known to be the same.
-    alike: u64,
-    alloc: Global,
+    pub(crate) alike: u64,
+    // Whether the replica was begun anew since its changes were asked for.
+    anew: bool,
+    pub(crate) alloc: Global,
 }
 
 impl NoteText {
@@ -35,6 +39,7 @@ impl NoteText {
             admission,
             replica,
             alike: 0,
+            anew: false,
             alloc,
         })
     }
@@ -58,6 +63,15 @@ impl NoteText {
         }
     }
 
+    // What changed of what the replica shows since this was asked for, or `None` where the replica was begun anew.
+    pub(crate) fn changes(&mut self) -> Option<Vec<Change>> {
+        let changes = self.replica.changes();
+        if replace(&mut self.anew, false) {
+            return None;
+        }
+        Some(changes)
+    }
+
     // The hash of the last message that is admitted of a number, zeros for none.
     pub(crate) fn last(&self, site: SiteNo) -> Hash {
         self.admission.last(site)
@@ -73,7 +87,9 @@ impl NoteText {
         before: Hash,
         op: Op,
     ) -> Result<Saying, Refusal> {
-        let on = self.admission.builds_on(key, &op)?;
+        let on = self
+            .admission
+            .builds_on(key, &op, &Continuing::new(self.alloc))?;
         key.saying(self.alloc, author, before, op, on)
     }
 
@@ -119,6 +135,7 @@ impl NoteText {
         if self.alike < self.replica.taken_len() {
             self.replica = Replica::new(self.alloc, self.replica.text(), self.replica.site())?;
             self.alike = 0;
+            self.anew = true;
         }
         Ok(())
     }

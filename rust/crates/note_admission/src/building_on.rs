@@ -2,6 +2,7 @@
 //! What a message of one's own has to say that it builds on.
 
 use crate::admitted::Admitted;
+use crate::continuing::Continuing;
 use crate::mentioned::mentioned_ranges;
 use char_files::Name;
 use looks::Refusal;
@@ -29,8 +30,8 @@ fn said_of<D: Digest>(digest: &D, hashes: &[Hash]) -> Option<Hash> {
 }
 
 impl Admitted {
-    /// What the next message of a chain has to say that it builds on, where this is its operation. The log has the operations of what is
-    /// admitted.
+    /// What the next message of a chain has to say that it builds on, where this is its operation, and these messages of the chain come
+    /// between what is admitted and it. The log has the operations of what is admitted.
     ///
     /// Refused `Behind` where it mentions another's character that isn't there, and `OutOfMemory`.
     ///
@@ -40,13 +41,15 @@ impl Admitted {
         log: &Log,
         digest: &D,
         op: &Op,
+        between: &Continuing,
     ) -> Result<Option<Hash>, Refusal> {
         let ranges = mentioned_ranges(self.alloc(), op)?;
         let lasts = self.lasts_beyond(op.site(), &ranges)?;
-        if !are_here(log, &lasts) {
+        let past = between.past(&lasts)?;
+        if !are_here(log, &past) {
             return Err(Refusal::Behind);
         }
-        let hashes = self.hashes_of_inserts(log, &lasts)?;
+        let hashes = self.hashes_of_inserts(log, &past)?;
         Ok(said_of(digest, &hashes))
     }
 }

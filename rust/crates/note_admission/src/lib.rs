@@ -6,6 +6,7 @@ mod admitted;
 mod base_messages;
 mod building_on;
 mod chains;
+mod continuing;
 mod fate;
 mod inserter;
 mod mentioned;
@@ -16,6 +17,7 @@ mod text_admission;
 
 pub use admitted::Admitted;
 pub use chains::Chains;
+pub use continuing::Continuing;
 pub use fate::Fate;
 pub use note_chains::{NoteChains, Opening};
 pub use text_admission::{TextAdmission, Unsettled};

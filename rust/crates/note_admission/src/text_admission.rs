@@ -3,6 +3,7 @@
 
 use crate::admitted::Admitted;
 use crate::chains::Chains;
+use crate::continuing::Continuing;
 use crate::fate::Fate;
 use char_files::{SiteNo, TextNo};
 use fallible::{Global, Vec};
@@ -79,6 +80,11 @@ impl TextAdmission {
         self.admitted.hash(place)
     }
 
+    /// The seq of the last message that is admitted of a number, 0 for none.
+    pub fn front(&self, site: SiteNo) -> u32 {
+        self.log.front(site)
+    }
+
     // The hash of the chain's admitted message of this seq, zeros before the first.
     fn hash_of(&self, site: SiteNo, seq: u32) -> Hash {
         match self.log.place(site, seq) {
@@ -119,11 +125,17 @@ impl TextAdmission {
         }
     }
 
-    /// What the next message of a chain has to say that it builds on, where this is its operation.
+    /// What the next message of a chain has to say that it builds on, where this is its operation, and these messages of the chain come
+    /// between what is admitted and it.
     ///
     /// Refused `Behind` where it mentions another's character that isn't there, and `OutOfMemory`.
-    pub fn builds_on<D: Digest>(&self, digest: &D, op: &Op) -> Result<Option<Hash>, Refusal> {
-        self.admitted.builds_on(&self.log, digest, op)
+    pub fn builds_on<D: Digest>(
+        &self,
+        digest: &D,
+        op: &Op,
+        between: &Continuing,
+    ) -> Result<Option<Hash>, Refusal> {
+        self.admitted.builds_on(&self.log, digest, op, between)
     }
 
     // Admits the next message of a chain, which counts. Refused `OutOfMemory` alone, and then it isn't.

@@ -12,6 +12,9 @@ const OUTER_PAD: u8 = 0x5c;
 /// A key of 32 bytes.
 pub struct HmacKey {
     bytes: [u8; 32],
+    // Both hold the padded key, so that it is hashed once.
+    inner: Sha256,
+    outer: Sha256,
 }
 
 // Adds bytes to what a hasher holds.
@@ -19,37 +22,50 @@ pub(crate) fn add(hasher: &mut Sha256, bytes: &[u8]) {
     hasher.update(bytes);
 }
 
+// The bytes of a key, each xored with the pad.
+fn xored(bytes: [u8; 32], pad: u8) -> [u8; 32] {
+    let mut xored = [0; 32];
+    for i in 0..32 {
+        xored[i] = bytes[i] ^ pad;
+    }
+    xored
+}
+
+// A hasher that holds the padded key.
+fn keyed(bytes: [u8; 32], pad: u8) -> Sha256 {
+    let mut hasher = Sha256::new();
+    hasher.update(xored(bytes, pad));
+    hasher.update([pad; BLOCK - 32]);
+    hasher
+}
+
+// The same hasher again.
+fn again(hasher: &Sha256) -> Sha256 {
+    // It takes no memory.
+    let Ok(copy) = hasher.clone() else {
+        unreachable!()
+    };
+    copy
+}
+
 impl HmacKey {
     /// The key of these bytes.
     pub fn new(bytes: [u8; 32]) -> HmacKey {
-        HmacKey { bytes }
-    }
-
-    // Its bytes, each xored with the pad.
-    fn xored(&self, pad: u8) -> [u8; 32] {
-        let mut xored = [0; 32];
-        for i in 0..32 {
-            xored[i] = self.bytes[i] ^ pad;
+        HmacKey {
+            bytes,
+            inner: keyed(bytes, INNER_PAD),
+            outer: keyed(bytes, OUTER_PAD),
         }
-        xored
-    }
-
-    // A hasher that holds the padded key.
-    fn keyed(&self, pad: u8) -> Sha256 {
-        let mut hasher = Sha256::new();
-        hasher.update(self.xored(pad));
-        hasher.update([pad; BLOCK - 32]);
-        hasher
     }
 
     // A hasher, to which the message is to be added.
     pub(crate) fn begin(&self) -> Sha256 {
-        self.keyed(INNER_PAD)
+        again(&self.inner)
     }
 
     // The HMAC of the message that was added to such a hasher.
     pub(crate) fn finish(&self, hasher: Sha256) -> [u8; 32] {
-        let mut outer = self.keyed(OUTER_PAD);
+        let mut outer = again(&self.outer);
         outer.update(hasher.finalize());
         outer.finalize()
     }

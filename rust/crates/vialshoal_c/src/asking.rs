@@ -7,8 +7,9 @@ use crate::numbers::{
 use crate::outputs::{Replacing, TextChange};
 use crate::session::Session;
 use char_files::SiteNo;
+use fallible::Vec;
 use list_changes::{Change, ChangeKind};
-use texts::Replacement;
+use texts::{Replacement, Replica};
 
 /// What putting something into a room answered: a number, and how much there was to put.
 #[derive(Clone, Copy)]
@@ -60,6 +61,20 @@ fn fill_with_changes(changes: &[Change], room: &mut [TextChange]) {
     }
 }
 
+// Puts changes that are kept into a room, and keeps them no longer if it is long enough.
+pub(crate) fn put_changes(kept: &mut Vec<Change>, room: &mut [TextChange]) -> Put {
+    let need = kept.len() as u64;
+    if room.len() < kept.len() {
+        return Put {
+            number: TOO_SHORT,
+            need,
+        };
+    }
+    fill_with_changes(kept, room);
+    kept.clear();
+    Put { number: 0, need }
+}
+
 // The numbers of sites alike.
 fn fill_with_sites(sites: &[SiteNo], room: &mut [u16]) {
     let mut at = 0;
@@ -82,6 +97,25 @@ fn put_sites(sites: &[SiteNo], room: &mut [u16]) -> Put {
     Put { number: 0, need }
 }
 
+/// Puts the sites of which operations were taken in into a room.
+pub(crate) fn put_sites_of(replica: &Replica, room: &mut [u16]) -> Put {
+    match replica.sites() {
+        Ok(sites) => put_sites(&sites, room),
+        Err(why) => Put::none(u32::from(why.number())),
+    }
+}
+
+/// The front of a site.
+pub(crate) fn tell_front(replica: &Replica, site: u16, front: &mut u32) -> u32 {
+    match SiteNo::new(site) {
+        Some(site) => {
+            *front = replica.front(site);
+            0
+        }
+        None => NO_NUMBER,
+    }
+}
+
 impl Session {
     /// Puts a message into a room, of those that edits sent.
     pub(crate) fn message(&self, index: u64, room: &mut [u8]) -> Put {
@@ -91,26 +125,12 @@ impl Session {
         put_bytes(self.outbox.message(index as usize), room)
     }
 
-    // Puts the changes that are kept into a room, and keeps them no longer if it is long enough.
-    fn hand_changes(&mut self, room: &mut [TextChange]) -> Put {
-        let need = self.told.len() as u64;
-        if room.len() < self.told.len() {
-            return Put {
-                number: TOO_SHORT,
-                need,
-            };
-        }
-        fill_with_changes(&self.told, room);
-        self.told.clear();
-        Put { number: 0, need }
-    }
-
     /// Puts the changes of what is shown into a room.
     pub(crate) fn changes(&mut self, room: &mut [TextChange]) -> Put {
         if self.told.is_empty() {
             self.told = self.replica.changes();
         }
-        self.hand_changes(room)
+        put_changes(&mut self.told, room)
     }
 
     /// Tells what leads from what was reported last to what is shown, where noting has ended.
@@ -121,25 +141,6 @@ impl Session {
                 0
             }
             None => STILL_NOTED,
-        }
-    }
-
-    /// Puts the sites of which operations were taken in into a room.
-    pub(crate) fn sites(&self, room: &mut [u16]) -> Put {
-        match self.replica.sites() {
-            Ok(sites) => put_sites(&sites, room),
-            Err(why) => Put::none(u32::from(why.number())),
-        }
-    }
-
-    /// The front of a site.
-    pub(crate) fn front(&self, site: u16, front: &mut u32) -> u32 {
-        match SiteNo::new(site) {
-            Some(site) => {
-                *front = self.replica.front(site);
-                0
-            }
-            None => NO_NUMBER,
         }
     }
 }

@@ -39,7 +39,7 @@ impl Edited {
 }
 
 // The looks that are selected of these, and the default ones elsewhere; `None` where one that is selected is none.
-fn asked_looks(sel: Sel, font: &[u8], colour: u8, offset: i8) -> Option<Looks> {
+pub(crate) fn asked_looks(sel: Sel, font: &[u8], colour: u8, offset: i8) -> Option<Looks> {
     let mut looks = Looks::plain();
     if sel.font() {
         looks.font = FontName::new(font)?;
@@ -54,7 +54,7 @@ fn asked_looks(sel: Sel, font: &[u8], colour: u8, offset: i8) -> Option<Looks> {
 }
 
 // Whether these bytes aren't too many for any text.
-fn are_few(bytes: &[u8]) -> bool {
+pub(crate) fn are_few(bytes: &[u8]) -> bool {
     bytes.len() as u64 <= MAX_FILE
 }
 
@@ -68,7 +68,7 @@ fn looks_of(font: &[u8], colour: u8, offset: i8) -> Option<Looks> {
 }
 
 // These bytes in these looks. Refused `OutOfMemory` alone, and where there are bytes.
-fn stretch_of(alloc: Global, bytes: &[u8], looks: &Looks) -> Result<Buffer, Refusal> {
+pub(crate) fn stretch_of(alloc: Global, bytes: &[u8], looks: &Looks) -> Result<Buffer, Refusal> {
     let mut stretch = Buffer::new(alloc);
     if !bytes.is_empty() {
         stretch.push_all(bytes, looks)?;

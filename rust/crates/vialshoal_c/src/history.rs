@@ -111,6 +111,16 @@ fn packed(alloc: Global, replica: &Replica, fronts: &[SiteFront]) -> Result<Vec<
     framed(alloc, &pack(alloc, replica, &taken)?)
 }
 
+/// The text of a replica as it was up to these fronts. Refused `OutOfMemory` alone.
+pub(crate) fn past_of(
+    alloc: Global,
+    replica: &Replica,
+    fronts: &[SiteFront],
+) -> Result<Box<Past>, Refusal> {
+    let taken = fronts_of(alloc, fronts)?;
+    Ok(Box::new(alloc, replica.past(&taken)?)?)
+}
+
 impl Session {
     /// Puts a message of what was taken in past these fronts into a room: of the first that is, from a place on. With
     /// it the place is that after its.
@@ -145,11 +155,5 @@ impl Session {
             Ok(bytes) => put_bytes(&bytes, room),
             Err(why) => Put::none(u32::from(why.number())),
         }
-    }
-
-    /// The text as it was up to these fronts. Refused `OutOfMemory` alone.
-    pub(crate) fn past(&self, alloc: Global, fronts: &[SiteFront]) -> Result<Box<Past>, Refusal> {
-        let taken = fronts_of(alloc, fronts)?;
-        Ok(Box::new(alloc, self.replica.past(&taken)?)?)
     }
 }

@@ -11,7 +11,7 @@ use operations::NameRange;
 use texts::{ByNames, EditRefusal, Replica};
 
 // Whether all of these are names.
-fn are_ranges(names: &[CharNames]) -> bool {
+pub(crate) fn are_ranges(names: &[CharNames]) -> bool {
     names.iter().all(|some| some.range().is_some())
 }
 
@@ -24,7 +24,7 @@ fn has(replica: &Replica, names: CharNames) -> bool {
 }
 
 // Whether all of these names are those of characters.
-fn has_all(replica: &Replica, names: &[CharNames]) -> bool {
+pub(crate) fn has_all(replica: &Replica, names: &[CharNames]) -> bool {
     names.iter().all(|some| has(replica, *some))
 }
 
@@ -40,7 +40,7 @@ fn put(names: &[CharNames], ranges: &mut Vec<NameRange>) {
 }
 
 // The names as a replica takes them. Refused `OutOfMemory` alone, and where there are names.
-fn ranges_of(alloc: Global, names: &[CharNames]) -> Result<Vec<NameRange>, Refusal> {
+pub(crate) fn ranges_of(alloc: Global, names: &[CharNames]) -> Result<Vec<NameRange>, Refusal> {
     let mut ranges = Vec::with_capacity(alloc, names.len())?;
     put(names, &mut ranges);
     Ok(ranges)

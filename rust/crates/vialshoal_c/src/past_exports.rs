@@ -2,26 +2,27 @@
 //! What C calls of a text as it was. A call that asks takes the past handle's text out, reads it, and puts it back.
 
 use crate::handle::Handle;
-use crate::history::are_fronts;
+use crate::history::{are_fronts, past_of};
 use crate::inputs::SiteFront;
 use crate::numbers::{ALREADY_OPEN, NO_NUMBER, NOT_OPEN};
 use crate::outputs::{CharName, LooksRun, Place};
 use crate::past_handle::PastHandle;
-use crate::session::Session;
 use crate::showing::{find_name, put_shown_bytes, put_shown_names, tell_run};
 use fallible::Global;
+use std::slice::{from_raw_parts, from_raw_parts_mut};
+use texts::Replica;
 
-// Opens an empty past handle with a session's text as it was, if all of these are fronts.
+// Opens an empty past handle with a replica's text as it was, if all of these are fronts.
 fn open_past_of(
     alloc: Global,
-    session: &Session,
+    replica: &Replica,
     fronts: &[SiteFront],
     past: &mut PastHandle,
 ) -> u32 {
     if !are_fronts(fronts) {
         return NO_NUMBER;
     }
-    match session.past(alloc, fronts) {
+    match past_of(alloc, replica, fronts) {
         Ok(text) => {
             past.close(alloc, text);
             0
@@ -31,13 +32,18 @@ fn open_past_of(
 }
 
 // Opens a past handle so, if it is empty.
-fn open_past(alloc: Global, session: &Session, fronts: &[SiteFront], past: &mut PastHandle) -> u32 {
+pub(crate) fn open_past(
+    alloc: Global,
+    replica: &Replica,
+    fronts: &[SiteFront],
+    past: &mut PastHandle,
+) -> u32 {
     match past.open(alloc) {
         Some(held) => {
             past.close(alloc, held);
             ALREADY_OPEN
         }
-        None => open_past_of(alloc, session, fronts, past),
+        None => open_past_of(alloc, replica, fronts, past),
     }
 }
 
@@ -59,7 +65,7 @@ pub unsafe extern "C" fn vialshoal_past(
     let Some(session) = handle.open(alloc) else {
         return NOT_OPEN;
     };
-    let number = open_past(alloc, &session, fronts, past);
+    let number = open_past(alloc, &session.replica, fronts, past);
     handle.close(alloc, session);
     number
 }
@@ -198,4 +204,3 @@ pub unsafe extern "C" fn vialshoal_past_find(
     past.close(alloc, text);
     number
 }
-use std::slice::{from_raw_parts, from_raw_parts_mut};

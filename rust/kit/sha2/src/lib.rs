@@ -1,6 +1,8 @@
 //! SHA-256 (FIPS 180-4), by the calls that are used here of the crate of this name.
 #![forbid(unsafe_code)]
 
+use fallible::AllocError;
+
 const BLOCK: usize = 64;
 // The first bits of the fractional parts of the square roots of the first primes, and of their cube roots.
 const BEGIN: [u32; 8] = [
@@ -33,7 +35,7 @@ pub trait Digest {
 }
 
 /// The hash function SHA-256.
-#[derive(Clone)]
+#[derive(Clone, Copy)]
 pub struct Sha256 {
     state: [u32; 8],
     // The message's last bytes, which fill no block yet, and how many bytes it has.
@@ -44,7 +46,7 @@ pub struct Sha256 {
 fn schedule(block: &[u8; BLOCK]) -> [u32; 64] {
     let mut words = [0; 64];
     for (word, bytes) in words.iter_mut().zip(block.chunks_exact(4)) {
-        *word = bytes.iter().fold(0, |word, byte| word << 8 | u32::from(*byte));
+        *word = u32::from_be_bytes([bytes[0], bytes[1], bytes[2], bytes[3]]);
     }
     for t in 16..64 {
         let (w15, w2) = (words[t - 15], words[t - 2]);
@@ -55,19 +57,46 @@ fn schedule(block: &[u8; BLOCK]) -> [u32; 64] {
     words
 }
 
+// One round, which writes two of the eight words.
+macro_rules! round {
+    ($a:ident $b:ident $c:ident $d:ident $e:ident $f:ident $g:ident $h:ident, $of:expr) => {
+        let s1 = $e.rotate_right(6) ^ $e.rotate_right(11) ^ $e.rotate_right(25);
+        let first = $h.wrapping_add($of).wrapping_add(s1).wrapping_add($g ^ $e & ($f ^ $g));
+        let s0 = $a.rotate_right(2) ^ $a.rotate_right(13) ^ $a.rotate_right(22);
+        $d = $d.wrapping_add(first);
+        $h = first.wrapping_add(s0).wrapping_add($a & $b | $c & ($a | $b));
+    };
+}
+
 fn compress(state: &mut [u32; 8], block: &[u8; BLOCK]) {
     let [mut a, mut b, mut c, mut d, mut e, mut f, mut g, mut h] = *state;
-    for (round, word) in ROUNDS.iter().zip(schedule(block)) {
-        let s1 = e.rotate_right(6) ^ e.rotate_right(11) ^ e.rotate_right(25);
-        let s0 = a.rotate_right(2) ^ a.rotate_right(13) ^ a.rotate_right(22);
-        let chosen = e & f ^ !e & g;
-        let most = a & b ^ a & c ^ b & c;
-        let first = h.wrapping_add(s1).wrapping_add(chosen).wrapping_add(*round).wrapping_add(word);
-        (h, g, f, e) = (g, f, e, d.wrapping_add(first));
-        (d, c, b, a) = (c, b, a, first.wrapping_add(s0).wrapping_add(most));
+    let mut words = schedule(block);
+    for (word, of) in words.iter_mut().zip(ROUNDS) {
+        *word = word.wrapping_add(of);
+    }
+    for eight in words.chunks_exact(8) {
+        let &[k0, k1, k2, k3, k4, k5, k6, k7] = eight else {
+            unreachable!()
+        };
+        round!(a b c d e f g h, k0);
+        round!(h a b c d e f g, k1);
+        round!(g h a b c d e f, k2);
+        round!(f g h a b c d e, k3);
+        round!(e f g h a b c d, k4);
+        round!(d e f g h a b c, k5);
+        round!(c d e f g h a b, k6);
+        round!(b c d e f g h a, k7);
     }
     for (word, added) in state.iter_mut().zip([a, b, c, d, e, f, g, h]) {
         *word = word.wrapping_add(added);
+    }
+}
+
+impl Sha256 {
+    /// The same hasher again. It takes no memory.
+    #[allow(clippy::should_implement_trait)]
+    pub fn clone(&self) -> Result<Sha256, AllocError> {
+        Ok(*self)
     }
 }
 

@@ -2,15 +2,14 @@
 //! in the end.
 use calls::is;
 use char_files::{Buffer, SiteNo, TextNo};
-use chunks::ChunkWriter;
 use fallible::{Fail, Global, Vec};
 use looks::{Looks, Sel};
-use note::{Head, Note, OwnEdit};
+use note::{Head, Note, OwnEdit, OwnEntry};
 use note_admission::Opening;
 use note_bodies::messages_of;
 use note_entries::{Claim, Hash};
 use note_hashes::NoteKey;
-use operations::{NameRange, Op};
+use operations::NameRange;
 use texts::{ByNames, Outbox, Replica};
 
 const STEPS: u32 = 600;
@@ -37,8 +36,6 @@ struct Person {
     author: Hash,
     site: SiteNo,
     note: Note,
-    // The hash of the last message.
-    last: Hash,
     made: std::vec::Vec<Entry>,
 }
 
@@ -65,7 +62,6 @@ impl Person {
             author,
             site,
             note,
-            last: Hash::new(0, 0),
             made: std::vec::Vec::new(),
         })
     }
@@ -104,53 +100,21 @@ impl Person {
         })
     }
 
-    // Makes an edit, and an entry of its messages, if there are any.
+    // Makes some edits, and then entries of their messages, if there are any, which count at once.
     fn edit(&mut self, random: &mut Random) -> Result<(), Fail> {
-        let edit = self.some_edit(random)?;
-        let mut outbox = Outbox::new(Global);
-        let done = self.replica()?.taken_len();
-        self.note.edit(text()?, &edit, &mut outbox)?;
-        if outbox.is_empty() {
-            return Ok(());
+        for _ in 0..=random.below(4) {
+            let edit = self.some_edit(random)?;
+            self.note.edit(text()?, &edit, &mut Outbox::new(Global))?;
         }
-        let (mut chunk, mut ons) = (ChunkWriter::new(Global, text()?)?, std::vec::Vec::new());
-        let (before, first) = (self.last, operations::decode(Global, outbox.message(0))?.seq());
-        for index in 0..outbox.len() {
-            let op: Op = operations::decode(Global, outbox.message(index))?;
-            is(chunk.add(&op, self.replica()?.file_before(done + index as u64))?, "a long chunk")?;
-            let saying = self.note.own_saying(self.author, self.last, op)?;
-            self.last = saying.hash;
-            if let Some(on) = saying.on {
-                ons.push((index as u16, on));
-            }
-            self.note.say(saying)?;
+        let (shown, done) = (shown(self.replica()?), self.replica()?.taken_len());
+        for OwnEntry { head, body } in self.note.own_entries(text()?, self.author)? {
+            let entry = Entry { head, body };
+            self.take(&entry)?;
+            self.made.push(entry);
         }
-        let shown = self.replica()?.shown_len();
         self.note.update()?;
-        is(self.replica()?.shown_len() == shown, "its own edit doesn't count")?;
-        is(self.note.last(text()?, self.site) == self.last, "another is its last message")?;
-        let mut body = Vec::new(Global);
-        for byte in (ons.len() as u16).to_be_bytes() {
-            body.push(byte)?;
-        }
-        for (index, on) in ons {
-            for byte in index.to_be_bytes().iter().chain(&on.bytes()) {
-                body.push(*byte)?;
-            }
-        }
-        for byte in chunk.bytes() {
-            body.push(*byte)?;
-        }
-        let head = Head {
-            author: self.author,
-            site: self.site,
-            text: text()?,
-            first,
-            count: outbox.len() as u16,
-            before,
-        };
-        self.made.push(Entry { head, body });
-        Ok(())
+        is(self.replica()?.taken_len() == done, "its own edits don't count")?;
+        is(self::shown(self.replica()?) == shown, "they show something else")
     }
 
     fn take(&mut self, entry: &Entry) -> Result<(), Fail> {

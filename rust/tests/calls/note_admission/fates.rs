@@ -5,7 +5,7 @@ use crate::reading::{Said, fate};
 use calls::is;
 use char_files::SiteNo;
 use fallible::{Fail, Global, Vec};
-use note_admission::{Admitted, Fate};
+use note_admission::{Admitted, Continuing, Fate};
 use note_entries::Saying;
 use op_log::Log;
 
@@ -55,7 +55,7 @@ fn each_next_message_has_its_fate() -> Result<(), Fail> {
                 let one = saying(fields)?;
                 let told = text.admitted.fate(&text.log, &digests, &one)?;
                 is(told == fate(name)?, "another fate")?;
-                let builds_on = text.admitted.builds_on(&text.log, &digests, &one.op);
+                let builds_on = text.admitted.builds_on(&text.log, &digests, &one.op, &Continuing::new(Global));
                 match told {
                     Fate::Counts => is(builds_on == Ok(one.on), "it builds on something else")?,
                     Fate::OnOthers => is(builds_on.is_ok_and(|on| on != one.on), "it doesn't")?,

@@ -1,5 +1,4 @@
 use Rattle.std.proofs.Common.{◌<◌, subst, arith}
-use Rattle.char_files.specs.CharName.{CharName}
 use Rattle.set_laws.specs.Fronts.{IsHere}
 use Rattle.note_admission.proofs.building_on.are_here.Goals as goal
 

@@ -4,6 +4,7 @@ use Rattle.std.proofs.lemmas.List.{length_push}
 use Rattle.operations.specs.Operation.{Operation}
 use Rattle.set_laws.specs.Verdict.{IsNew, HasVerdict, ready}
 use Rattle.note_replicas.proofs.Counting.{one_more}
+use Rattle.note_replicas.proofs.Ready.{on_then}
 use Rattle.note_replicas.proofs.following.take_rest.Goals as goal
 
 pub take_ready-requires-clause-ready : goal.take_ready-requires-clause-ready
@@ -29,4 +30,5 @@ loop-replica-preserved c =
     let count = ap (λ (l : List Operation). length l) grown.taken ∙ length_push t.operations op in (
       record { taken = more ∙ ap (λ (k : ℕ). take k ops) (sym count); none_waits = grown.none_waits },
       record { text = place.text ∙ so_far.1.text; site = place.site ∙ so_far.1.site },
+      on_then c.args.replica.now t c.take_ready.new.replica so_far.2 c.in_ok-take_ready.ensures.on,
     )

@@ -18,7 +18,8 @@ returns-clause-keeps c = λ note entries of.
       chains = is.chains;
       texts = subst (λ xs. EachText (λ k t. IsTextOfNote note entries t) xs) (sym (with_items_is x.texts new (c.edit.ensures.len ∙ c.deref_mut.ensures.len)))
           (texts_edited note entries x.texts.items new (c.edit.ensures.len ∙ ap (λ (xs : List NoteText). length xs) value) is.texts
-          (admissions_stay x.texts.items new at c.args.edit.now c.edit.result c.args.outbox.now c.edit.new.outbox
+          (admissions_stay x.texts.items new at
           (subst (λ (xs : List NoteText). (k : ℕ) (d : NoteText) → k ≢ at → slice_index_or new k d ≡ slice_index_or xs k d) value c.edit.ensures.others)
-          (subst (λ (xs : List NoteText). (d : NoteText) → HasEditedText c.args.edit.now (slice_index_or xs at d) c.edit.result (slice_index_or new at d) c.args.outbox.now c.edit.new.outbox) value c.edit.ensures.own)));
+          (λ d. ap (λ (t : NoteText). t.admission)
+          (subst (λ (xs : List NoteText). HasEditedText c.args.edit.now (slice_index_or xs at d) c.edit.result (slice_index_or new at d) c.args.outbox.now c.edit.new.outbox) value (c.edit.ensures.own d)).1)));
     }

@@ -1,4 +1,4 @@
-use Rattle.std.proofs.Common.{◌<◌, ℕ, List, length, sym, ap, subst, ◌∙◌, arith}
+use Rattle.std.proofs.Common.{◌≡◌, ◌-◌, ◌<◌, ℕ, List, length, slice_index_or, sym, ap, subst, ◌∙◌, arith}
 use Rattle.operations.specs.Operation.{Operation}
 use Rattle.texts.specs.TextState.{TextState}
 use Rattle.note_laws.specs.Admission.{IsAdmission}
@@ -6,6 +6,7 @@ use Rattle.note_admission.proofs.Expecting.{whole_if_settled}
 use Rattle.note_replicas.specs.Following.{HasTakenJust}
 use Rattle.note.specs.Notes.{IsOfEntries, NoteSeen, ShowsWhatCounts}
 use Rattle.note.specs.Texts.{IsTextOfNote, IsUpToDate, NoteText}
+use Rattle.note.proofs.Editing.{numbered}
 use Rattle.note.proofs.note.Note.text.Goals as goal
 
 pub returns-clause-some : goal.returns-clause-some
@@ -36,3 +37,15 @@ returns-clause-number c =
     let lt : at < length c.self.inside.texts.items = omega arith in
     c.replica-replica.ensures.text ∙ (ap (λ (u : NoteText). u.admission.text) c.index.ensures
     ∙ (c.self.invariant.numbers at t lt ∙ number))
+
+pub returns-clause-value : goal.returns-clause-value
+returns-clause-value c = λ d.
+    let texts = c.self.inside.texts.items in
+    let at = c.in_ok-place.field-0 in
+    let t = c.index.result.now in
+    let many = c.self.invariant.many in
+    let (nth, below) = c.in_ok-place.ensures.some in
+    let lt : at < length texts = omega arith in
+    let same = subst (λ (n : NoteSeen). slice_index_or n.texts (c.args.text - 1) d ≡ t) c.self.view_is
+    (numbered texts c.args.text at d t nth lt c.index.ensures) in
+    ap (λ (u : NoteText). u.replica) same ∙ sym c.replica-replica.ensures.value

@@ -5,6 +5,7 @@ abbrev pub invariant-loop-self : goal.invariant-loop-self
 invariant-loop-self l = record {
   admission : l.self.admission ≡ l.initial.self.admission;
   replica : l.self.replica ≡ l.initial.self.replica;
+  anew : l.self.anew ≡ l.initial.self.anew;
 }
 
 abbrev pub decreases-loop-self : goal.decreases-loop-self

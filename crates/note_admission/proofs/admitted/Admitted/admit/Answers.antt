@@ -23,5 +23,5 @@ returns-clause-ok c =
     (subst (λ (n : ℕ). AreSeenBy c.reserve.new.self n c.deref-2.result.now c.raise.new.self) c.site-chain.ensures
     c.raise.ensures) in
     rw (← c.self.view_is) (rw (← c.saying.view_is)
-    (λ note admitted is. kept_more note admitted _ set _ _ c.reserve.new.self is c.reserve.ensures.same
+    (λ note admitted is. kept_more admitted _ set note _ _ c.reserve.new.self is c.reserve.ensures.same
     c.in_ok-push.ensures.items seen refl))

@@ -1,4 +1,4 @@
-use Rattle.std.proofs.Common.{◌≡◌, ℕ, ap, subst}
+use Rattle.std.proofs.Common.{ℕ, ap, subst}
 use Rattle.note_laws.specs.Laws.{AreReadyInTurn}
 use Rattle.note_admission.specs.Growing.{TextSeen}
 use Rattle.note_admission.proofs.text_admission.TextAdmission.log.Goals as goal

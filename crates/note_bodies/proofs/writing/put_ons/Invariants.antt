@@ -1,0 +1,7 @@
+use Rattle.std.proofs.Common.{◌≡◌, ◌++◌, take}
+use Rattle.std.specs.List.{flat_map}
+use Rattle.note_bodies.specs.Writing.{on_spelling}
+use Rattle.note_bodies.proofs.writing.put_ons.Given as goal
+
+abbrev pub invariant-loop-on : goal.invariant-loop-on
+invariant-loop-on l = l.out.items ≡ l.initial.out.items ++ flat_map on_spelling (take l.on-index l.ons)

@@ -1,0 +1,208 @@
+// Notes that several people edit: 16 texts each, which show what counts of the note's entries.
+import { DELETE, INSERT } from './delta.js';
+import { NO_MESSAGE, NO_NUMBER, failure } from './errors.js';
+import * as given from './given.js';
+import { Buffer, calls } from './host.js';
+import { Shown, byteOf, changesFor, done, opened, positionsOf, Past } from './text.js';
+
+const TEXTS = 16;
+const HASH = 32;
+const MOST = 65535;
+const ZEROS = new Uint8Array(HASH);
+const DISPOSE = Symbol.dispose ?? Symbol.for('Symbol.dispose');
+
+function hash(data) {
+    if (given.bytes(data).length !== HASH) throw new RangeError(`a key or a hash has ${HASH} bytes, not ${data.length}`);
+    return data;
+}
+
+function headOf(head) {
+    const { author, before, first, count, site, text } = given.object(head, 'a head');
+    return { author: hash(author), before: hash(before), first: given.offset(first), count: given.number(count, 0, MOST),
+        site: given.site(site), text: given.number(text, 0, MOST) };
+}
+
+// Chunks as one row of bytes, each behind its length.
+function rowOf(chunks) {
+    return Buffer.concat([...chunks].flatMap((chunk) => {
+        const { length } = given.bytes(chunk);
+        return [new Uint8Array([length & 255, length >> 8]), chunk];
+    }));
+}
+
+// The calls by which a text of a note is asked what other texts are.
+function callsFor(number) {
+    return {
+        length: (it) => calls.noteLength(it, number),
+        bytes: (it, beg, end) => calls.noteBytes(it, number, beg, end),
+        look: (it, pos) => calls.noteLook(it, number, pos),
+        names: (it, beg, end) => calls.noteNames(it, number, beg, end),
+        find: (it, site, offset) => calls.noteFind(it, number, site, offset),
+        past: (it, fronts) => calls.notePast(it, number, fronts),
+        ranges(it, beg, end) {
+            const names = calls.noteNames(it, number, beg, end), found = names.slice(0, 1);
+            for (let at = 1; at < names.length; at += 2) {
+                const [site, offset] = [names[at], names[at + 1]];
+                if (found.length > 1 && found.at(-3) === site && found.at(-2) + found.at(-1) === offset) found[found.length - 1] += 1;
+                else found.push(site, offset, 1);
+            }
+            return found;
+        },
+        // (the note has it)
+        close: () => [0],
+    };
+}
+
+// The changes of a text's bytes since this was called last: where it was begun anew, all that was told gives way to all that is.
+function changesOf(handle, number) {
+    let told = 0;
+    return () => {
+        const changes = [];
+        let isAnew = false;
+        for (let numbers = [0, 0, 0]; numbers.length > 2;) {
+            numbers = calls.noteChanges(handle, number);
+            const [refused, anew, ...triples] = numbers;
+            if (refused !== 0) throw failure(refused);
+            isAnew ||= anew !== 0;
+            for (let i = 0; i < triples.length; i += 3) changes.push({ kind: triples[i], beg: triples[i + 1], end: triples[i + 2] });
+        }
+        const [before, [length]] = [told, done(calls.noteLength(handle, number))];
+        told = length;
+        if (!isAnew) return changes;
+        return [{ kind: DELETE, beg: 0, end: before }, { kind: INSERT, beg: 0, end: length }].filter(({ end }) => end > 0);
+    };
+}
+
+let handleOf;
+
+// A text of a note: what counts, and own edits, which are shown at once and are to be said.
+export class NoteText extends Shown {
+    #note;
+    #number;
+    #changes;
+
+    constructor(note, number, { units = 'bytes' } = {}) {
+        if (units !== 'bytes' && units !== 'utf-16') throw new TypeError(`units are bytes or utf-16, not ${units}`);
+        const handle = handleOf(given.instance(note, Note)), changes = changesOf(handle, given.number(number, 1, TEXTS));
+        super(handle, units, changes, callsFor(number), true);
+        this.#note = note;
+        this.#number = number;
+        this.#changes = changes;
+        done(calls.noteLength(handle, number));
+    }
+
+    get number() {
+        return this.#number;
+    }
+
+    #edited(call, ...words) {
+        done(call(handleOf(this.#note), this.#number, ...words));
+    }
+
+    insert(pos, data) {
+        this.#edited(calls.noteInsert, byteOf(this, pos), given.bytesOrString(data));
+    }
+
+    delete(beg, end) {
+        this.#edited(calls.noteDelete, byteOf(this, beg), byteOf(this, end));
+    }
+
+    changeLooks(beg, end, looks) {
+        const { font, colour, offset } = given.looks(looks);
+        const selected = Number(font !== undefined) + 2 * Number(colour !== undefined) + 4 * Number(offset !== undefined);
+        this.#edited(calls.noteLooks, byteOf(this, beg), byteOf(this, end), selected, given.font(font ?? ''), given.number(colour ?? 0, 0, 255),
+            given.number(offset ?? 0, -128, 127));
+    }
+
+    deleteNames(names) {
+        this.#edited(calls.noteDeleteNames, given.ranges(names));
+    }
+
+    restoreNames(names) {
+        this.#edited(calls.noteRestoreNames, given.ranges(names));
+    }
+
+    front(site) {
+        return done(calls.noteFront(handleOf(this.#note), this.#number, given.site(site)))[0];
+    }
+
+    fronts() {
+        return new Map(done(calls.noteSites(handleOf(this.#note), this.#number)).map((site) => [site, this.front(site)]));
+    }
+
+    past(fronts) {
+        return new Past(this, fronts);
+    }
+
+    changes() {
+        return changesFor(positionsOf(this)?.tell() ?? this.#changes());
+    }
+}
+
+// A note as one site has it. It decides which messages of the entries that it is given count.
+export class Note {
+    #handle;
+    #site;
+
+    constructor(site, { key, founder, number = 0, base = [], baseKey = ZEROS, root = ZEROS }) {
+        if (site === 0) throw failure(NO_NUMBER);
+        this.#handle = opened(calls.noteOpen(given.site(site), {
+            key: hash(key), founder: hash(founder), number: given.site(number), baseKey: hash(baseKey), root: hash(root), base: rowOf(base),
+        }));
+        this.#site = site;
+    }
+
+    static {
+        handleOf = (note) => note.#handle;
+    }
+
+    get site() {
+        return this.#site;
+    }
+
+    close() {
+        calls.noteClose(this.#handle);
+    }
+
+    [DISPOSE]() {
+        this.close();
+    }
+
+    // A claim of a number came.
+    claim(author, site, rank) {
+        done(calls.noteClaim(this.#handle, hash(author), given.site(site), hash(rank)));
+    }
+
+    // An entry came, perhaps again, or an own one.
+    add(entry) {
+        const { head, body } = given.object(entry, 'an entry');
+        done(calls.noteAdd(this.#handle, headOf(head), given.bytes(body)));
+    }
+
+    // Has the texts show what counts of all that came.
+    update() {
+        done(calls.noteUpdate(this.#handle));
+    }
+
+    // Entries that say all own edits which weren't said; they count here from now on.
+    say(author) {
+        hash(author);
+        const entries = Array.from({ length: TEXTS }, (_, at) => this.#own(at + 1, author)).flat();
+        entries.forEach((entry) => this.add(entry));
+        if (entries.length > 0) this.update();
+        return entries;
+    }
+
+    #own(text, author) {
+        for (const found = []; ;) {
+            const answer = calls.noteOwn(this.#handle, text, author, found.length);
+            if (answer[0] === NO_MESSAGE) return found;
+            const [head, body] = done(answer);
+            found.push({ head, body });
+        }
+    }
+
+    text(number = 1, options = {}) {
+        return new NoteText(this, number, options);
+    }
+}

@@ -1,0 +1,266 @@
+"""Notes that several people edit: 16 texts each, which show what counts of the note's entries."""
+from __future__ import annotations
+
+import ctypes
+import threading
+from collections.abc import Callable, Iterable, Mapping
+from ctypes import byref, c_bool, c_uint16, c_uint32, c_uint64
+from dataclasses import dataclass
+from types import TracebackType
+from typing import Any, AnyStr, Literal, NoReturn, Optional, overload
+
+from . import _given as given
+from . import _library as c
+from ._answers import Change, ChangeKind, NameRange, done
+from ._code_points import CodePoints
+from ._composing import DELETE, INSERT, Triple
+from ._given import Buffer
+from ._shown import Shown, Units, alone
+from ._text import Past
+
+TEXTS = 16
+HASH = 32
+# No entry has a longer body.
+BODY = 16_172
+ZEROS = bytes(HASH)
+
+
+def _hash(data: Buffer) -> bytes:
+    found = given.data(data)
+    if len(found) != HASH:
+        raise ValueError(f"a key or a hash has {HASH} bytes, not {len(found)}")
+    return found
+
+
+@dataclass(frozen=True)
+class Head:
+    """The head of an entry of messages: its author's key, the hash of the message before its first one, or zeros, the number of its first
+    message and how many it has, the site and the text (docs/NOTES.md)."""
+
+    author: bytes
+    before: bytes
+    first: int
+    count: int
+    site: int
+    text: int
+
+
+@dataclass(frozen=True)
+class Entry:
+    """An entry of messages, as whoever opened it has it."""
+
+    head: Head
+    body: bytes
+
+
+class Note:
+    """A note as one site has it. It decides which messages of the entries that it is given count, and its texts show that and own edits;
+    notes of one key, founder and base that were given the same entries, in any order, show the same. What seals, signs and carries
+    entries is the caller's. Threads may share it: calls of a note and of its texts are made one after the other."""
+
+    def __init__(self, *, site: int, key: Buffer, founder: Buffer, number: int = 0, base: Iterable[Buffer] = (),
+                 base_key: Buffer = ZEROS, root: Buffer = ZEROS) -> None:
+        self._lock = threading.RLock()
+        self._handle = c.NoteHandle()
+        self._site = given.number(site, given.MOST_SITE)
+        chunks = b"".join(len(chunk).to_bytes(2, "little") + chunk for chunk in map(given.data, base))
+        done(c.long_calls.vialshoal_note_new(
+            self._handle, site, _hash(key), _hash(founder), given.number(number, given.MOST_SITE), _hash(base_key), _hash(root),
+            chunks, len(chunks)))
+
+    @property
+    def site(self) -> int:
+        """The number of the site."""
+        return self._site
+
+    def close(self) -> None:
+        """Frees it; all other calls are refused after this, those of its texts too."""
+        with self._lock:
+            c.long_calls.vialshoal_note_free(self._handle)
+
+    def __del__(self) -> None:
+        if hasattr(self, "_handle"):
+            self.close()
+
+    def __enter__(self) -> Note:
+        return self
+
+    def __exit__(self, kind: Optional[type[BaseException]], error: Optional[BaseException], trace: Optional[TracebackType]) -> None:
+        self.close()
+
+    def __repr__(self) -> str:
+        return f"<Note of site {self._site}{', closed' * (not self._handle.at)}>"
+
+    def __reduce__(self) -> NoReturn:
+        # (two that have one handle would free it twice)
+        raise TypeError("a note isn't copied or pickled so: one that is given the same entries is the same")
+
+    def claim(self, author: Buffer, site: int, rank: Buffer) -> None:
+        """A claim of a number came; its rank is the hash that was searched for. It counts after the next `update`."""
+        with self._lock:
+            done(c.calls.vialshoal_note_claim(self._handle, _hash(author), given.number(site, given.MOST_SITE), _hash(rank)))
+
+    def add(self, entry: Entry) -> None:
+        """An entry came, perhaps again, or an own one. It counts after the next `update`."""
+        head, body = given.instance(entry, Entry).head, given.data(entry.body)
+        author, before = (c.CHash.from_buffer_copy(_hash(one)) for one in (head.author, head.before))
+        spelled = c.CHead(author, before, given.number(head.first, given.MOST),
+                          given.number(head.count, given.MOST_SITE), given.number(head.site, given.MOST_SITE),
+                          given.number(head.text, given.MOST_SITE))
+        with self._lock:
+            done(c.calls_for(64 * len(body)).vialshoal_note_add(self._handle, byref(spelled), body, len(body)))
+
+    def update(self) -> None:
+        """Has the texts show what counts of all that came. Own edits that `say` didn't answer are taken back."""
+        with self._lock:
+            done(c.long_calls.vialshoal_note_update(self._handle))
+
+    def say(self, author: Buffer) -> list[Entry]:
+        """Entries, by an author who holds the site's number, that say all own edits which weren't said. They count here from now on: seal,
+        sign, keep and send them."""
+        with self._lock:
+            entries = [entry for text in range(1, TEXTS + 1) for entry in self._own(text, _hash(author))]
+            for entry in entries:
+                self.add(entry)
+            if entries:
+                self.update()
+            return entries
+
+    def _own(self, text: int, author: bytes) -> list[Entry]:
+        head, need = c.CHead(), c_uint64()
+        room = ctypes.create_string_buffer(BODY)
+        found: list[Entry] = []
+        while True:
+            number = c.long_calls.vialshoal_note_own(self._handle, text, author, len(found), byref(head), room, BODY, byref(need))
+            if number == c.NO_MESSAGE:
+                return found
+            done(number)
+            said = Head(bytes(head.author), bytes(head.before), head.first, head.count, head.site, head.text)
+            found.append(Entry(said, c.begin_of(room, need.value)))
+
+    @overload
+    def text(self, number: int = 1, *, units: Literal["bytes"] = "bytes") -> NoteText[bytes]: ...
+
+    @overload
+    def text(self, number: int = 1, *, units: Literal["code points"]) -> NoteText[str]: ...
+
+    def text(self, number: int = 1, *, units: Units = "bytes") -> NoteText[Any]:
+        """One of its texts, 1 to 16. Changes are told once, so one asks for each text once."""
+        return NoteText(self, number, units)
+
+
+class NoteText(Shown[AnyStr]):
+    """A text of a note: what counts, and own edits, which are shown at once and are to be said by `Note.say`."""
+
+    def __init__(self, note: Note, number: int, units: Units) -> None:
+        self._note, self._number = given.instance(note, Note), given.number(number, TEXTS, 1)
+        self._reads, self._long_reads = (c.reads_of_note(calls, note._handle, number) for calls in (c.calls, c.long_calls))
+        self._begin(units)
+        self._lock = note._lock
+        self._sent = c_uint32()
+        # How many bytes were shown when changes were asked for last.
+        self._told = 0
+        with self._lock:
+            self._length()
+
+    @property
+    def number(self) -> int:
+        """The number of the text."""
+        return self._number
+
+    def _called(self) -> str:
+        return f"NoteText {self._number} of site {self._note.site}"
+
+    # -- own edits
+
+    def _edited(self, call: Callable[..., int], *words: Any) -> None:
+        done(call(self._handle, self._number, *words, byref(self._sent)))
+
+    @alone
+    def insert(self, pos: int, data: AnyStr) -> None:
+        """Puts bytes, or characters, after the first `pos` ones."""
+        put = self._spelled(data)
+        self._edited(c.calls_for(len(put)).vialshoal_note_insert, self._byte(pos), put, len(put))
+
+    @alone
+    def delete(self, beg: int, end: int) -> None:
+        """Deletes a range."""
+        self._edited(c.calls.vialshoal_note_delete, self._byte(beg), self._byte(end))
+
+    @alone
+    def change_looks(self, beg: int, end: int, *, font: Optional[str] = None, colour: Optional[int] = None,
+                     offset: Optional[int] = None) -> None:
+        """Gives a range those of these looks that are named."""
+        selected = (font is not None) + 2 * (colour is not None) + 4 * (offset is not None)
+        spelled = given.font(font or "")
+        self._edited(c.calls.vialshoal_note_change_looks, self._byte(beg), self._byte(end), selected, spelled, len(spelled),
+                     given.number(colour or 0, 255), given.offset(offset or 0))
+
+    @alone
+    def delete_names(self, names: Iterable[NameRange]) -> None:
+        """Deletes the characters of these names that are shown, wherever they stand."""
+        ranges = given.ranges(names)
+        self._edited(c.calls.vialshoal_note_delete_names, ranges, len(ranges))
+
+    @alone
+    def restore_names(self, names: Iterable[NameRange]) -> None:
+        """Shows the characters of these names again, each at its own place."""
+        ranges = given.ranges(names)
+        self._edited(c.calls.vialshoal_note_restore_names, ranges, len(ranges))
+
+    # -- how far it is
+
+    @alone
+    def front(self, site: int) -> int:
+        """How many of a site's operations are shown."""
+        front = c_uint32()
+        done(c.calls.vialshoal_note_front(self._handle, self._number, given.number(site, given.MOST_SITE), byref(front)))
+        return front.value
+
+    @alone
+    def fronts(self) -> dict[int, int]:
+        """How many operations of each site are shown, by the sites that have some."""
+        room = (c_uint16 * 0)()
+        while (number := c.calls.vialshoal_note_sites(self._handle, self._number, room, len(room), byref(self._long))) == c.TOO_SHORT:
+            room = (c_uint16 * self._long.value)()
+        done(number)
+        return {site: self.front(site) for site in room[:self._long.value]}
+
+    def past(self, fronts: Mapping[int, int]) -> Past[AnyStr]:
+        """The text as it was, up to these fronts."""
+        asked = given.fronts(fronts)
+        return Past._opened(self, lambda past: c.long_calls.vialshoal_note_past(self._handle, self._number, asked, len(asked), past))
+
+    # -- what changed of what is shown
+
+    def _changes(self) -> list[Triple]:
+        """The changes of bytes since this was called last: where the text was begun anew, all gives way to all."""
+        room, is_anew = (c.CChange * 64)(), c_bool()
+        found: list[Triple] = []
+        while True:
+            number = c.calls.vialshoal_note_changes(self._handle, self._number, byref(is_anew), room, len(room), byref(self._long))
+            if number == c.TOO_SHORT:
+                room = (c.CChange * self._long.value)()
+                continue
+            done(number)
+            if is_anew.value or not self._long.value:
+                break
+            found += [(it.kind, it.beg, it.end) for it in room[:self._long.value]]
+        length = self._length()
+        if is_anew.value:
+            found = [(DELETE, 0, self._told)] * (self._told > 0) + [(INSERT, 0, length)] * (length > 0)
+        self._told = length
+        return found
+
+    def _followed(self, points: CodePoints) -> CodePoints:
+        changes = self._changes()
+        if changes:
+            points.follow(changes, self._range)
+        return points
+
+    @alone
+    def changes(self) -> list[Change]:
+        """What changed of what is shown since this was called last, one after the other, own edits too; in code points the first call has
+        one insertion of all. Where the text was begun anew, since messages no longer count that did, all of it gives way to all of it."""
+        told = self._changes() if self._points is None else self._followed(self._points).tell()
+        return [Change(ChangeKind(kind), beg, end) for kind, beg, end in told]

@@ -1,0 +1,39 @@
+// The page of a note's text at a relay: the page of a local engine, with the note itself in the place of that.
+import { Page } from "../../editors/web/page.js";
+import { showState } from "../../editors/web/said.js";
+import { Trouble } from "./bytes.js";
+import { Core } from "./core.js";
+import { NoteKeys } from "./keys.js";
+import { Source } from "./source.js";
+import { Store } from "./store.js";
+
+const FORGOTTEN = "This note isn't in this browser. Its link opens it again.";
+
+/** Goes to the front page, which shows what else there is of the note. */
+function leave() {
+  location.assign("/");
+}
+
+async function begin() {
+  const store = await Store.open((words) => showState(words, true));
+  const note = await store.note(location.hash.slice(1));
+  if (!note) throw new Trouble(FORGOTTEN);
+  const [keys, core] = await Promise.all([NoteKeys.of(note.key), Core.of(new URL("./vialshoal.wasm", import.meta.url))]);
+  sessionStorage.setItem("note", note.id);
+  sessionStorage.removeItem("name");
+  /** @type {Source | undefined} */
+  let source;
+  new Page((/** @type {import("./source.js").Told} */ told) => {
+    source = new Source(told, core, store, keys, note);
+    return source;
+  }, leave);
+  addEventListener("pagehide", () => source?.close());
+  // A page that comes back as it was has let the note go.
+  addEventListener("pageshow", ({ persisted }) => { if (persisted) location.reload(); });
+  addEventListener("hashchange", () => location.reload());
+}
+
+begin().catch((why) => {
+  showState(why instanceof Trouble ? why.message : `This page has a fault: ${why}`, true);
+  if (!(why instanceof Trouble)) throw why;
+});

@@ -1,0 +1,233 @@
+// A note's text as an editor counts it, in UTF-16 units, over the note's value, which counts bytes and has "\r" where an editor has "\n".
+import { Buffer, isAscii, isUtf8 } from "../../../library/node/bytes.js";
+import { CUT, INSERT, PUT, composed } from "../../../library/node/delta.js";
+import { use } from "../../../library/node/host.js";
+import { Positions, decoded } from "../../../library/node/positions.js";
+import { isAlike, setting, toldOf } from "./looking.js";
+import { inside } from "./rewriting.js";
+
+/** @typedef {import("./value.js").Value} Value */
+/** @typedef {import("./value.js").Names} Names */
+/** What is between two positions gives way to a text.
+ * @typedef {[number, number, string]} Change */
+/** The names that an edit brought, those that it took away, and those whose looks it changed.
+ * @typedef {{ came: Names[], went: Names[], looked: Looked[] }} Step */
+/** @typedef {import("./looking.js").Look} Look */
+/** @typedef {{ names: Names, was: Look, became: Look }} Looked */
+
+export const TEXT = 1;
+const ENCODER = new TextEncoder();
+const [LINE_FEED, RETURN] = [10, 13];
+
+use({ Buffer, isAscii, isUtf8, calls: null, Journal: null });
+
+/** A note's bytes as an editor's, or an editor's as a note's.
+ * @param {Uint8Array} bytes */
+const swapped = (bytes) => bytes.map((byte) => (byte === LINE_FEED ? RETURN : byte === RETURN ? LINE_FEED : byte));
+
+/** An edit that isn't done, and why. */
+export class Wrong extends Error {
+  /** @param {string} code @param {string} words */
+  constructor(code, words) {
+    super(words);
+    this.code = code;
+  }
+}
+
+export class SharedText {
+  #value;
+  #positions = new Positions();
+
+  /** @param {Value} value */
+  constructor(value) {
+    this.#value = value;
+    this.#positions.tell();
+    this.changed();
+  }
+
+  get length() {
+    return this.#positions.length;
+  }
+
+  /** The text between two positions, or all of it.
+   * @param {number} begin @param {number} end */
+  slice(begin = 0, end = this.length) {
+    return this.#read(this.#positions.byte(begin) ?? 0, this.#positions.byte(end) ?? 0);
+  }
+
+  /** What has changed since this was asked last, each as the changes before it leave the text; nothing where the text was begun anew.
+   * @returns {Change[] | null} */
+  changed() {
+    const { isAnew, changes } = this.#value.changes(TEXT);
+    const read = (/** @type {number} */ beg, /** @type {number} */ end) => Buffer.from(this.#value.bytes(TEXT, beg, end));
+    if (isAnew) {
+      [this.#positions, changes.length] = [new Positions(), 0];
+      this.#positions.tell();
+      changes.push({ kind: INSERT, beg: 0, end: this.#value.length(TEXT) });
+    }
+    this.#positions.follow(changes, read);
+    /** @type {Change[]} */
+    const found = [];
+    let [at, cut, put] = [0, 0, 0];
+    const tells = () => {
+      if (cut || put) found.push([at, at + cut, this.slice(at, at + put)]);
+      [at, cut, put] = [at + put, 0, 0];
+    };
+    const told = composed(this.#positions.tell());
+    if (isAnew) return null;
+    for (const { step, length } of told) {
+      if (step === CUT) {
+        cut += length;
+      } else if (step === PUT) {
+        put += length;
+      } else {
+        tells();
+        at += length;
+      }
+    }
+    tells();
+    return found;
+  }
+
+  /** Makes a change; the names that it brings and takes away.
+   * @param {Change} change @returns {Step} */
+  edit([begin, end, text]) {
+    const [from, to] = [this.byteOf(begin), this.byteOf(end)];
+    if (to < from) throw new Wrong("outside", "A change ends before its begin.");
+    const [value, bytes] = [this.#value, swapped(ENCODER.encode(text))];
+    const went = value.names(TEXT, from, to);
+    // What replaces a passage stands inside it, so that what others put before or behind it stays there.
+    const at = text ? this.byteOf(begin + inside(this.slice(begin, end))) : from;
+    if (at > from) {
+      value.insert(TEXT, at, bytes);
+      value.byNames(TEXT, went, false);
+    } else {
+      if (to > from) value.delete(TEXT, from, to);
+      if (text) value.insert(TEXT, from, bytes);
+    }
+    this.changed();
+    return { came: value.names(TEXT, from, from + bytes.length), went, looked: [] };
+  }
+
+  /** Has stretches be bold, or of a colour; whose looks that changes.
+   * @param {[number, number][]} ranges @param {{ bold?: boolean, colour?: number }} set @returns {Step} */
+  look(ranges, set) {
+    const looked = ranges.flatMap(([begin, end]) => this.#looks(this.byteOf(begin), this.byteOf(end), (look) => setting(look, set)));
+    this.changed();
+    return { came: [], went: [], looked };
+  }
+
+  /** Has characters look otherwise; which do then.
+   * @param {number} beg @param {number} end @param {(look: Look) => Look} sets @returns {Looked[]} */
+  #looks(beg, end, sets) {
+    /** @type {Looked[]} */
+    const found = [];
+    for (let at = beg; at < end;) {
+      const { end: to, ...was } = this.#value.looksAt(TEXT, at);
+      const [until, became] = [Math.min(to, end), sets(was)];
+      if (!isAlike(was, became)) {
+        found.push(...this.#value.names(TEXT, at, until).map((names) => ({ names, was, became })));
+        this.#value.changeLooks(TEXT, at, until, became);
+      }
+      at = until;
+    }
+    return found;
+  }
+
+  /** The stretches that aren't plain, the first ones up to a number.
+   * @param {number} most */
+  dressed(most) {
+    const size = this.#value.length(TEXT);
+    /** @type {{ begin: number, end: number }[]} */
+    const found = [];
+    for (let at = 0; at < size && found.length < most;) {
+      const { end, ...look } = this.#value.looksAt(TEXT, at);
+      const told = toldOf(look);
+      if (Object.keys(told).length) found.push({ begin: this.#positions.unit(at), end: this.#positions.unit(end), ...told });
+      at = end;
+    }
+    return found;
+  }
+
+  /** Takes an edit back by its names; what that changes. What others have changed since stays.
+   * @param {Step} step @returns {Step} */
+  takeBack({ came, went, looked }) {
+    const [goes, comes] = [came.flatMap((names) => this.#parts(names, true)), went.flatMap((names) => this.#parts(names, false))];
+    this.#value.byNames(TEXT, goes, false);
+    this.#value.byNames(TEXT, comes, true);
+    const looks = looked.flatMap(({ names, was, became }) => this.#stretches(names).flatMap(([beg, end]) => (
+      this.#looks(beg, end, (look) => (isAlike(look, became) ? was : look)))));
+    return { came: comes, went: goes, looked: looks };
+  }
+
+  /** Which of neighbouring names are shown, or which aren't.
+   * @param {Names} names @param {boolean} shown @returns {Names[]} */
+  #parts([site, offset, length], shown) {
+    const parts = this.#stretches([site, offset, length]).map(([beg, end, first]) => [first, first + end - beg]);
+    if (shown) return parts.map(([first, last]) => [site, first, last - first]);
+    const ends = [offset, ...parts.flat(), offset + length];
+    return ends.flatMap((begin, at) => (at % 2 === 0 && ends[at + 1] > begin ? [[site, begin, ends[at + 1] - begin]] : []));
+  }
+
+  /** Where of neighbouring names those are that are shown: from where to where, and the offset of the first.
+   * @param {Names} names @returns {[number, number, number][]} */
+  #stretches([site, offset, length]) {
+    const [first, last] = [offset, offset + length - 1].map((one) => this.#value.find(TEXT, site, one));
+    if (!first || !last) return [];
+    let at = first.pos - Number(first.isShown);
+    /** @type {[number, number, number][]} */
+    const found = [];
+    for (const [of, from, many] of this.#value.names(TEXT, at, last.pos)) {
+      const [begin, end] = [Math.max(from, offset), Math.min(from + many, offset + length)];
+      if (of === site && begin < end) found.push([at + begin - from, at + end - from, begin]);
+      at += many;
+    }
+    return found;
+  }
+
+  /** Who wrote what of a stretch: where that begins and ends, and the site.
+   * @param {number} begin @param {number} end */
+  wrote(begin, end) {
+    let at = this.byteOf(begin);
+    /** @type {{ begin: number, end: number, site: number }[]} */
+    const found = [];
+    for (const [site, , many] of this.#value.names(TEXT, at, this.byteOf(end))) {
+      const [from, to] = [at, at + many].map((byte) => this.#positions.unit(byte));
+      at += many;
+      const last = found[found.length - 1];
+      if (last && last.site === site) last.end = to;
+      else if (to > from) found.push({ begin: from, end: to, site });
+    }
+    return found;
+  }
+
+  /** The name of the character before a place, as others are told where a cursor is; zeros at the front.
+   * @param {number} unit @returns {[number, number]} */
+  nameBefore(unit) {
+    const at = this.byteOf(unit);
+    if (!at) return [0, 0];
+    const [[site, offset]] = this.#value.names(TEXT, at - 1, at);
+    return [site, offset];
+  }
+
+  /** Where a place is that others told; nothing where its character isn't here.
+   * @param {[number, number]} name */
+  placeOf([site, offset]) {
+    if (!site) return 0;
+    const found = this.#value.find(TEXT, site, offset);
+    return found && this.#positions.unit(found.pos);
+  }
+
+  /** @param {number} unit @returns {number} */
+  byteOf(unit) {
+    if (!Number.isInteger(unit) || unit < 0 || unit > this.length) throw new Wrong("outside", `Position ${unit} is outside the text.`);
+    const byte = this.#positions.byte(unit);
+    if (byte === undefined) throw new Wrong("split", `Position ${unit} is inside a character.`);
+    return byte;
+  }
+
+  /** @param {number} beg @param {number} end @returns {string} */
+  #read(beg, end) {
+    return end > beg ? decoded(Buffer.from(swapped(this.#value.bytes(TEXT, beg, end)))) : "";
+  }
+}

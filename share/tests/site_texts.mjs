@@ -1,0 +1,92 @@
+// Notes' values over the core, as a relay's page has them, in Node: two people edit at random, and what each says comes to the other in any
+// order. node site_texts.mjs SITE CORE SEED STEPS prints what went wrong, or what was done.
+import { readFileSync } from "node:fs";
+import { pathToFileURL } from "node:url";
+
+const [, , site, wasm, seed, steps] = process.argv;
+const { Core } = await import(pathToFileURL(`${site}/core.js`).href);
+const { Value } = await import(pathToFileURL(`${site}/value.js`).href);
+const { SharedText, TEXT } = await import(pathToFileURL(`${site}/shared.js`).href);
+const { Undoing } = await import(pathToFileURL(`${site}/undoing.js`).href);
+
+let state = Number(seed);
+/** A number below this, by chance. */
+function chance(below) {
+  state = (Math.imul(state, 1664525) + 1013904223) >>> 0;
+  return Math.floor((state / 2 ** 32) * below);
+}
+
+const SIGNS = ["a", "b ", "\n", "\r\n", "\u00e9", "\u6f22", "\u{1f44d}\u{1f3fd}", " words of several\nlines "];
+const bytes = (value) => new Uint8Array(32).fill(value);
+const core = new Core(new WebAssembly.Module(readFileSync(wasm)));
+
+class Person {
+  constructor(site) {
+    this.author = bytes(site);
+    this.value = new Value(core, bytes(9), { founder: bytes(1), number: 1, baseKey: bytes(0), root: bytes(0), base: new Uint8Array(0) }, site);
+    this.value.claim(bytes(2), 2, bytes(7));
+    this.value.update();
+    this.text = new SharedText(this.value);
+    this.undoing = new Undoing(() => 0);
+    // What an editor shows that is told of others' changes; and what comes later.
+    this.shown = "";
+    this.comes = [];
+  }
+
+  /** A place that isn't inside a character. */
+  place() {
+    const at = chance(this.shown.length + 1);
+    return /[\udc00-\udfff]/.test(this.shown[at] ?? "") ? at - 1 : at;
+  }
+
+  types() {
+    const [begin, end] = [this.place(), this.place()].sort((one, other) => one - other);
+    const change = [begin, chance(2) ? begin : Math.min(end, begin + chance(12)), chance(4) ? SIGNS[chance(SIGNS.length)] : ""];
+    if (/[\udc00-\udfff]/.test(this.shown[change[1]] ?? "")) change[1] -= 1;
+    const old = this.shown.slice(change[0], change[1]);
+    this.undoing.made([change], old, this.text.edit(change), false);
+    this.shown = this.shown.slice(0, change[0]) + change[2] + this.shown.slice(change[1]);
+  }
+
+  looks() {
+    const [begin, end] = [this.place(), this.place()].sort((one, other) => one - other);
+    this.undoing.add(this.text.look([[begin, end]], chance(2) ? { bold: chance(2) === 0 } : { colour: chance(9) }));
+  }
+
+  undoes(isRedo) {
+    this.undoing.undo(isRedo, (step) => this.text.takeBack(step));
+    this.sees();
+  }
+
+  /** What was typed becomes entries, and what came is shown. */
+  meets(other) {
+    for (const one of this.value.own(TEXT, this.author)) {
+      this.value.add(one);
+      other.comes.push(one);
+    }
+    while (this.comes.length && chance(4)) this.value.add(this.comes.splice(chance(this.comes.length), 1)[0]);
+    this.value.update();
+    this.sees();
+  }
+
+  sees() {
+    const changes = this.text.changed();
+    for (const [begin, end, put] of changes ?? []) this.shown = this.shown.slice(0, begin) + put + this.shown.slice(end);
+    if (!changes) this.shown = this.text.slice();
+    if (this.shown !== this.text.slice()) throw new Error(`shown: ${JSON.stringify(this.shown)}, has: ${JSON.stringify(this.text.slice())}`);
+  }
+}
+
+const people = [new Person(1), new Person(2)];
+for (let step = 0; step < Number(steps); step += 1) {
+  const [one, other] = chance(2) ? people : [people[1], people[0]];
+  const what = chance(10);
+  if (what < 6) one.types();
+  else if (what < 7) one.looks();
+  else if (what < 9) one.undoes(what === 8);
+  else one.meets(other);
+}
+for (let round = 0; round < 60; round += 1) for (const [one, other] of [people, [people[1], people[0]]]) one.meets(other);
+const [ann, bob] = people.map((one) => ({ text: one.text.slice(), dressed: one.text.dressed(1e6), wrote: one.text.wrote(0, one.text.length) }));
+if (JSON.stringify(ann) !== JSON.stringify(bob)) throw new Error(`${JSON.stringify(ann)} and ${JSON.stringify(bob)}`);
+console.log(JSON.stringify({ characters: ann.text.length, dressed: ann.dressed.length, writers: new Set(ann.wrote.map((one) => one.site)).size }));

@@ -1,0 +1,298 @@
+"""A note's text in a relay's page, as a whole site in Chromium: beside others' engines, offline, killed, in two tabs, with a full disk."""
+import base64
+import contextlib
+import os
+import pathlib
+import signal
+import tempfile
+import unittest
+from typing import TYPE_CHECKING
+
+from share.format.second.form import SealedRecords
+from share.format.second.key_link import link_of, read_key_link
+from share.relay.page_files import core_path, missing_for_texts
+from share.tests.pages import FAULTS_OF_LOOKS, LOOKS_SO
+from share.tests.processes import children
+from share.tests.relays import RelayHere
+from share.tests.support import alive
+from share.tests.test_relay_front import ALL_SENT, IS_HERE
+from share.tests.test_relay_people import AtPage
+from share.tests.test_relay_security import TappedLines, messages_of
+from share.tests.waiting import wait_for
+
+if TYPE_CHECKING:
+    from share.tests.browser import Window
+if IS_HERE:
+    from selenium.common.exceptions import WebDriverException
+
+    from share.tests.browser import MIRROR, Browser
+
+MISSING, CORE = missing_for_texts(), str(core_path() or "")
+READY = ("typeof CodeMirror === 'function' && document.title !== 'Note' "
+         "&& !document.querySelector('#text .CodeMirror').CodeMirror.getOption('readOnly')")
+# How many messages the browser keeps, by the heads of its entries.
+MESSAGES_KEPT = """new Promise((done) => { indexedDB.open("vialshoal").onsuccess = ({ target }) => {
+  target.result.transaction("entries").objectStore("entries").getAll().onsuccess = ({ target: found }) => {
+    target.result.close();
+    done(found.result.filter(({ raw }) => raw[1] === 4).reduce((sum, { raw }) => sum + raw[57] * 256 + raw[58], 0));
+  };
+}; })"""
+ON = "[...document.querySelectorAll('#people li')].map((one) => one.textContent).sort().join()"
+CARETS = "[...document.querySelectorAll('.caret b')].map((one) => one.textContent)"
+# What would do something if a page, or a program of it, read it as more than text.
+HOSTILE = ("<img src=x onerror=\"document.title='obeyed'\"><script>document.title='obeyed'</script>\u202e\0\x1b[31m\r\n"
+           "${document.title='obeyed'} javascript:alert(1) \U0001f44d\U0001f3fd \u00e9 \ufffe\n")
+
+
+@unittest.skipIf(MISSING, f"texts aren't shown here: {MISSING} is missing")
+class AtText(AtPage):
+    """Pages of a note's text."""
+
+    core = CORE
+
+    def text_of(self, link: str) -> "Window":
+        """A window that a link opened, once one can type there."""
+        window = self.at(link, READY)
+        window.run(f"{MIRROR}.focus()")
+        return window
+
+    def made_text(self, name: str = "picnic") -> tuple["Window", str]:
+        """A window with the text of a note that was made there, and its link."""
+        window = self.at()
+        link = self.made(window, name)
+        window.wait_for(ALL_SENT)
+        window.press("text")
+        window.wait_for(READY)
+        window.run(f"{MIRROR}.focus()")
+        return window, link
+
+    @staticmethod
+    def at_end(window: "Window") -> None:
+        """Moves the cursor to the end."""
+        window.run(f"{MIRROR}.execCommand('goDocEnd')")
+
+
+class Typed(AtText):
+    """What is typed."""
+
+    def test_a_page_and_an_engine_have_one_text(self) -> None:
+        window, link = self.made_text()
+        window.rename("Bea")
+        ann = self.engine_of("Ann", link, colour="#123456")
+        ann.gets_number()
+        ann.type("from an engine\n")
+        window.shows("from an engine\n")
+        self.at_end(window)
+        window.paste("from a page")
+        ann.shows("from an engine\nfrom a page")
+        window.state("all sent")
+        # Both see where the other one is, and are called as they say.
+        ann.send({"do": "cursor", "version": ann.mirror.version, "at": 4})
+        window.gives(CARETS, ["Ann"])
+        window.gives(ON, "Ann,Bea")
+        window.run(f"{MIRROR}.focus()")
+        window.to(7)
+        ann.wait_for(lambda: [(one["name"], one["at"]) for one in ann.mirror.cursors] == [("Bea", 7)], "the page's cursor")
+        # An undo takes back what was typed here, and nobody else's text.
+        ann.edit((0, 0, "More "))
+        window.shows("More from an engine\nfrom a page")
+        window.run(f"{MIRROR}.execCommand('undo')")
+        ann.shows("More from an engine\n")
+        window.run(f"{MIRROR}.execCommand('redo')")
+        ann.shows("More from an engine\nfrom a page")
+        window.press("writers")
+        window.wait_for("document.getElementById('legend').textContent === 'AnnBea'")
+        window.run(f"{MIRROR}.focus()")
+        # A rewritten passage keeps what another put before it at the same time.
+        window.select(5, 19)
+        window.type_over("by an engine")
+        ann.shows("More by an engine\nfrom a page")
+        ann.close()
+        window.gives(ON, "Bea")
+        self.assert_right(window)
+
+    def test_who_opens_a_link_sees_the_text_and_types_under_another_number(self) -> None:
+        window, link = self.made_text()
+        window.type("one")
+        window.state("all sent")
+        other = self.text_of(link)
+        other.shows("one")
+        self.assertEqual(other.run("[location.hash.length, document.title]"), [33, "picnic"])
+        self.at_end(other)
+        other.type(" two")
+        window.shows("one two")
+        for _ in range(10):
+            window.type("a")
+            other.type("b")
+        wait_for(lambda: window.text() == other.text() and len(window.text()) == 27, "both tabs to show the same")
+        self.assertEqual(sorted(window.text()), sorted("one two" + "ab" * 10))
+        # What each typed is by a number of its own, though the browser is one.
+        self.assertEqual(self.engine_text(link), window.text())
+        other.driver.refresh()
+        other.wait_for(READY)
+        other.shows(window.text())
+        self.assert_right(window, other)
+
+    def engine_text(self, link: str) -> str:
+        """What an engine shows that reads all from the relay."""
+        return self.in_terminal("cat", "picnic", link=link).stdout
+
+    def test_a_renewed_note_shows_what_was_copied(self) -> None:
+        window, link = self.made_text()
+        window.paste("copied")
+        window.state("all sent")
+        self.assertEqual(self.in_terminal("append", "picnic", ", too", link=link).returncode, 0)
+        window.shows("copied, too\n")
+        renewed = self.in_terminal("renew", "picnic", "--yes", "--form", "2", "--log", self.relay.url)
+        self.assertEqual(renewed.returncode, 0, renewed.stderr)
+        other = self.text_of(read_key_link(self.in_terminal("link", "picnic").stdout.strip()).page())
+        other.shows("copied, too\n")
+        self.at_end(other)
+        other.paste("and more")
+        other.state("all sent")
+        self.assertEqual(self.in_terminal("cat", "picnic").stdout, "copied, too\nand more")
+        # The page of before is told of it.
+        window.state("renewed by")
+
+    def test_in_another_browser_the_text_is_typed_into(self) -> None:
+        """Of which nothing is here but the link, and whose number is searched for as all have to."""
+        window, link = self.made_text()
+        window.type("here")
+        window.state("all sent")
+        browser = Browser(390, 800)
+        self.addCleanup(browser.close)
+        other = browser.window()
+        other.driver.get(link)
+        other.wait_for(READY)
+        other.shows("here")
+        other.run(f"{MIRROR}.focus()")
+        self.at_end(other)
+        other.type(" and there")
+        window.shows("here and there")
+        other.state("all sent")
+        self.assertEqual(other.run("document.title"), "Note 1")
+
+    def test_hostile_text_is_text(self) -> None:
+        window, link = self.made_text()
+        ann = self.engine_of("<b>Ann</b>\u202e", link)
+        ann.gets_number()
+        ann.type(HOSTILE)
+        window.wait_for(f"{MIRROR}.getValue().length === words[0]", len(HOSTILE.encode("utf-16-le")) // 2)
+        self.assertEqual(window.text(), ann.text)
+        self.at_end(window)
+        window.paste("<b onclick='x'>pasted</b>\r\n")
+        ann.shows(HOSTILE + "<b onclick='x'>pasted</b>\r\n")
+        window.press("writers")
+        window.wait_for("document.getElementById('legend').textContent.includes('<b>Ann</b>')")
+        made = "document.querySelectorAll('#text img, #text script, #legend b').length"
+        self.assertEqual(window.run(f"[document.title, {made}]"), ["picnic", 0])
+        self.assert_right(window)
+
+
+class Kept(AtText):
+    """What a browser's disk has."""
+
+    def test_typed_offline_closed_and_opened_it_is_sent(self) -> None:
+        window, link = self.made_text()
+        window.type("before. ")
+        window.state("all sent")
+        self.relay.kill()
+        window.state("offline")
+        window.type("offline. ")
+        window.state("kept")
+        window.close()
+        # The page itself is kept, too.
+        window = self.at()
+        window.click_on("#list button")
+        window.wait_for("!document.getElementById('note').hidden")
+        window.press("text")
+        window.wait_for(READY)
+        window.shows("before. offline. ")
+        window.run(f"{MIRROR}.focus()")
+        self.at_end(window)
+        window.type("again. ")
+        self.relay.start()
+        window.state("all sent")
+        self.assertEqual(self.in_terminal("cat", "picnic", link=link).stdout, "before. offline. again. ")
+
+    def test_what_was_answered_is_there_after_the_browser_was_killed(self) -> None:
+        with tempfile.TemporaryDirectory(prefix="share-profile-", ignore_cleanup_errors=True) as profile:
+            browser = Browser(800, 600, pathlib.Path(profile))
+            window = browser.window()
+            window.driver.get(self.relay.url)
+            window.wait_for("!document.getElementById('front').hidden")
+            link = self.made(window, "killed")
+            window.wait_for(ALL_SENT)
+            window.press("text")
+            window.wait_for(READY)
+            window.run(f"{MIRROR}.focus()")
+            self.relay.kill()
+            window.state("offline")
+            window.type("typed and kept")
+            # All of it is on the disk, and nothing is sent.
+            wait_for(lambda: window.run(MESSAGES_KEPT) == len("typed and kept"), "what was typed to be kept")
+            killed = children(browser.driver.service.process.pid)
+            for process in killed:
+                os.kill(process, signal.SIGKILL)
+            with contextlib.suppress(WebDriverException):
+                browser.close()
+            wait_for(lambda: not any(map(alive, killed)), "the browser to end")
+            self.relay.start()
+            browser = Browser(800, 600, pathlib.Path(profile))
+            self.addCleanup(browser.close)
+            window = browser.window()
+            window.driver.get(link)
+            window.wait_for(READY)
+            window.shows("typed and kept")
+            window.state("all sent")
+            self.assertEqual(self.in_terminal("cat", "killed", link=link).stdout, "typed and kept")
+
+    def test_a_note_that_is_not_here_is_told(self) -> None:
+        window, _ = self.made_text()
+        address = window.run("location.href.slice(0, -32)")
+        window = self.at(address + "0" * 32, "document.getElementById('state').textContent.includes('Its link opens it again')")
+
+
+class Seen(AtText):
+    """What others see of it."""
+
+    def test_the_operator_gets_nothing_of_text_or_names(self) -> None:
+        relay = RelayHere(self.folder / "tapped")
+        self.addCleanup(relay.close)
+        tapped = TappedLines(relay.port)
+        self.addCleanup(tapped.close)
+        url = tapped.url.replace("redis:", "http:")
+        relay.relay.origins.append(url)
+        relay.relay._lets_in.add(url)
+        window = self.at(url)
+        self.says(window, "marzipan")
+        link = self.made(window, "gooseberry")
+        window.wait_for(ALL_SENT)
+        other = self.text_of(link)
+        other.type("strawberry jam")
+        other.state("all sent")
+        other.rename("frangipane")
+        other.type(", raspberry")
+        other.state("all sent")
+        lines = [bytes(line) for line in tapped.lines]
+        messages = [message for line in lines for message in (messages_of(line) if b"Upgrade: websocket" in line else [line])]
+        kept = [path.read_bytes() for path in (self.folder / "tapped").rglob("*") if path.is_file()]
+        key = link_of(link).secret
+        self.assertTrue(any(SealedRecords(key).note in one for one in messages) and len(kept) > 1)
+        for unseen in (key, key.hex().encode(), base64.urlsafe_b64encode(key)[:20], b"vialshoal:2:", b"gooseberry", b"marzipan",
+                       b"frangipane", b"strawberry", b"raspberry"):
+            for data in [*messages, *kept, *map(str.encode, relay.said)]:
+                self.assertNotIn(unseen, data)
+
+    def test_it_fits_a_phone_and_can_be_read(self) -> None:
+        window, _ = self.made_text()
+        window.type("a line of text")
+        for width, scheme in (1_280, "light"), (390, "light"), (390, "dark"):
+            window.command("Emulation.setDeviceMetricsOverride", width=width, height=800, deviceScaleFactor=1, mobile=width < 600)
+            window.command("Emulation.setEmulatedMedia", features=[{"name": "prefers-color-scheme", "value": scheme}])
+            window.wait_for(LOOKS_SO, width, scheme)
+            self.assertEqual(window.run(FAULTS_OF_LOOKS, width < 600), [])
+
+
+if __name__ == "__main__":
+    unittest.main()
