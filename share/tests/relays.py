@@ -5,9 +5,11 @@ import pathlib
 import signal
 import subprocess
 import threading
+import unittest
 from collections.abc import AsyncIterator
 from contextlib import asynccontextmanager
 from functools import lru_cache
+from unittest import mock
 
 import aiohttp
 
@@ -17,6 +19,7 @@ from share.log.relay_messages import SOCKET_PATH, SUBPROTOCOL, MessageKind, Proo
 from share.relay.door import Door
 from share.relay.limits import Limits
 from share.relay.options import RelayOptions
+from share.relay.page_files import CORE_VARIABLE
 from share.relay.server import RelayServer, serve_relay
 from share.relay.shelf import shelf_at
 from share.tests.servers import RedisServer, held_port, port_of
@@ -40,6 +43,13 @@ def record(number: int, key: bytes = KEY) -> bytes:
 
 
 AUTHORS = {key: form_of(key).new_author() for key in (KEY, OTHER_KEY)}
+
+
+def with_core(test: unittest.TestCase, core: str = "") -> None:
+    """Relays of a test serve pages with this core, or the front page alone, which then shows what is known of a note."""
+    here = mock.patch.dict(os.environ, {CORE_VARIABLE: core})
+    here.start()
+    test.addCleanup(here.stop)
 
 
 class RelayHere:

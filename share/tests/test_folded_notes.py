@@ -45,6 +45,13 @@ while True:
 """
 
 
+def is_folding(note: Note) -> bool:
+    """Whether something is yet to be sent, folded, or looked for in the log."""
+    session = note.session
+    return (not session._replicator.is_up_to_date() or len(session._holdings.judge) >= session._folding._next
+            or bool(session._folded.new()))
+
+
 class OfFolds(OfSecondForm):
     """Notes in which few entries are folded."""
 
@@ -94,9 +101,13 @@ class OfFolds(OfSecondForm):
         """Types until the log has a fold in place of what is folded in it; how many letters that took."""
         many = 4 * LEAST
         self.typed(note, many)
-        self.waits(note, *others, until=lambda: max(sizes := self.sizes(person)) >= LEAST and sum(sizes) == many,
-                   what="the log to have a fold in place of what is folded")
+        self.are_folded(many, person, note, *others)
         return many
+
+    def are_folded(self, many: int, person: Person, *notes: Note) -> None:
+        """Takes in what comes until the log has so many messages, with folds in place of all that is to be folded."""
+        self.waits(*notes, until=lambda: max(sizes := self.sizes(person)) >= LEAST and sum(sizes) == many and not any(map(is_folding, notes)),
+                   what="the log to have folds in place of what is folded")
 
 
 class Folds(OfFolds):
@@ -149,8 +160,7 @@ class Faults(OfFolds):
             self.assertEqual(bob.session.status().unsent, 2)
             bob.session.close()
         self.typed(ann, 3 * LEAST)
-        self.waits(ann, until=lambda: max(self.sizes(self.ann)) >= LEAST and sum(self.sizes(self.ann)) == 5 * LEAST,
-                   what="the log to have a fold in place of what is folded")
+        self.are_folded(5 * LEAST, self.ann, ann)
         ann.session.close()
         before = self.sizes(self.ann)
         self.assertIn(1, self.on_disk(self.bob)[:LEAST])
@@ -173,8 +183,7 @@ class Faults(OfFolds):
             for note in bob, ann:
                 note.session.close()
         ann = self.opened(self.ann)
-        self.waits(ann, until=lambda: max(self.sizes(self.ann)) >= LEAST and sum(self.sizes(self.ann)) == 4 * LEAST,
-                   what="the log to have a fold in place of what is folded")
+        self.are_folded(4 * LEAST, self.ann, ann)
         text = bytes(ann.text)
         ann.session.close()
         shutil.rmtree(self.ann.data)
@@ -195,8 +204,7 @@ class Faults(OfFolds):
         with contextlib.closing(self.ann.log()) as log:
             old = [one.raw for one in self.records(log, self.ann)]
         self.typed(ann, 3 * LEAST)
-        self.waits(ann, bob, until=lambda: max(self.sizes(self.ann)) >= LEAST and sum(self.sizes(self.ann)) == 4 * LEAST,
-                   what="the log to have a fold in place of what is folded")
+        self.are_folded(4 * LEAST, self.ann, ann, bob)
         text = self.assert_meet(ann, bob)
         with contextlib.closing(self.ann.log()) as log:
             # As one of a version of before does, which takes it for lost.
@@ -220,8 +228,7 @@ class Faults(OfFolds):
         with contextlib.closing(self.ann.log()) as log:
             old = [one.raw for one in self.records(log, self.ann)]
         self.typed(ann, 3 * LEAST)
-        self.waits(ann, until=lambda: max(self.sizes(self.ann)) >= LEAST and sum(self.sizes(self.ann)) == 4 * LEAST,
-                   what="the log to have a fold in place of what is folded")
+        self.are_folded(4 * LEAST, self.ann, ann)
         number = ann.session.number
         ann.session.close()
         self.assertEqual(self.on_disk(self.ann), self.sizes(self.ann))

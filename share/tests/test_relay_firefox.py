@@ -1,6 +1,5 @@
 """The front page of a relay, and its modules, in Firefox."""
 import json
-import os
 import unittest
 from contextlib import closing
 from unittest import mock
@@ -9,9 +8,9 @@ from share.format.second.claim import number_of_rank, rank_of
 from share.format.second.form import SealedRecords
 from share.format.second.key_link import link_of
 from share.log.opening import opener_of
-from share.relay.page_files import CORE_VARIABLE, PageFiles
+from share.relay.page_files import PageFiles
 from share.tests.firefox import FIREFOX, firefox
-from share.tests.relays import RelayHere, RelayProcess
+from share.tests.relays import RelayHere, RelayProcess, with_core
 from share.tests.support import Case, raws_of
 from share.tests.test_site_modules import VECTORS, beside_modules, searches
 
@@ -23,9 +22,7 @@ class InFirefox(Case, unittest.IsolatedAsyncioTestCase):
     def setUp(self) -> None:
         super().setUp()
         self.profile = self.folder / "profile"
-        core = mock.patch.dict(os.environ, {CORE_VARIABLE: ""})
-        core.start()
-        self.addCleanup(core.stop)
+        with_core(self)
 
     async def test_a_note_is_made_and_what_others_append_is_seen(self) -> None:
         relay = RelayProcess(self.folder / "kept")

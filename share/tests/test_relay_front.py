@@ -26,9 +26,9 @@ from share.log.opening import opener_of
 from share.log.relay_messages import RelayPage
 from share.relay.kept import KeptNote, NoSuchPlace, NoteIsFull, Reading
 from share.relay.limits import Limits
-from share.relay.page_files import CORE_VARIABLE, PageFiles
+from share.relay.page_files import PageFiles
 from share.tests.pages import FAULTS_OF_LOOKS, LOOKS_SO, is_fault
-from share.tests.relays import AUTHORS, RelayHere, RelayProcess, form_of, record
+from share.tests.relays import AUTHORS, RelayHere, RelayProcess, form_of, record, with_core
 from share.tests.processes import children
 from share.tests.support import NOTE, Case, alive, raws_of
 from share.tests.terminals import Terminal
@@ -85,10 +85,7 @@ class Front(Case):
         self.addCleanup(patient.stop)
         # What the browser still said of an earlier test isn't of this one.
         self.browser.driver.get_log("browser")
-        # Where a relay's page shows no texts a link leads to what is known of the note.
-        core = mock.patch.dict(os.environ, {CORE_VARIABLE: self.core})
-        core.start()
-        self.addCleanup(core.stop)
+        with_core(self, self.core)
         # By a port of its own a test has an origin of its own, of which the browser has kept nothing.
         self.relay = RelayProcess(self.folder / "kept")
         self.addCleanup(self.gone.append, self.relay.url)

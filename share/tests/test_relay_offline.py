@@ -8,7 +8,7 @@ from unittest import mock
 
 from share.relay.page_files import PAGE_FOLDER, PageFile, PageFiles
 from share.tests.firefox import FIREFOX, firefox
-from share.tests.relays import RelayHere
+from share.tests.relays import RelayHere, with_core
 from share.tests.support import Case
 from share.tests.test_relay_front import ALL_SENT, STANDING, WORDS, Front
 from share.tests.waiting import wait_for
@@ -220,6 +220,7 @@ class InFirefox(Case, unittest.IsolatedAsyncioTestCase):
     """In Firefox."""
 
     async def test_notes_open_without_the_relay_and_another_version_waits(self) -> None:
+        with_core(self)
         versions = Versions(self.folder)
         self.addCleanup(versions.relay.close)
         async with firefox(self.folder / "profile") as browser:
