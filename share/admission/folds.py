@@ -4,6 +4,8 @@ names all before it, one look says so: the fold has the record's last message, a
 Folds count as all other records do, by their messages; so nothing hangs on what is found here but which bytes are kept and carried.
 """
 from array import array
+from collections import deque
+from collections.abc import Iterator
 from typing import TYPE_CHECKING
 
 from share.admission.sayings import Whose
@@ -25,6 +27,8 @@ class Folds:
         self._found, self._fold_of = array("I"), dict[int, int]()
         # The records that came after others with the same messages and aren't folded.
         self._later: dict[Whose, dict[int, None]] = {}
+        # Those in which it is still to be looked what is folded.
+        self._put_off = deque[Iterator[int]]()
 
     def __len__(self) -> int:
         return len(self._found) // 2
@@ -42,21 +46,43 @@ class Folds:
     def add(self, number: int) -> None:
         """Looks at a record of which others had some messages before."""
         records = self._records
-        messages, later = records.messages(number), self._later.setdefault(records.client(number), {})
-        others = [one for one in {*map(records.having, messages), *later} if one != number]
-        fold = next((one for one in others if self._has(one, number, messages[-1])), None)
-        if fold is not None:
+        later = self._later.setdefault(records.client(number), {})
+        last = records.last(number)
+        fold = next((one for one in dict.fromkeys((records.having(last), *later)) if one != number and self._has(one, number, last)), None)
+        if fold is None:
+            self.put_off(number)
+            deque(self._put_off.pop(), 0)
+        else:
             self._note(number, fold)
-            return
-        first = records.first(number)
-        for one in others:
-            end = records.first(one) + records.size(one) - first
-            if 0 < end <= len(messages) and self._is_within(one, number) and records.last(one) == messages[end - 1]:
-                self._note(one, number)
-                later.pop(one, None)
+
+    def put_off(self, number: int) -> None:
+        """Adds a record of which others have all messages; what is folded in it is looked for by and by."""
+        later = self._later.setdefault(self._records.client(number), {})
+        self._put_off.append(self._looks(number, later))
         later[number] = None
         if len(later) > MOST_LATER:
             del later[next(iter(later))]
+
+    def look(self, most: float) -> bool:
+        """Looks for what is folded in what was put off, at so many messages; whether at all of them by now."""
+        while self._put_off and most > 0:
+            if next(self._put_off[0], None) is None:
+                self._put_off.popleft()
+            most -= 1
+        return not self._put_off
+
+    def _looks(self, number: int, later: dict[int, None]) -> Iterator[int]:
+        """Looks for what is folded in a record, by its messages: those whose last one is among these, whether they had it first or came
+        later."""
+        records, ends = self._records, dict[int, list[int]]()
+        for one in later:
+            ends.setdefault(records.last(one), []).append(one)
+        for message in records.messages_back(number):
+            for one in (records.having(message), *ends.get(message, ())):
+                if one != number and records.last(one) == message and self._is_within(one, number):
+                    self._note(one, number)
+                    later.pop(one, None)
+            yield 1
 
     def _has(self, fold: int, number: int, last: int) -> bool:
         """Whether a record has all messages of another one, whose last message is this."""

@@ -1,9 +1,10 @@
 """What is asked of a judge about folds: entries that have all messages of others."""
-from collections.abc import Iterator
+import math
 from typing import NamedTuple
 
+from share.admission.foldable import FoldableChain
+from share.admission.ledger import Row
 from share.format.operation import TEXT
-from share.format.second.folding import Foldable
 
 
 class InFold(NamedTuple):
@@ -26,7 +27,13 @@ class WithFolds:
         """The hash of the fold that has all messages of an entry; that of the entry itself where none has."""
         return of
 
-    def foldable(self, site: int, text: int = TEXT) -> Iterator[Foldable]:
-        """The entries of a number's chain that count, in their order, after which as many follow as are left as they are; in place of what
-        is folded its folds."""
-        return iter(())
+    def foldable(self, site: int, text: int = TEXT) -> FoldableChain | None:
+        """The chain of a number, of whose entries that count some may be folded; None where it has none."""
+        return None
+
+    def add_fold(self, row: Row) -> None:
+        """Adds a fold that was made here of entries which are here, too; what is folded in it is found as it is looked for."""
+
+    def look_for_folded(self, most: float = math.inf) -> bool:
+        """Looks for what is folded in such folds, at so many of their messages; whether at all of them by now."""
+        return True

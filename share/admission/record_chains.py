@@ -1,6 +1,8 @@
 """What is told of the chains of a note of the second form, and of messages by their hashes."""
+import math
 from collections.abc import Iterable, Iterator, Mapping, Sequence
 
+from share.admission.foldable import FoldableChain
 from share.admission.in_fold import InFold
 from share.admission.in_text import InText
 from share.admission.ledger import Row
@@ -12,7 +14,7 @@ from share.admission.told import ToldOfMessages
 from share.admission.twigs import Twig
 from share.format.entry import NO_HASH, Entry
 from share.format.operation import TEXT, Operation
-from share.format.second.folding import LEFT_AFTER, Foldable
+from share.format.second.folding import LEFT_AFTER
 from share.format.second.form import RecordForm
 from share.format.second.record import Record
 from share.text.names import Name, Names
@@ -104,41 +106,16 @@ class RecordChains(RecordSet):
         number = self._records.number(of)
         return of if number is None else self._records.hash(self._records.folds.of(number))
 
-    def foldable(self, site: int, text: int = TEXT) -> Iterator[Foldable]:
-        line, records = self._line(site, text) if self.holder(site) else None, self._records
-        if line is None:
-            return
-        place, end = 0, self._end_of_foldable(line)
-        while place < end:
-            number = self._record_at(line, place)
-            last = place + records.size(number)
-            if records.first(number) == place + 1 and line.has(records.last(number)):
-                yield self._foldable(line, number, place, last)
-                place = last
-            else:
-                # It goes on in another branch.
-                place += 1
+    def foldable(self, site: int, text: int = TEXT) -> FoldableChain | None:
+        line = self._line(site, text) if self.holder(site) else None
+        return None if line is None else FoldableChain(self._records, self._sayings, line, LEFT_AFTER)
 
-    def _end_of_foldable(self, line: MessageChain) -> int:
-        """How many messages of a line are in entries after which enough others follow."""
-        end = line.front
-        for _ in range(LEFT_AFTER):
-            end = self._records.first(self._record_at(line, end - 1)) - 1 if end else 0
-        return end
+    def add_fold(self, row: Row) -> None:
+        assert isinstance(row.entry, Record)
+        self._records.add_fold(row, row.entry)
 
-    def _record_at(self, line: MessageChain, place: int) -> int:
-        """The record that has the message at a place of a line, or its fold."""
-        return self._records.folds.of(self._records.having(line.branch.numbers[place]))
-
-    def _foldable(self, line: MessageChain, number: int, begin: int, end: int) -> Foldable:
-        """A record whose messages are those of a line from one place to another; without them where it is too large to be folded."""
-        found = Foldable(self._records.hash(number), self._records.length(number), line.branch.hash(begin - 1) if begin else NO_HASH,
-                         line.length_before(begin))
-        if found.is_large:
-            return found
-        sayings, numbers = self._sayings, line.branch.numbers[begin:end]
-        return found._replace(operations=[*line.branch.runs(begin, end)], hashes=[*map(sayings.hash, numbers)],
-                              ons=[*map(sayings.on, numbers)])
+    def look_for_folded(self, most: float = math.inf) -> bool:
+        return self._records.folds.look(most)
 
     # What is told of a record, of a message, and of copies.
 

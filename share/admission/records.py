@@ -4,7 +4,7 @@ What can be computed again isn't kept: of a record's bytes there are what is sea
 its messages, which are here anyway.
 """
 from array import array
-from collections.abc import Iterable, Sequence
+from collections.abc import Iterable, Iterator, Sequence
 from itertools import accumulate
 
 from share.admission.folds import Folds
@@ -39,6 +39,16 @@ class Records(Hashes):
 
     def add(self, row: Row, entry: Record, new: Sequence[int] = ()) -> int:
         """Adds the record of a row, which is the first that has these messages; its number."""
+        number = self._add(row, entry, new)
+        if len(new) < len(entry.hashes):
+            self.folds.add(number)
+        return number
+
+    def add_fold(self, row: Row, entry: Record) -> None:
+        """Adds a record of which others have all messages; what is folded in it is looked for later."""
+        self.folds.put_off(self._add(row, entry, ()))
+
+    def _add(self, row: Row, entry: Record, new: Sequence[int]) -> int:
         number = len(self)
         self._hashes += entry.hash
         whose = self._client(Whose(entry.author, entry.site, entry.text))
@@ -58,8 +68,6 @@ class Records(Hashes):
         self._ends.append(len(self._kept))
         self._enter((entry.hash,), number)
         _note(self._having, new, number)
-        if len(new) < len(entry.hashes):
-            self.folds.add(number)
         return number
 
     def extend(self, rows: Sequence[Row], entries: Sequence[Record], messages: range) -> None:
@@ -151,13 +159,15 @@ class Records(Hashes):
 
     def messages(self, number: int) -> list[int]:
         """The numbers of a record's messages."""
-        found, sayings = list[int](), self._sayings
+        return [*self.messages_back(number)][::-1]
+
+    def messages_back(self, number: int) -> Iterator[int]:
+        """The same, the last one first."""
         message: int | None = self._lasts[number]
         for _ in range(self._sizes[number] if self._kinds[number] == RecordKind.MESSAGES else 0):
             assert message is not None
-            found.append(message)
-            message = sayings.before(message)
-        return found[::-1]
+            yield message
+            message = self._sayings.before(message)
 
     def client(self, number: int) -> Whose:
         """Whose a record is."""

@@ -1,10 +1,14 @@
 """What is folded of a file's entries, and which of it is to be taken out of the log."""
 import threading
-from collections.abc import Iterable, Iterator
+from collections.abc import Iterator, Sequence
+from itertools import groupby
+from operator import attrgetter
 from typing import NamedTuple
 
 from share.admission.hashes import HASH_BYTES
 from share.admission.in_fold import InFold
+
+HASH_OF = attrgetter("hash")
 
 
 class OfFold(NamedTuple):
@@ -25,14 +29,20 @@ class Folded:
         # What came back that was made here, and of which the file has no more than the fold.
         self._again: set[bytes] = set()
 
-    def add(self, found: Iterable[InFold]) -> None:
+    def add(self, found: Sequence[InFold]) -> None:
         """Adds what was found to be folded."""
         with self._lock:
-            for one in found:
-                self._hashes.setdefault(OfFold(one.fold, one.fold_made or not one.made), bytearray()).extend(one.hash)
-                if one.fold_made and not one.made:
-                    self._again.add(one.hash)
-                self._new.setdefault(one.fold, bytearray()).extend(one.hash)
+            for (fold, fold_made, made), some in groupby(found, attrgetter("fold", "fold_made", "made")):
+                hashes = b"".join(map(HASH_OF, some))
+                self._hashes.setdefault(OfFold(fold, fold_made or not made), bytearray()).extend(hashes)
+                if fold_made and not made:
+                    self._again.update(_in_hashes(hashes))
+
+    def look_for(self, found: Sequence[InFold]) -> None:
+        """Has what was found to be folded be looked for in the log."""
+        with self._lock:
+            for fold, some in groupby(found, attrgetter("fold")):
+                self._new.setdefault(fold, bytearray()).extend(b"".join(map(HASH_OF, some)))
 
     def clear(self) -> None:
         """Nothing is known to be folded, until it is found again."""

@@ -23,7 +23,7 @@ from share.store.read_only import uncollected
 from share.store.renewal import renewed_by
 from share.sync.edits import OwnEdits
 from share.sync.folded import Folded
-from share.sync.folding import Folding
+from share.sync.folding import ALL, MOST_IN_A_TURN, Folding
 from share.sync.handover import Handover
 from share.sync.hiding import Hiders
 from share.sync.margin import OpenMargin
@@ -206,7 +206,7 @@ class Session(EditedNote):
 
     def _arrived(self) -> Told:
         found, has_read = self._counted()
-        self._replicator.fold(self._folding.found(), self._holdings.place)
+        self._replicator.fold(self._folding.found(self._most_folded()), self._holdings.place)
         is_other = self._rebaser.settle(found.messages if found.anew else None, has_read)
         self._rebaser.say_what_was_rebased()
         if found.anew or is_other:
@@ -232,7 +232,11 @@ class Session(EditedNote):
     def _fold(self) -> None:
         """Folds own entries that are due, while nothing waits."""
         if isinstance(self._form, RecordForm) and can_take_out(self._about.url) and not self.has_more():
-            self._folding.fold(self._form, self._replicator)
+            self._folding.fold(self._form, self._replicator, self._most_folded())
+
+    def _most_folded(self) -> int:
+        """At how many entries and messages of own folds a turn looks: while the note is opened no key waits for it."""
+        return MOST_IN_A_TURN if self._looks else ALL
 
     def _counted(self) -> tuple[Counted, bool]:
         """What counts of the note since this was last asked, and whether all was read that the log had."""

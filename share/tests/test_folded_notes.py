@@ -47,9 +47,9 @@ while True:
 
 def is_folding(note: Note) -> bool:
     """Whether something is yet to be sent, folded, or looked for in the log."""
-    session = note.session
-    return (not session._replicator.is_up_to_date() or len(session._holdings.judge) >= session._folding._next
-            or bool(session._folded.new()))
+    session, folding = note.session, note.session._folding
+    return (not session._replicator.is_up_to_date() or len(session._holdings.judge) >= folding._next
+            or bool(folding._waiting or folding._untold or session._folded.new()))
 
 
 class OfFolds(OfSecondForm):
@@ -106,7 +106,8 @@ class OfFolds(OfSecondForm):
 
     def are_folded(self, many: int, person: Person, *notes: Note) -> None:
         """Takes in what comes until the log has so many messages, with folds in place of all that is to be folded."""
-        self.waits(*notes, until=lambda: max(sizes := self.sizes(person)) >= LEAST and sum(sizes) == many and not any(map(is_folding, notes)),
+        self.waits(*notes, until=lambda: (max(sizes := self.sizes(person)) >= LEAST and sum(sizes) == many
+                                          and not any(map(is_folding, notes))),
                    what="the log to have folds in place of what is folded")
 
 
@@ -175,7 +176,7 @@ class Faults(OfFolds):
 
     def test_where_the_fold_is_gone_too_whoever_has_not_read_it_gives_back_what_was_folded(self) -> None:
         url = self.file_log()
-        with mock.patch("share.sync.folding.due", return_value=None):
+        with mock.patch("share.sync.folding.due", return_value=()):
             ann = self.opened(self.ann, url=url)
             bob = self.opened(self.bob, link=self.ann.link())
             self.typed(ann, 4 * LEAST)
@@ -332,7 +333,7 @@ class Faults(OfFolds):
             ann.take_in()
         self.assertEqual((self.on_disk(self.ann), [*ann.told]), ([1] * 4 * LEAST, []))
         self.typed(ann, 2 * LEAST)
-        self.waits(ann, until=lambda: max(self.sizes(self.ann)) > LEAST, what="the fold to be made later")
+        self.are_folded(6 * LEAST, self.ann, ann)
         text, deletes = bytes(ann.text), SqliteFile.executemany
 
         def fails(file: SqliteFile, question: str, rows: Iterable[Sequence[object]]) -> int:
@@ -347,6 +348,7 @@ class Faults(OfFolds):
         self.assertEqual(self.on_disk(self.ann).count(1), before.count(1))
         again = self.opened(self.ann)
         self.assertEqual(bytes(again.text), text)
+        self.are_folded(6 * LEAST, self.ann, again)
         again.session.close()
         self.assertEqual(self.on_disk(self.ann), self.sizes(self.ann))
 

@@ -3,6 +3,7 @@ by hashes alone, and which entries become a fold hangs on counts."""
 import random
 import unittest
 from collections.abc import Iterable
+from unittest import mock
 
 from hypothesis import given
 
@@ -10,14 +11,18 @@ from share.admission.ledger import Row
 from share.admission.record_judge import RecordJudge
 from share.format.entry import Author, Bad
 from share.format.operation import DELETE
-from share.format.second.folding import LEAST_FOLDED, LEFT_AFTER, MOST_FOLDED, due, fold
+from share.format.second.folding import LEAST_FOLDED, LEFT_AFTER, MOST_FOLDED, at_once, due, fold_of, folding
 from share.format.second.form import PlainRecords, SealedRecords
 from share.format.second.record import Record, RecordKind
+from share.sync.folding import MOST_IN_A_TURN, Folding
+from share.tests.counting import instructions
 from share.tests.record_agreement import Judged, agrees_on_records
 from share.tests.second_agreement import Reader, Typed
 from share.tests.test_message_judge import SEEDS, sets, tries
+from share.tests.support import type_at_the_end
 from share.tests.test_record_judge import Writer, founded, handed
 from share.tests.test_second_form import counted, reasons, what_is_told
+from share.tests.test_second_notes import OfSecondForm
 from share.text.names import Names
 
 
@@ -35,7 +40,8 @@ def folded(one: Typed, chance: random.Random) -> list[bytes]:
         some = [first] if first.hashes and first.author in authors else []
         while some and (nexts := after.get(some[-1].name)) and len(some) < chance.choice([2, 3, 8]):
             some.append(chance.choice(nexts))
-        if len(some) > 1 and (found := fold(PlainRecords(one.note.key, 0), some, authors[first.author], lengths.get(first.hashes[0], 0))):
+        form, length = PlainRecords(one.note.key, 0), lengths.get(first.hashes[0], 0) if first.hashes else 0
+        if len(some) > 1 and (found := fold_of(form, some, authors[first.author], length)):
             if chance.random() < 0.7:
                 raws = [raw for raw in raws if raw not in {each.raw for each in some}]
             raws.append(found.raw)
@@ -90,10 +96,9 @@ class OfOneAuthor(unittest.TestCase):
 
     def due(self, judge: RecordJudge, text: int = 1) -> Record | None:
         """The fold that is due."""
-        some = due(judge.foldable(1, text))
-        found = some.folded(self.form, self.ada) if some else None
-        self.assertTrue(found is None or some and some.is_had_by(found))
-        return found
+        chain = judge.foldable(1, text)
+        assert chain
+        return at_once(folding(chain, at_once(due(chain.extents())), self.form, self.ada))
 
     def test_a_fold_has_the_same_hashes_and_what_its_messages_build_on(self) -> None:
         self.writer.type(b"abc")
@@ -102,7 +107,7 @@ class OfOneAuthor(unittest.TestCase):
         self.writer.type(b"f")
         for begin in range(len(self.writer.made) - 1):
             some = self.writer.made[begin:]
-            found = fold(self.form, some, self.ada, begin)
+            found = fold_of(self.form, some, self.ada, begin)
             assert found
             self.assertEqual((found.first, found.before), (some[0].first, some[0].before))
             self.assertEqual([*found.hashes], [of for one in some for of in one.hashes])
@@ -115,7 +120,7 @@ class OfOneAuthor(unittest.TestCase):
         other = self.writer.fork(2)
         other.type(b"xy")
         for some in ([made[0], made[2]], [made[1], made[0]], [made[1], other.made[3]], [*made, self.writer.fork(0).type(b"a")[0]]):
-            self.assertIsNone(fold(self.form, some, self.ada, some[0].first - 1))
+            self.assertIsNone(fold_of(self.form, some, self.ada, some[0].first - 1))
 
     def test_so_many_and_so_many_after_them_are_folded_at_once(self) -> None:
         made = self.writer.type(bytes(97 + number % 26 for number in range(LEAST_FOLDED + LEFT_AFTER - 1)))
@@ -164,7 +169,7 @@ class OfOneAuthor(unittest.TestCase):
         self.assertEqual([*found.hashes], [one.name for one in [*common, *holds][:found.size]])
         # The fold of the other branch is one of it alone, and takes nothing away.
         lost = theirs if holds is mine else mine
-        other_fold = fold(self.form, [*common, *lost][:300], self.ada)
+        other_fold = fold_of(self.form, [*common, *lost][:300], self.ada)
         assert other_fold
         handed(judge, [found, other_fold])
         judge.count()
@@ -177,7 +182,7 @@ class OfOneAuthor(unittest.TestCase):
         common, other = self.writer.type(b"c" * 10), self.writer.fork(5)
         other.type(b"other")
         self.writer.type(b"more!")
-        folds = [fold(self.form, one.made, self.ada) for one in (self.writer, other)]
+        folds = [fold_of(self.form, one.made, self.ada) for one in (self.writer, other)]
         assert folds[0] and folds[1]
         for some in folds, folds[::-1], [*folds, *common]:
             judge = self.judge([one for one in some if one])
@@ -186,16 +191,46 @@ class OfOneAuthor(unittest.TestCase):
             # What lost is told, and nothing of it is gone.
             self.assertEqual(sum(one.characters for one in judge.left_out()), 5 if names[0] is self.writer.made[5] else 10)
 
+    def test_what_is_folded_in_own_folds_is_found_in_parts_as_at_once(self) -> None:
+        made = self.writer.type(b"c" * 60)
+        some = [fold_of(self.form, made[begin:end], self.ada, begin) for begin, end in ((0, 20), (20, 50), (0, 60))]
+        folds = [one for one in some if one]
+        judge, at_once_found = self.judge(made), self.judge(made, folds)
+        for place, one in enumerate(folds, 61):
+            judge.add_fold(Row(place, one, True))
+        self.assertEqual(judge.folded(), [])
+        counts = [len(judge.folded())]
+        while not judge.look_for_folded(7):
+            counts.append(len(judge.folded()))
+        self.assertLessEqual(max(after - before for before, after in zip(counts, counts[1:])), 2 * 7)
+        self.assertEqual({(one.hash, one.fold) for one in judge.folded()}, {(one.hash, one.fold) for one in at_once_found.folded()})
+        self.assertEqual({judge.fold_of(one.hash) for one in made}, {folds[-1].hash})
+
+    def test_what_was_looked_at_holds_until_another_branch_does(self) -> None:
+        common, other = self.writer.type(b"c" * 5), self.writer.fork(5)
+        self.writer.type(b"m" * 300)
+        other.type(b"t" * 300)
+        less, more = sorted((self.writer, other), key=lambda one: one.made[5].name)
+        judge = self.judge(common, more.made[5:])
+        chain = judge.foldable(1)
+        assert chain
+        handed(judge, more.type(b"on"))
+        judge.count()
+        self.assertTrue(chain.holds())
+        handed(judge, less.made[5:])
+        judge.count()
+        self.assertFalse(chain.holds())
+
     def test_another_s_messages_nobody_folds(self) -> None:
         form = SealedRecords(bytes(32), 0)
         ada, eve = form.new_author(), form.new_author()
         made = Writer(form, ada, 1).type(b"c" * 9)
-        found = fold(form, made, ada)
+        found = fold_of(form, made, ada)
         assert found
         self.assertEqual(form.open(found.raw).hashes, found.hashes)
         # By her own name they are other messages, and in Ada's name it isn't signed by her.
-        self.assertIsNone(fold(form, made, eve))
-        forged = fold(form, made, Author(ada.name, eve.secret))
+        self.assertIsNone(fold_of(form, made, eve))
+        forged = fold_of(form, made, Author(ada.name, eve.secret))
         assert forged
         self.assertEqual(forged.hashes, found.hashes)
         with self.assertRaises(Bad):
@@ -203,13 +238,45 @@ class OfOneAuthor(unittest.TestCase):
 
     def test_what_comes_with_little_room_is_folded_as_with_much(self) -> None:
         made = self.writer.type(b"c" * 300)
-        found = fold(self.form, made, self.ada)
+        found = fold_of(self.form, made, self.ada)
         assert found
         judge = RecordJudge([self.opening], form=self.form, room=1)
         handed(judge, made)
         judge.count()
         judge.add_new(Row(301, found, False))
         self.assertEqual((len(judge.dropped()), len(judge.folded())), (0, 300))
+
+
+class Turns(OfSecondForm):
+    """What a turn of an open note takes beside what is folded."""
+
+    def test_a_turn_looks_at_few_entries_however_many_are_due(self) -> None:
+        for many in LEAST_FOLDED + LEFT_AFTER, 2 * LEAST_FOLDED + LEFT_AFTER:
+            note = self.opened(self.person(f"ann{many}"))
+            folding_of, judge = note.session._folding, note.session._holdings.judge
+            with mock.patch.object(Folding, "fold"):
+                for _ in range(many):
+                    type_at_the_end(note, "k")
+                least = instructions(note.session.arrived)
+            worked = list[int]()
+            while folding_of._next <= len(judge):
+                worked.append(instructions(note.session.arrived) - least)
+            self.assertEqual((len({one.fold for one in judge.folded()}), len(judge.folded())), (1, many - LEFT_AFTER))
+            self.assertGreater(len(worked), many // MOST_IN_A_TURN)
+            self.assertLess(max(worked), 500 * MOST_IN_A_TURN)
+
+    def test_what_is_withdrawn_meanwhile_is_not_folded(self) -> None:
+        note = self.opened(self.ann)
+        holdings = note.session._holdings
+        with mock.patch.object(Folding, "fold"):
+            for _ in range(LEAST_FOLDED + LEFT_AFTER):
+                type_at_the_end(note, "k")
+        for _ in range(50):
+            note.session.arrived()
+        holdings.withdraw([holdings.judge.last(note.session.number).hash])
+        for _ in range(100):
+            note.session.arrived()
+        self.assertEqual(holdings.judge.folded(), [])
 
 
 if __name__ == "__main__":

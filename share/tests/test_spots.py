@@ -22,7 +22,6 @@ from share.review.anchor import anchored
 from share.review.places import NameSet, Spans
 from share.review.record import MarginKind, MarginRecord
 from share.review.writing import lines_of
-from share.sync.folding import Folding
 from share.tests.counting import instructions
 from share.tests.naive_margin import Inserted
 from share.tests.test_margin import operation
@@ -151,9 +150,7 @@ class Anew(Reviewed):
         worked = dict[int, list[int]]()
         for most in 100, 400:
             self._written(most)
-            # Some hundred entries are folded in one turn, whatever is looked at.
-            with (mock.patch.object(margins, "MOST_IN_A_SLICE", 20), mock.patch.object(nearby, "MOST_FOLLOWED", 90),
-                  mock.patch.object(Folding, "fold", return_value=False)):
+            with mock.patch.object(margins, "MOST_IN_A_SLICE", 20), mock.patch.object(nearby, "MOST_FOLLOWED", 90):
                 worked[most] = self._typing_as_all_are_looked_at()
             self.assertEqual(self.threads(), self._anew())
         (few, many) = worked.values()

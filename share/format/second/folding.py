@@ -1,32 +1,40 @@
 """Folding: entries of a chain that follow one another become one, a fold, which has their messages with the same hashes. Which entries an
-author folds hangs on counts alone, never on a clock: docs/NOTES.md has it under "Folding".
+author folds hangs on counts alone, never on a clock: docs/NOTES.md has it under "Folding". All of it goes step by step, so that who waits
+for a key waits for a few steps alone.
 """
-from collections.abc import Iterable, Sequence
-from typing import NamedTuple
+from collections.abc import Generator, Iterable, Sequence
+from typing import NamedTuple, Protocol, TypeVar
 
-from share.format.chunk import MOST_CHUNK, Packed, Writer
+from share.format.chunk import MOST_CHUNK, Writer
 from share.format.entry import Author
 from share.format.operation import Operation
 from share.format.second.form import RecordForm
-from share.format.second.record import MANY_ONS, ON_FIELD, Record
+from share.format.second.record import MANY_ONS, ON_FIELD, Record, message_hashes
 
 # The fewest entries that become a fold which has room for more, and how many after them stay as they are.
 LEAST_FOLDED, LEFT_AFTER = 200, 200
 # The most bytes of what a fold says; what has more than half of that isn't folded again.
 MOST_FOLDED = MOST_CHUNK
+# The most messages that are written in one step, and how many more each step counts for.
+MOST_IN_A_STEP, OF_EACH_STEP = 16, 2
+
+Found = TypeVar("Found")
+# What is done in steps, each of which says at how many entries or messages it looked.
+Steps = Generator[int, None, Found]
 
 
-class Foldable(NamedTuple):
-    """An entry of a chain as far as folding it asks for: its own hash, and the length of what it says; the hash of the message before its
-    first one, and how many characters the chain had inserted by then; its messages, their hashes, and what each of them builds on."""
+class Extent(NamedTuple):
+    """An entry of a chain: its hash, the length of what it says, and from which place of the chain to which its messages are."""
 
     hash: bytes
     size_said: int
-    before: bytes
-    length: int
-    operations: Sequence[Operation] = ()
-    hashes: Sequence[bytes] = ()
-    ons: Sequence[bytes] = ()
+    begin: int
+    end: int
+
+    @property
+    def size(self) -> int:
+        """How many messages it has."""
+        return self.end - self.begin
 
     @property
     def is_large(self) -> bool:
@@ -34,85 +42,133 @@ class Foldable(NamedTuple):
         return self.size_said > MOST_FOLDED // 2
 
 
+class Part(NamedTuple):
+    """Messages of a chain that follow one another: operations, their hashes, and what each of them builds on."""
+
+    operations: Sequence[Operation]
+    hashes: Sequence[bytes]
+    ons: Sequence[bytes]
+
+
+class Foldable(Protocol):
+    """A chain, as far as folding asks for it."""
+
+    def extents(self) -> Iterable[Extent | None]:
+        """Its entries in their order; None where something else was looked at."""
+
+    def part(self, begin: int, end: int) -> Part:
+        """Its messages from one place to another."""
+
+    def before(self, place: int) -> tuple[bytes, int]:
+        """The hash of the message before a place, and how many characters were inserted by then."""
+
+
 class ToFold:
-    """Entries that follow one another, as many as one fold has."""
+    """Messages of an author, as they become a fold: they follow one that has a hash, by which so many characters had been inserted."""
 
-    def __init__(self, first: Foldable):
-        self._first, self._writer = first, Writer()
-        self.entries, self._end, self._size = list[Foldable](), 0, 0
-        self._ons: dict[int, bytes] = {}
-        self._operations: list[Operation] = []
-        self.add(first)
+    def __init__(self, form: RecordForm, author: Author, before: bytes, length: int):
+        self._form, self._author, self._before, self._length = form, author, before, length
+        self._writer, self._hashes, self._ons = Writer(), list[bytes](), dict[int, bytes]()
+        self._first: Operation | None = None
+        # How much of it is whole entries, in bytes and messages.
+        self._kept = 0, 0
 
-    def __len__(self) -> int:
-        return len(self.entries)
-
-    def add(self, one: Foldable) -> bool:
-        """Adds the entry that is next; whether it follows, and there is room for it."""
-        if self.entries and self.entries[-1].hashes[-1] != one.before:
+    def add(self, part: Part) -> bool:
+        """Adds what is next; whether there is room for it, and it has these hashes there."""
+        many = len(self._hashes)
+        ons = {index: on for index, on in enumerate(part.ons) if on}
+        self._first = self._first or part.operations[0]
+        fits = all(self._writer.add(each, self._length) for each in part.operations)
+        if not fits or MANY_ONS.size + ON_FIELD.size * (len(self._ons) + len(ons)) + len(self._writer.data) > MOST_FOLDED:
             return False
-        ons = self._ons | {self._size + index: on for index, on in enumerate(one.ons) if on}
-        fits = all(self._writer.add(each, self._first.length) for each in one.operations)
-        if not fits or MANY_ONS.size + ON_FIELD.size * len(ons) + len(self._writer.data) > MOST_FOLDED:
+        last = self._hashes[-1] if many else self._before
+        if message_hashes(self._form.keys, self._author.name, last, part.operations, ons) != tuple(part.hashes):
             return False
-        self.entries.append(one)
-        self._ons, self._end, self._size = ons, len(self._writer.data), self._size + len(one.hashes)
-        self._operations += one.operations
+        self._hashes += part.hashes
+        self._ons |= {many + index: on for index, on in ons.items()}
         return True
 
-    def worth_folding(self) -> "ToFold | None":
-        """Those of the entries that become a fold, which has room for more: without the first of them that have as many messages as all
-        after them, so that no message is folded more often than the number of folded ones doubles."""
-        at, after = 0, self._size
-        while at < len(self) and 2 * len(self.entries[at].hashes) > after:
-            after -= len(self.entries[at].hashes)
-            at += 1
-        if len(self) - at < LEAST_FOLDED:
-            return None
-        found = ToFold(self.entries[at])
-        return found if all(map(found.add, self.entries[at + 1:])) else None
+    def keep(self) -> None:
+        """Notes that what was added ends with an entry."""
+        self._kept = len(self._writer.data), len(self._hashes)
 
-    def folded(self, form: RecordForm, author: Author) -> Record:
-        """The fold, by the author of all of them."""
-        part = Packed(tuple(self._operations), bytes(self._writer.data[:self._end]))
-        return form.messages(part, self._first.before, author, self._ons)
-
-    def is_had_by(self, fold: Record) -> bool:
-        """Whether a fold has just these messages, with the same hashes."""
-        return [*fold.hashes] == [of for one in self.entries for of in one.hashes] and fold.ons == self._ons_of_all()
-
-    def _ons_of_all(self) -> tuple[bytes, ...]:
-        return tuple(on for one in self.entries for on in one.ons)
+    def folded(self) -> Record:
+        """The fold of the entries that were added whole."""
+        size, many = self._kept
+        assert self._first
+        ons = {index: on for index, on in self._ons.items() if index < many}
+        return self._form.fold(bytes(self._writer.data[:size]), self._first, self._hashes[:many], self._before, self._author, ons)
 
 
-def due(entries: Iterable[Foldable]) -> ToFold | None:
-    """The first of some entries that become a fold: those of a chain, in its order, after which `LEFT_AFTER` follow."""
-    some: ToFold | None = None
-    for one in entries:
-        if one.is_large:
-            if some and (found := some.worth_folding()):
+def due(extents: Iterable[Extent | None]) -> Steps[list[Extent]]:
+    """The first entries of a chain that become a fold, or more of them than it has room for; none where none do."""
+    some = list[Extent]()
+    for one in extents:
+        yield 1
+        if one is None:
+            continue
+        if one.is_large or some and some[-1].end != one.begin:
+            if found := _worth_folding(some):
                 return found
-            some = None
-        elif some is None:
-            some = ToFold(one)
-        elif not some.add(one):
-            # It is full, or something isn't there.
-            if len(some) > 1:
-                return some
-            some = ToFold(one)
-    return some.worth_folding() if some else None
+            some = []
+        if not one.is_large:
+            some.append(one)
+        if some and one.end - some[0].begin >= MOST_FOLDED and (found := _worth_folding(some)):
+            # It has no room for what comes after them.
+            return found
+    return _worth_folding(some)
 
 
-def foldable(record: Record, length: int) -> Foldable:
-    """A record of messages, before which its chain had inserted so many characters."""
-    return Foldable(record.hash, len(record.body), record.before, length, record.operations, record.hashes, record.ons)
+def _worth_folding(some: list[Extent]) -> list[Extent]:
+    """Those of some entries that become a fold: without the first of them that have as many messages as all after them, so that no message
+    is folded more often than the number of folded ones doubles."""
+    at, after = 0, some[-1].end - some[0].begin if some else 0
+    while at < len(some) and 2 * some[at].size > after:
+        after -= some[at].size
+        at += 1
+    return some[at:] if len(some) - at >= LEAST_FOLDED else []
 
 
-def fold(form: RecordForm, records: Sequence[Record], author: Author, length: int = 0) -> Record | None:
+def folding(chain: Foldable, some: Sequence[Extent], form: RecordForm, author: Author) -> Steps[Record | None]:
+    """The fold of the first of some entries that follow one another in an author's chain, as many as it has room for; none where that is
+    one."""
+    for begin in range(len(some) - 1):
+        fold, many = ToFold(form, author, *chain.before(some[begin].begin)), 0
+        for one in some[begin:]:
+            if not (yield from _written(chain, one, fold)):
+                break
+            fold.keep()
+            many += 1
+        if many > 1:
+            return fold.folded()
+    return None
+
+
+def _written(chain: Foldable, one: Extent, fold: ToFold) -> Steps[bool]:
+    """Adds an entry to a fold; whether that has room for all of it."""
+    for begin in range(one.begin, one.end, MOST_IN_A_STEP):
+        end = min(begin + MOST_IN_A_STEP, one.end)
+        if not fold.add(chain.part(begin, end)):
+            return False
+        yield end - begin + OF_EACH_STEP
+    return True
+
+
+def at_once(steps: Steps[Found]) -> Found:
+    """What steps come to."""
+    while True:
+        try:
+            next(steps)
+        except StopIteration as ended:
+            found: Found = ended.value
+            return found
+
+
+def fold_of(form: RecordForm, records: Sequence[Record], author: Author, length: int = 0) -> Record | None:
     """Records of one author, number and text, each after the one before it, in one; None where one hasn't room for all of them, or they
-    don't follow one another."""
-    some = ToFold(foldable(records[0], length))
-    if not all(some.add(foldable(one, length)) for one in records[1:]):
+    don't follow one another. Before them the chain had inserted so many characters."""
+    some = ToFold(form, author, records[0].before, length)
+    if not all(some.add(Part(one.operations, one.hashes, one.ons)) for one in records):
         return None
-    found = some.folded(form, author)
-    return found if some.is_had_by(found) else None
+    some.keep()
+    return some.folded()

@@ -137,6 +137,12 @@ class RecordForm(Form):
         """The record of messages after the one that has a hash; some, by their index, say what they build on."""
         return self._made_of(RecordKind.MESSAGES, part, author, body_of_messages(part.chunk, ons or {}), before)
 
+    def fold(self, chunk: bytes, first: Operation, hashes: Sequence[bytes], before: bytes, author: Author,
+             ons: Mapping[int, bytes]) -> Record:
+        """The same of the messages of a chunk, whose first one is known, and their hashes."""
+        return self._made(RecordKind.MESSAGES, author, body_of_messages(chunk, ons), site=first.site, text=first.text, first=first.seq,
+                          size=len(hashes), before=before, hashes=tuple(hashes))
+
     def entry(self, before: Entry, part: Packed, author: Author, on: BuiltOn = b"") -> Record:
         return self.messages(part, before.name, author, on if isinstance(on, Mapping) else {})
 
@@ -158,10 +164,12 @@ class RecordForm(Form):
         return self._made(kind, author, body, site=first.site, text=first.text, first=first.seq, size=part.size, before=before)
 
     def _made(self, kind: RecordKind, author: Author, body: bytes, *, site: int, text: int, first: int = 0, size: int = 0,
-              before: bytes = NO_HASH) -> Record:
+              before: bytes = NO_HASH, hashes: tuple[bytes, ...] = ()) -> Record:
         head = RECORD_HEAD.pack(self.number, kind, self.note, author.name, site, text, first, size, before)
         unsigned = self._unsigned(head, body)
         raw = unsigned + self._signature(unsigned, author)
+        if hashes:
+            return Record(kind, author.name, site, text, first, size, before, body, raw, digest(raw), hashes)
         return record_of(self.keys, raw, body, digest(raw))
 
 
