@@ -1,5 +1,6 @@
 // Makes the edits that bench/library hands over at one site, and takes their messages in at another, as library_sites.c does:
-// by the addon, in bytes or UTF-16 units, or in Yjs.
+// by the addon, in bytes or UTF-16 units, or in Yjs. A file is also opened in a process that has done nothing before.
+import { spawnSync } from 'node:child_process';
 import fs from 'node:fs';
 import { createRequire } from 'node:module';
 import path from 'node:path';
@@ -13,7 +14,6 @@ const { Text } = await import(pathToFileURL(path.join(PACKAGE, 'index.js')).href
 const PASTE = 4000;
 const READINGS = 10;
 const LAST = 10;
-const KEYS = 10000;
 
 class AddonSite {
     constructor(site, units) {
@@ -65,9 +65,11 @@ class AddonSite {
         return this.text.store({ packed: true });
     }
 
+    // (where UTF-16 units are is found as somebody asks)
     loaded(file) {
         this.text.close();
         this.text = Text.load(file, { units: this.text.units });
+        return this.text.length;
     }
 }
 
@@ -172,12 +174,17 @@ function pasted(site, edits) {
     }
 }
 
-const [kind, mode] = process.argv.slice(2);
+function editsOf(lines) {
+    return lines.toString('latin1').split('\n').slice(0, -1).map((line) => {
+        const [pos, letter] = line.split(' ').map(Number);
+        return { pos, letter: letter === 0 ? '' : String.fromCharCode(letter) };
+    });
+}
+
+const [kind, mode, keys = '10000'] = process.argv.slice(2);
 const a = SITES[kind](1), b = SITES[kind](2);
-const edits = fs.readFileSync(0, 'latin1').split('\n').slice(0, -1).map((line) => {
-    const [pos, letter] = line.split(' ').map(Number);
-    return { pos, letter: letter === 0 ? '' : String.fromCharCode(letter) };
-});
+const given = fs.readFileSync(0);
+const edits = mode === 'once' ? [] : editsOf(given);
 const allOf = (site, these) => these.flatMap((edit) => make(site, edit));
 // By the name of what is timed, what comes before it, and it.
 const MODES = {
@@ -201,8 +208,8 @@ const MODES = {
     },
     // The last ones, after those before came in at once.
     far: () => {
-        b.paste(edits.slice(0, -KEYS).map(({ letter }) => letter).join(''));
-        return () => edits.slice(-KEYS).forEach((edit) => make(b, edit));
+        b.paste(edits.slice(0, -Number(keys)).map(({ letter }) => letter).join(''));
+        return () => edits.slice(-Number(keys)).forEach((edit) => make(b, edit));
     },
     since: () => {
         b.prepare(edits.slice(0, -LAST));
@@ -215,7 +222,17 @@ const MODES = {
         const file = a.file();
         return () => b.loaded(file);
     },
+    // What is handed over is a file.
+    once: () => () => b.loaded(given),
 };
+
+if (mode === 'opened') {
+    // (here V8's other threads may still be at work for the edits)
+    allOf(a, edits);
+    const { status } = spawnSync(process.execPath, ['--expose-gc', process.argv[1], kind, 'once'],
+        { input: a.file(), stdio: ['pipe', 'inherit', 'inherit'] });
+    process.exit(status ?? 1);
+}
 const work = MODES[mode]();
 global.gc?.();
 const before = peak();

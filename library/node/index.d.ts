@@ -339,7 +339,8 @@ export class Note {
 export class NoteText extends Shown {
     constructor(note: Note, number: number, options?: Options);
     readonly number: number;
-    insert(pos: number, data: Uint8Array | string): void;
+    /** Looks that aren't the default ones are an edit of their own, after it. */
+    insert(pos: number, data: Uint8Array | string, looks?: Looks): void;
     delete(beg: number, end: number): void;
     changeLooks(beg: number, end: number, looks: Looks): void;
     deleteNames(names: Iterable<NameRange>): void;

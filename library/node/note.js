@@ -1,5 +1,5 @@
 // Notes that several people edit: 16 texts each, which show what counts of the note's entries.
-import { DELETE, INSERT } from './delta.js';
+import { DEFAULT_LOOKS, DELETE, INSERT } from './delta.js';
 import { NO_MESSAGE, NO_NUMBER, failure } from './errors.js';
 import * as given from './given.js';
 import { Buffer, calls } from './host.js';
@@ -99,8 +99,20 @@ export class NoteText extends Shown {
         done(call(handleOf(this.#note), this.#number, ...words));
     }
 
-    insert(pos, data) {
-        this.#edited(calls.noteInsert, byteOf(this, pos), given.bytesOrString(data));
+    #dress(beg, end, { font, colour, offset }) {
+        const selected = Number(font !== undefined) + 2 * Number(colour !== undefined) + 4 * Number(offset !== undefined);
+        this.#edited(calls.noteLooks, beg, end, selected, given.font(font ?? ''), given.number(colour ?? 0, 0, 255),
+            given.number(offset ?? 0, -128, 127));
+    }
+
+    // Looks that aren't the default ones are an edit of their own, after it.
+    insert(pos, data, looks = undefined) {
+        const [byte, bytes] = [byteOf(this, pos), given.bytesOrString(data)];
+        const its = looks === undefined ? undefined : { ...DEFAULT_LOOKS, ...given.looks(looks) };
+        // (those that are none are refused before anything is put in)
+        if (its !== undefined) this.#dress(byte, byte, its);
+        this.#edited(calls.noteInsert, byte, bytes);
+        if (its !== undefined) this.#dress(byte, byte + bytes.length, its);
     }
 
     delete(beg, end) {
@@ -108,10 +120,7 @@ export class NoteText extends Shown {
     }
 
     changeLooks(beg, end, looks) {
-        const { font, colour, offset } = given.looks(looks);
-        const selected = Number(font !== undefined) + 2 * Number(colour !== undefined) + 4 * Number(offset !== undefined);
-        this.#edited(calls.noteLooks, byteOf(this, beg), byteOf(this, end), selected, given.font(font ?? ''), given.number(colour ?? 0, 0, 255),
-            given.number(offset ?? 0, -128, 127));
+        this.#dress(byteOf(this, beg), byteOf(this, end), given.looks(looks));
     }
 
     deleteNames(names) {

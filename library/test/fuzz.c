@@ -1,62 +1,17 @@
 /* Plays what libFuzzer makes up: calls of three sites of one text, with messages, chunks and files of its own, or of theirs with bytes
  * changed. After each call the changes that were told lead to what is shown, and one that was refused has left the text as it was. In the
- * end what was stored, packed, taken in any order and looked back at shows the same, and so do two sites that took in each other's.
+ * end what was stored, packed, taken in any order and looked back at shows the same, and so do two sites that took in each other's, and
+ * notes that were given each other's entries (fuzz_notes.c).
  * library/test/fuzz builds and runs it. */
-#include <stdio.h>
-#include <stdlib.h>
-#include <string.h>
+#include "fuzz.h"
 
-#include "../vialshoal.h"
-
-enum { SITES = 3, MESSAGE = 10297, MOST = 1 << 23, UNKNOWN = -1, FONT = 31, FRONTS = 8, LONG = 1 << 12 };
-
-static void fail(int line, const char *what) {
-    fprintf(stderr, "fuzz.c:%d: not so: %s\n", line, what);
-    abort();
-}
-
-#define IS(what) ((what) ? (void)0 : fail(__LINE__, #what))
-
-/* A call is done, refused or misused, by a number that has words. */
-static bool is_done(uint32_t number) {
-    IS(number <= VIALSHOAL_SEQ_SPENT || (number >= VIALSHOAL_NOT_OPEN && number <= VIALSHOAL_STILL_NOTED));
-    return number == 0;
-}
-
-/* -- what is read of the input -- */
-
-typedef struct {
-    const uint8_t *at;
-    size_t left;
-} bytes;
-
-static uint32_t byte_of(bytes *in) {
-    if (in->left == 0) return 0;
-    in->left--;
-    return *in->at++;
-}
-
-static uint32_t number_of(bytes *in) {
-    uint32_t low = byte_of(in);
-    return low < 0xf0 ? low : (low & 0xf) << 24 | byte_of(in) << 16 | byte_of(in) << 8 | byte_of(in);
-}
-
-/* So many bytes as a length of two bytes says, as far as they are there. */
-static bytes span_of(bytes *in) {
-    uint32_t length = byte_of(in);
-    length |= byte_of(in) << 8;
-    bytes found = {in->at, length < in->left ? length : in->left};
-    in->at += found.left;
-    in->left -= found.left;
-    return found;
-}
+enum { SITES = 3, MESSAGE = 10297, MOST = 1 << 23 };
 
 /* -- a site, and what is shown there by what was told of changes -- */
 
 typedef struct {
     vialshoal_text text;
-    int16_t *shown;
-    uint64_t length;
+    shown shown;
     bool is_noted;
 } site;
 
@@ -78,25 +33,6 @@ static uint8_t *bytes_of(vialshoal_text *text, uint64_t length) {
     return read;
 }
 
-/* Puts in what isn't known yet, or takes out. */
-static void change(site *at, const vialshoal_change *what) {
-    uint64_t many = what->end - what->beg;
-    IS(what->beg <= what->end && what->beg <= at->length);
-    if (what->kind == VIALSHOAL_INSERT) {
-        at->shown = realloc(at->shown, (at->length + many + 1) * sizeof *at->shown);
-        IS(at->shown != NULL);
-        memmove(at->shown + what->end, at->shown + what->beg, (at->length - what->beg) * sizeof *at->shown);
-        for (uint64_t i = what->beg; i < what->end; i++) at->shown[i] = UNKNOWN;
-        at->length += many;
-    } else {
-        IS(what->end <= at->length);
-        if (what->kind == VIALSHOAL_REPLACE) return;
-        IS(what->kind == VIALSHOAL_DELETE);
-        memmove(at->shown + what->beg, at->shown + what->end, (at->length - what->end) * sizeof *at->shown);
-        at->length -= many;
-    }
-}
-
 static void follow(site *at) {
     vialshoal_change changes[64];
     vialshoal_replacing replacing;
@@ -106,28 +42,21 @@ static void follow(site *at) {
         if (number == VIALSHOAL_TOO_SHORT) {
             vialshoal_change *all = malloc(need * sizeof *all);
             IS(all != NULL && vialshoal_changes(&at->text, all, need, &need) == 0);
-            for (uint64_t i = 0; i < need; i++) change(at, &all[i]);
+            for (uint64_t i = 0; i < need; i++) change(&at->shown, &all[i]);
             free(all);
         } else {
             IS(number == 0);
             if (need == 0) break;
-            for (uint64_t i = 0; i < need; i++) change(at, &changes[i]);
+            for (uint64_t i = 0; i < need; i++) change(&at->shown, &changes[i]);
         }
     }
     uint64_t length = length_of(&at->text);
     if (!at->is_noted) {
-        IS(vialshoal_replacement(&at->text, &replacing) == 0 && replacing.deleted == at->length && replacing.inserted == length);
-        at->shown = realloc(at->shown, (length + 1) * sizeof *at->shown);
-        IS(at->shown != NULL);
-        for (uint64_t i = 0; i < length; i++) at->shown[i] = UNKNOWN;
-        at->length = length;
+        IS(vialshoal_replacement(&at->text, &replacing) == 0 && replacing.deleted == at->shown.length && replacing.inserted == length);
+        begins_anew(&at->shown, length);
     }
-    IS(at->length == length);
     uint8_t *read = bytes_of(&at->text, length);
-    for (uint64_t i = 0; i < length; i++) {
-        IS(at->shown[i] == UNKNOWN || at->shown[i] == read[i]);
-        at->shown[i] = read[i];
-    }
+    is_read(&at->shown, read, length);
     free(read);
 }
 
@@ -363,7 +292,7 @@ static void loads(site *at, const uint8_t *from, size_t length) {
     if (vialshoal_merge(&probe, &text, &taken) == 0) {
         IS(vialshoal_free(&at->text) == 0);
         at->text = text;
-        at->length = 0;
+        at->shown.length = 0;
         at->is_noted = true;
     } else {
         IS(vialshoal_free(&text) == 0);
@@ -505,9 +434,10 @@ static void plays(bytes *in) {
     case 10: edits_names(at, in, false); break;
     case 11: edits_names(at, in, true); break;
     case 12:
-        IS(vialshoal_end_noting(&at->text, at->length) == 0);
+        IS(vialshoal_end_noting(&at->text, at->shown.length) == 0);
         at->is_noted = false;
         break;
+    case 13: fuzz_notes_play(in); break;
     default: edits(at, in);
     }
     follow(at);
@@ -518,7 +448,7 @@ int LLVMFuzzerTestOneInput(const uint8_t *data, size_t length) {
     bytes in = {data, length};
     for (int i = 0; i < SITES; i++) {
         IS(vialshoal_new(&sites[i].text, 1, (uint16_t)(i + 1)) == 0);
-        sites[i].length = 0;
+        sites[i].shown.length = 0;
         sites[i].is_noted = true;
     }
     while (in.left > 0) plays(&in);
@@ -532,6 +462,7 @@ int LLVMFuzzerTestOneInput(const uint8_t *data, size_t length) {
         meet(text, &sites[(i + 1) % SITES].text);
     }
     for (int i = 0; i < SITES; i++) IS(vialshoal_free(&sites[i].text) == 0);
+    fuzz_notes_end();
     return 0;
 }
 

@@ -1,5 +1,5 @@
 """Writes what fuzz.c begins with into a folder, from the tests of the repository: the messages and chunks that scripts take in, the files
-that they reopen; and edits, drawn at random, that sites hand to one another.
+that they reopen; and edits, drawn at random, that sites hand to one another, and say in notes.
 
   python3 library/test/seeds.py FOLDER
 """
@@ -15,7 +15,9 @@ TOP = Path(__file__).resolve().parents[2]
 SCRIPT_ROWS = TOP / "crates" / "script_rows" / "stdin"
 SPELLED = re.compile(rb"\b4f5[0-9a-f]{9,}\b")
 # The calls by the numbers that fuzz.c gives them; those above are edits.
-TAKE, UNPACK, LOAD, HAND_OVER, PACK, MERGE, EDIT = 0, 1, 2, 3, 4, 5, 15
+TAKE, UNPACK, LOAD, HAND_OVER, PACK, MERGE, NOTE, EDIT = 0, 1, 2, 3, 4, 5, 13, 15
+# Those of notes, by the numbers that fuzz_notes.c gives them.
+CHANGED, GIVE, UPDATE, SAY, EDIT_NOTE = 3, 4, 6, 7, 15
 CHUNK = b"OTC1"
 FILES = (b"OTS1", b"OTP1")
 # No input is longer, so that many are played.
@@ -46,6 +48,21 @@ def at_random(draw: random.Random) -> bytes:
     return b"".join(made)
 
 
+def of_notes(draw: random.Random) -> bytes:
+    """Edits of notes, and entries that come and go."""
+    made = []
+    for _ in range(draw.randrange(4, 60)):
+        what, which = draw.choice([EDIT_NOTE, EDIT_NOTE, SAY, GIVE, GIVE, UPDATE, CHANGED]), draw.randrange(0xF0)
+        made.append(bytes([NOTE, 0, what, which]))
+        if what == EDIT_NOTE:
+            made.append(bytes(draw.choices(range(0xF0), k=3)) + given(b"Oberon"[:draw.randrange(7)]))
+        elif what == GIVE:
+            made.append(bytes([draw.randrange(12)]))
+        elif what == CHANGED:
+            made.append(bytes([draw.randrange(12), 1 << draw.randrange(8), draw.randrange(0xF0), draw.randrange(8)]))
+    return b"".join(made)
+
+
 def seeds() -> Iterator[bytes]:
     """All of them, some of which are the same."""
     scripts = [path.read_bytes() for path in sorted(TOP.glob("rows/*/script"))] + SCRIPT_ROWS.read_bytes().split(b"\n= ")
@@ -54,7 +71,8 @@ def seeds() -> Iterator[bytes]:
         file = path.read_bytes() if path.is_file() else b""
         if file.startswith(FILES):
             yield bytes([LOAD, 0]) + given(file) + bytes([HAND_OVER, 0, 0, 0])
-    yield from (at_random(random.Random(number)) for number in range(AT_RANDOM))
+    for made in at_random, of_notes:
+        yield from (made(random.Random(number)) for number in range(AT_RANDOM))
 
 
 def main(folder: Path) -> None:

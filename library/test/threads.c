@@ -1,6 +1,6 @@
-/* Calls the library from eight threads: each with a text of its own; each with a site of one text, by messages; all with one text behind a
- * mutex; all that read one text, through handles that can't be written; and a text that goes from thread to thread. It is run under
- * helgrind and DRD, which see what two threads touch without one waiting for the other. */
+/* Calls the library from eight threads: each with a text of its own, and notes of its own; each with a site of one text, by messages; all
+ * with one text behind a mutex, and with one note; all that read one text and one note, through handles that can't be written; and a text
+ * that goes from thread to thread. It is run under helgrind and DRD, which see what two threads touch without one waiting for the other. */
 #define _DEFAULT_SOURCE
 #include <pthread.h>
 #include <stdio.h>
@@ -10,7 +10,7 @@
 
 #include "../vialshoal.h"
 
-enum { THREADS = 8, MESSAGE = 10297 };
+enum { THREADS = 8, MESSAGE = 10297, BODY = 16172 };
 
 static void fail(int line, const char *what) {
     fprintf(stderr, "threads.c:%d: not so: %s\n", line, what);
@@ -87,6 +87,112 @@ static void *is_alone(void *site) {
     IS(vialshoal_free(&text) == 0 && vialshoal_free(&other) == 0 && vialshoal_free(&again) == 0);
     free(room);
     return NULL;
+}
+
+/* -- notes: each its own, one that is shared, one that all read -- */
+
+static const vialshoal_hash NOTE_KEY = {{1}}, ANN = {{2}}, BOB = {{3}}, RANK = {{4}}, NONE = {{0}};
+
+/* A note that Ann founded as site 1, where Bob has claimed 2. */
+static vialshoal_note note_of(uint16_t site) {
+    vialshoal_note note = {0};
+    IS(vialshoal_note_new(&note, site, &NOTE_KEY, &ANN, 1, &NONE, &NONE, NULL, 0) == 0);
+    IS(vialshoal_note_claim(&note, &BOB, 2, &RANK) == 0 && vialshoal_note_update(&note) == 0);
+    return note;
+}
+
+/* Says the own edits of a note's first text, by entries, which both notes are given. */
+static void say(vialshoal_note *note, const vialshoal_hash *author, vialshoal_note *other) {
+    vialshoal_head head;
+    uint8_t body[BODY];
+    uint64_t need;
+    IS(vialshoal_note_own(note, 1, author, 0, &head, body, sizeof body, &need) == 0);
+    IS(vialshoal_note_add(note, &head, body, need) == 0 && vialshoal_note_add(other, &head, body, need) == 0);
+    IS(vialshoal_note_update(note) == 0 && vialshoal_note_update(other) == 0);
+}
+
+/* Asks a note's first text all that it can be asked. */
+static void asks(const vialshoal_note *note) {
+    static const vialshoal_site_front front = {1, 1};
+    vialshoal_past_text past = {0};
+    vialshoal_looks_run run;
+    vialshoal_name name;
+    vialshoal_place place;
+    vialshoal_head head;
+    uint8_t font[31];
+    uint16_t sites[2];
+    uint64_t length, need;
+    uint32_t of_one;
+    IS(vialshoal_note_length(note, 1, &length) == 0 && length > 0);
+    uint8_t *room = malloc(length);
+    IS(room != NULL && vialshoal_note_bytes(note, 1, 0, length, room, length, &need) == 0 && need == length);
+    free(room);
+    IS(vialshoal_note_names(note, 1, length / 2, length / 2 + 1, &name, 1, &need) == 0);
+    IS(vialshoal_note_find(note, 1, name.site, name.offset, &place) == 0 && place.pos == length / 2 + 1);
+    IS(vialshoal_note_looks(note, 1, 0, &run, font, sizeof font, &need) == 0 && run.end > 0);
+    IS(vialshoal_note_sites(note, 1, sites, 2, &need) == 0 && need > 0);
+    IS(vialshoal_note_front(note, 1, sites[0], &of_one) == 0 && of_one > 0);
+    IS(vialshoal_note_past(note, 1, &front, 1, &past) == 0 && vialshoal_past_free(&past) == 0);
+    IS(vialshoal_note_own(note, 1, &ANN, 0, &head, NULL, 0, &need) == VIALSHOAL_NO_MESSAGE);
+}
+
+static void *has_notes(void *site) {
+    vialshoal_note ann = note_of(1), bob = note_of(2);
+    vialshoal_change changes[64];
+    uint64_t length, its, need;
+    uint32_t sent;
+    bool is_anew;
+    (void)site;
+    for (int i = 0; i < edits / 8 + 1; i++) {
+        IS(vialshoal_note_insert(&ann, 1, 0, BYTES("abc"), 3, &sent) == 0 && sent == 1);
+        say(&ann, &ANN, &bob);
+        IS(vialshoal_note_delete(&bob, 1, 1, 2, &sent) == 0 && sent == 1);
+        IS(vialshoal_note_change_looks(&bob, 1, 0, 1, VIALSHOAL_COLOUR, BYTES(""), 0, 3, 0, &sent) == 0);
+        say(&bob, &BOB, &ann);
+        IS(vialshoal_note_changes(&ann, 1, &is_anew, changes, 64, &need) == 0 && need > 0 && !is_anew);
+    }
+    asks(&ann);
+    IS(vialshoal_note_length(&ann, 1, &length) == 0 && vialshoal_note_length(&bob, 1, &its) == 0 && length == its);
+    IS(vialshoal_note_free(&ann) == 0 && vialshoal_note_free(&bob) == 0);
+    return NULL;
+}
+
+static pthread_mutex_t note_turn = PTHREAD_MUTEX_INITIALIZER;
+static vialshoal_note *shared_note, reading_note;
+
+static void *shares_a_note(void *site) {
+    uint32_t sent;
+    (void)site;
+    for (int i = 0; i < edits / 8 + 1; i++) {
+        IS(pthread_mutex_lock(&note_turn) == 0);
+        IS(vialshoal_note_insert(shared_note, 1, 0, BYTES("abc"), 3, &sent) == 0 && sent == 1);
+        say(shared_note, &ANN, &reading_note);
+        IS(pthread_mutex_unlock(&note_turn) == 0);
+    }
+    return NULL;
+}
+
+static void *reads_a_note(void *of) {
+    for (int i = 0; i < edits / 8 + 1; i++) asks(*(const vialshoal_note **)of);
+    return NULL;
+}
+
+static void have_notes(void) {
+    vialshoal_note *all[THREADS];
+    uint64_t length;
+    shared_note = mmap(NULL, sizeof *shared_note, PROT_READ | PROT_WRITE, MAP_PRIVATE | MAP_ANONYMOUS, -1, 0);
+    IS(shared_note != MAP_FAILED);
+    for (int i = 0; i < THREADS; i++) all[i] = shared_note;
+    side_by_side(has_notes, all, sizeof all[0]);
+    *shared_note = note_of(1);
+    reading_note = note_of(2);
+    side_by_side(shares_a_note, all, sizeof all[0]);
+    IS(vialshoal_note_length(&reading_note, 1, &length) == 0 && length == 3u * THREADS * (edits / 8 + 1));
+    IS(mprotect(shared_note, sizeof *shared_note, PROT_READ) == 0);
+    side_by_side(reads_a_note, all, sizeof all[0]);
+    IS(mprotect(shared_note, sizeof *shared_note, PROT_READ | PROT_WRITE) == 0);
+    IS(vialshoal_note_free(shared_note) == 0 && vialshoal_note_free(&reading_note) == 0);
+    IS(munmap(shared_note, sizeof *shared_note) == 0);
 }
 
 /* -- each a site, by messages -- */
@@ -318,6 +424,7 @@ int main(int count, char **words) {
     edits = count > 1 ? atoi(words[1]) : 200;
     for (int i = 0; i < THREADS; i++) sites[i] = (uint16_t)(i + 1);
     side_by_side(is_alone, sites, sizeof sites[0]);
+    have_notes();
     meet();
     IS(vialshoal_new(&shared, 1, 1) == 0 && vialshoal_new(&reader, 1, 2) == 0);
     side_by_side(takes_turns, sites, sizeof sites[0]);

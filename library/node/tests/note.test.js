@@ -52,6 +52,14 @@ ours.changeLooks(0, 1, { font: 'Syntax12.Scn.Fnt', offset: -3 });
 give(ann.say(ANN), bob);
 assert.deepStrictEqual([`${theirs}`, theirs.position(anchor), theirs.slice(1, 3)], ['eon\u{1f600}!', 3, 'on']);
 assert.deepStrictEqual(theirs.runs()[0], { beg: 0, end: 1, font: 'Syntax12.Scn.Fnt', colour: 1, offset: -3 });
+// Looks are an edit of their own, and such as are none put nothing in.
+theirs.insert(3, '\u20ac', { colour: 3 });
+give(bob.say(BOB), ann);
+assert.deepStrictEqual(ours.runs(3, 7).map(({ beg, end, colour }) => [beg, end, colour]), [[3, 6, 3], [6, 7, 1]]);
+theirs.deleteNames(theirs.nameRanges(3, 4));
+for (const looks of [{ font: '1.Fnt' }, { colour: 16 }]) assert.throws(() => theirs.insert(0, 'x', looks), { code: 'NO_NUMBER' });
+give(bob.say(BOB), ann);
+assert.strictEqual(`${ours}`, `${theirs}`);
 ours.restoreNames([{ site: 1, offset: 0, length: 6 }]);
 ann.update();
 assert.strictEqual(`${ours}`, 'eon\u{1f600}!');

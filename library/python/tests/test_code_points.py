@@ -8,13 +8,12 @@ import subprocess
 import unittest
 from bisect import bisect_left
 from dataclasses import replace
-from pathlib import Path
 from typing import Callable, Optional
 
 from hypothesis import given, settings
 from hypothesis import strategies as st
 
-from test_text import PROGRAM, spelled
+from test_text import IS_BUILT, PROGRAM, spelled
 from vialshoal import ChangeKind, Misused, Name, Run, Text
 from vialshoal import _code_points as code_points
 
@@ -152,7 +151,7 @@ class AgainstTheProgram(SmallBlocks):
     @given(edits)
     @settings(max_examples=25, deadline=None)
     def test_messages_are_those_of_byte_positions(self, given_edits: list[Edit]) -> None:
-        if not Path(PROGRAM).exists():
+        if not IS_BUILT:
             self.skipTest("the program isn't built")
         script, wanted = "", []
         with Text(1, site=1, units="code points") as text:

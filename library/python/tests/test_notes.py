@@ -13,7 +13,7 @@ from collections.abc import Iterable
 from dataclasses import replace
 from typing import Any, AnyStr
 
-from vialshoal import Change, ChangeKind, Entry, Misused, Name, NameRange, Note, NoteText, Refused, Text
+from vialshoal import Change, ChangeKind, Entry, Looks, Misused, Name, NameRange, Note, NoteText, Refused, Text
 
 KEY, ANN, BOB = b"k" * 32, b"A" * 32, b"B" * 32
 RANK = b"r" * 32
@@ -98,6 +98,21 @@ class Notes(unittest.TestCase):
             ours.delete_names([NameRange(1, 3, 1)])
             give(ann.say(ANN), bob)
             self.assertEqual((str(theirs), theirs.position(anchor), repr(theirs)), ("eon\xe9!", 3, "<NoteText 1 of site 2: 'eon\xe9!'>"))
+
+    def test_what_is_put_in_has_looks(self) -> None:
+        with opened(1) as ann, opened(2) as bob:
+            text = ann.text(units="code points")
+            text.insert(0, "ab")
+            text.insert(1, "\u20ac!", Looks("Syntax10.Scn.Fnt", 3, -2))
+            give(ann.say(ANN), bob)
+            self.assertEqual((str(text), bytes(bob.text()).decode()), ("a\u20ac!b", "a\u20ac!b"))
+            for one in text, bob.text(units="code points"):
+                runs = [(run.beg, run.end, run.looks) for run in one.runs()]
+                self.assertEqual(runs, [(0, 1, Looks()), (1, 3, Looks("Syntax10.Scn.Fnt", 3, -2)), (3, 4, Looks())])
+            wrong: Any = "Syntax10.Scn.Fnt"
+            for looks, error in (Looks("1.Fnt"), Misused), (Looks(colour=16), Misused), (wrong, TypeError):
+                self.assertRaises(error, text.insert, 0, "x", looks)
+            self.assertEqual((str(text), ann.say(ANN)), ("a\u20ac!b", []))
 
     def test_texts_are_apart(self) -> None:
         with opened(1) as ann, opened(2) as bob:

@@ -15,7 +15,7 @@ from typing import Any, Callable, Literal, Union
 from hypothesis import given, settings
 from hypothesis import strategies as st
 
-from test_text import PROGRAM, Edit, edited, edits, one_edit, put_in, spelled
+from test_text import IS_BUILT, PROGRAM, Edit, edited, edits, one_edit, put_in, spelled
 from vialshoal import Looks, Misused, Name, Past, Place, Refused, Run, Shown, TakingKind, Text
 
 # A site, by its place in a list, edits, or is brought what another one has past its fronts.
@@ -236,7 +236,7 @@ class InLooks(unittest.TestCase):
 
 class AgainstTheProgram(unittest.TestCase):
     def setUp(self) -> None:
-        if not Path(PROGRAM).exists():
+        if not IS_BUILT:
             self.skipTest("the program isn't built")
 
     @given(steps, st.lists(st.tuples(st.integers(0, 2), fronts), max_size=6))

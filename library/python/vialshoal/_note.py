@@ -11,7 +11,7 @@ from typing import Any, AnyStr, Literal, NoReturn, Optional, overload
 
 from . import _given as given
 from . import _library as c
-from ._answers import Change, ChangeKind, NameRange, done
+from ._answers import Change, ChangeKind, Looks, NameRange, done
 from ._code_points import CodePoints
 from ._composing import DELETE, INSERT, Triple
 from ._given import Buffer
@@ -176,11 +176,23 @@ class NoteText(Shown[AnyStr]):
     def _edited(self, call: Callable[..., int], *words: Any) -> None:
         done(call(self._handle, self._number, *words, byref(self._sent)))
 
+    def _dress(self, beg: int, end: int, font: Optional[str], colour: Optional[int], offset: Optional[int]) -> None:
+        selected = (font is not None) + 2 * (colour is not None) + 4 * (offset is not None)
+        spelled = given.font(font or "")
+        self._edited(c.calls.vialshoal_note_change_looks, beg, end, selected, spelled, len(spelled), given.number(colour or 0, 255),
+                     given.offset(offset or 0))
+
     @alone
-    def insert(self, pos: int, data: AnyStr) -> None:
-        """Puts bytes, or characters, after the first `pos` ones."""
-        put = self._spelled(data)
-        self._edited(c.calls_for(len(put)).vialshoal_note_insert, self._byte(pos), put, len(put))
+    def insert(self, pos: int, data: AnyStr, looks: Optional[Looks] = None) -> None:
+        """Puts bytes, or characters, after the first `pos` ones, in the default looks; others are an edit of their own, after it."""
+        put, byte = self._spelled(data), self._byte(pos)
+        of_it = None if looks is None else (given.instance(looks, Looks).font, looks.colour, looks.offset)
+        if of_it is not None:
+            # (those that are none are refused before anything is put in)
+            self._dress(byte, byte, *of_it)
+        self._edited(c.calls_for(len(put)).vialshoal_note_insert, byte, put, len(put))
+        if of_it is not None:
+            self._dress(byte, byte + len(put), *of_it)
 
     @alone
     def delete(self, beg: int, end: int) -> None:
@@ -191,10 +203,7 @@ class NoteText(Shown[AnyStr]):
     def change_looks(self, beg: int, end: int, *, font: Optional[str] = None, colour: Optional[int] = None,
                      offset: Optional[int] = None) -> None:
         """Gives a range those of these looks that are named."""
-        selected = (font is not None) + 2 * (colour is not None) + 4 * (offset is not None)
-        spelled = given.font(font or "")
-        self._edited(c.calls.vialshoal_note_change_looks, self._byte(beg), self._byte(end), selected, spelled, len(spelled),
-                     given.number(colour or 0, 255), given.offset(offset or 0))
+        self._dress(self._byte(beg), self._byte(end), font, colour, offset)
 
     @alone
     def delete_names(self, names: Iterable[NameRange]) -> None:
