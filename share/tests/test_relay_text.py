@@ -15,7 +15,7 @@ from share.tests.pages import FAULTS_OF_LOOKS, LOOKS_SO
 from share.tests.processes import children
 from share.tests.relays import RelayHere
 from share.tests.support import alive
-from share.tests.test_relay_front import ALL_SENT, IS_HERE
+from share.tests.test_relay_front import ALL_SENT, IS_HERE, NO_ROOM
 from share.tests.test_relay_people import AtPage
 from share.tests.test_relay_security import TappedLines, messages_of
 from share.tests.waiting import wait_for
@@ -37,6 +37,15 @@ MESSAGES_KEPT = """new Promise((done) => { indexedDB.open("vialshoal").onsuccess
     done(found.result.filter(({ raw }) => raw[1] === 4).reduce((sum, { raw }) => sum + raw[57] * 256 + raw[58], 0));
   };
 }; })"""
+NO_ROOM_TOLD = "document.getElementById('words').textContent.includes('no room left')"
+# What the browser has kept isn't read any more until `reads` is called.
+READING_IS_HELD = """void ((decrypt) => {
+  const held = new Promise((done) => { window.reads = done; });
+  SubtleCrypto.prototype.decrypt = async function (...given) {
+    await held;
+    return decrypt.apply(this, given);
+  };
+})(SubtleCrypto.prototype.decrypt)"""
 ON = "[...document.querySelectorAll('#people li')].map((one) => one.textContent).sort().join()"
 CARETS = "[...document.querySelectorAll('.caret b')].map((one) => one.textContent)"
 # What would do something if a page, or a program of it, read it as more than text.
@@ -246,6 +255,43 @@ class Kept(AtText):
             window.shows("typed and kept")
             window.state("all sent")
             self.assertEqual(self.in_terminal("cat", "killed", link=link).stdout, "typed and kept")
+
+    def test_what_a_full_disk_did_not_take_is_taken_out_in_words(self) -> None:
+        window, _ = self.made_text()
+        window.type("kept")
+        window.state("all sent")
+        window.run("void (window.adds = IDBObjectStore.prototype.add)")
+        window.run(NO_ROOM)
+        window.type(" lost")
+        window.wait_for(NO_ROOM_TOLD)
+        window.shows("kept")
+        window.run("void (IDBObjectStore.prototype.add = window.adds)")
+        # There is room again.
+        window.wait_for(f"!{MIRROR}.getOption('readOnly')")
+        self.at_end(window)
+        window.type(" on")
+        wait_for(lambda: window.run(MESSAGES_KEPT) == len("kept on"), "what was typed to be kept")
+        window.state("all sent")
+        window.shows("kept on")
+        self.assert_right(window)
+
+    def test_the_page_goes_on_while_its_text_is_begun_anew(self) -> None:
+        window, _ = self.made_text()
+        window.type("kept")
+        window.state("all sent")
+        window.run(NO_ROOM)
+        window.run(READING_IS_HELD)
+        window.type("x")
+        window.wait_for(NO_ROOM_TOLD)
+        # The page's timer that tells where the cursor is ends before this one.
+        window.to(2)
+        window.run("new Promise((done) => setTimeout(done, 100))")
+        window.run("void window.reads()")
+        window.shows("kept")
+        window.wait_for(f"!{MIRROR}.getOption('readOnly')")
+        self.assertEqual(window.run(f"{MIRROR}.getCursor().ch"), 2)
+        self.assertEqual(window.run("document.getElementById('words').children.length"), 1)
+        self.assert_right(window)
 
     def test_a_note_that_is_not_here_is_told(self) -> None:
         window, _ = self.made_text()

@@ -1,6 +1,6 @@
 // What is typed in this tab: under a number that no other tab types under meanwhile, so that they never make two histories of one. An edit is
 // an entry, which is sealed and signed, and on the disk before it is answered.
-import { hex } from "./bytes.js";
+import { Trouble, hex } from "./bytes.js";
 import { KIND, claim, sealed } from "./entry.js";
 import { authorOf, sha256 } from "./keys.js";
 import { rankOf } from "./rank.js";
@@ -14,8 +14,8 @@ import { TEXT } from "./shared.js";
 const AT_ONCE = 100;
 
 export class Own {
-  // Whether something wasn't kept, so that nothing may be said that builds on it.
-  hasFailed = false;
+  // Why something wasn't kept, in words, so that nothing may be said that builds on it.
+  failure = "";
   #store;
   #keys;
   #id;
@@ -31,7 +31,7 @@ export class Own {
   #sites = new Set();
 
   /** @param {import("./store.js").Store} store @param {import("./keys.js").NoteKeys} keys @param {string} id
-   * @param {{ kept: (edits: number) => void, failed: (why: unknown) => void }} told of edits up to a number that are on the disk */
+   * @param {{ kept: (edits: number) => void, failed: () => void }} told of edits up to a number that are on the disk */
   constructor(store, keys, id, told) {
     this.#store = store;
     this.#keys = keys;
@@ -76,7 +76,7 @@ export class Own {
   /** Has what was said be sealed and kept, after what was said before.
    * @param {Saying} saying @param {number} edits up to which of the editor's edits this has all */
   say(saying, edits) {
-    if (this.hasFailed) return;
+    if (this.failure) return;
     this.#queue.push({ saying, edits });
     if (!this.#isBusy) this.#going = this.#go();
   }
@@ -131,9 +131,10 @@ export class Own {
         this.#queue.splice(0, some.length);
         this.#told.kept(some[some.length - 1].edits);
       }
-    } catch (why) {
-      [this.#queue, this.hasFailed] = [[], true];
-      this.#told.failed(why);
+    } catch (/** @type {any} */ why) {
+      if (!(why instanceof Trouble)) reportError(why);
+      [this.#queue, this.failure] = [[], why.message];
+      this.#told.failed();
     } finally {
       this.#isBusy = false;
     }

@@ -205,7 +205,7 @@ export class Source {
     try {
       if (!text || !this.#isOpen || !isNext) throw new Wrong("order", "That edit isn't the next one.");
       if (version !== this.#version) throw new Wrong("version", "That edit is of another text.");
-      if (!this.#whole.types) throw new Wrong("number", NO_NUMBER);
+      this.#mayType();
       this.#make(text, changes, join);
       this.#whole.made(edits);
     } catch (why) {
@@ -215,6 +215,12 @@ export class Source {
       if (this.#isOpen) this.#sendText();
       this.#told.came({ answer: "edit", edits, ...errorOf(why) });
     }
+  }
+
+  #mayType() {
+    const { failure } = this.#whole.own;
+    if (failure) throw new Wrong("unkept", failure);
+    if (!this.#whole.types) throw new Wrong("number", NO_NUMBER);
   }
 
   /** @param {SharedText} text @param {Change[]} changes @param {unknown} join */
@@ -234,20 +240,20 @@ export class Source {
    * @param {any} line @returns {object} */
   #asked(line) {
     const { text } = this.#whole;
-    if (line.do === "close") return {};
+    if (line.do === "text") {
+      // An error isn't what this is answered: a page asks for the text where it is told one.
+      this.#edits = line.edits;
+      this.#sendText();
+    }
+    if (["close", "seen", "text"].includes(line.do)) return {};
     if (!text || !this.#isOpen) return { error: "order", words: "The note isn't open." };
     try {
       switch (line.do) {
         case "undo": case "redo": return { done: this.#undo(text, line) };
         case "looks": return this.#look(text, line);
         case "cursor": return this.#cursor(text, line);
-        case "seen": return {};
         case "on": return { people: this.#people.on(this.#whole.own.number?.site ?? 0) };
         case "who": return { edits: this.#edits, stretches: this.#people.named(text.wrote(line.begin, line.end), this.#whole) };
-        case "text":
-          this.#edits = line.edits;
-          this.#sendText();
-          return {};
         // Whoever is told this asks for none again.
         case "remarks": return { error: "margin", words: NOT_HERE };
         default: return { error: "unknown", words: NOT_HERE };
@@ -270,7 +276,7 @@ export class Source {
 
   /** @param {SharedText} text @param {any} line */
   #look(text, { ranges, bold, colour }) {
-    if (!this.#whole.types) throw new Wrong("number", NO_NUMBER);
+    this.#mayType();
     this.#undoing.add(text.look(ranges, { bold, colour }));
     this.#whole.made(this.#edits);
     return {};

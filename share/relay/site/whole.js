@@ -27,7 +27,10 @@ export class Whole {
   #store;
   #keys;
   #note;
+  // From where entries come; and from where they came that the text has, until the text is begun anew.
   #feed;
+  /** @type {Feed | null} */
+  #shown = null;
   #spare;
   // Up to which of the editor's edits all was said, or is about to be.
   #edits = 0;
@@ -41,7 +44,7 @@ export class Whole {
    * @param {import("./store.js").Note} note @param {Ear} ear */
   constructor(core, store, keys, note, ear) {
     [this.#core, this.#store, this.#keys, this.#note, this.#ear] = [core, store, keys, note, ear];
-    this.own = new Own(store, keys, note.id, { kept: (edits) => this.#kept(edits), failed: (why) => this.#failed(why) });
+    this.own = new Own(store, keys, note.id, { kept: (edits) => this.#kept(edits), failed: () => this.#failed() });
     this.#spare = new Spare(store, keys, note.id, async () => this.facts.taken());
     this.#feed = this.#newFeed();
     this.followed = new Followed(store, keys, note.url, (hasEntries) => this.#came(hasEntries), () => this.#keepSpare());
@@ -58,7 +61,7 @@ export class Whole {
 
   /** Whether something can be typed. */
   get types() {
-    return Boolean(this.text && this.own.number && !this.own.hasFailed);
+    return Boolean(this.text && !this.own.failure && this.own.number && this.own.number.site === this.#shown?.site);
   }
 
   /** Whether a number is searched for. */
@@ -114,16 +117,18 @@ export class Whole {
   }
 
   async #feedOn() {
-    const hasMore = await this.#feed.next((done, of) => this.#ear.reads(done, of));
+    await this.#fed(await this.#feed.next((done, of) => this.#ear.reads(done, of)));
+  }
+
+  /** Shows what was read, if there is more; and takes another number, where somebody has claimed it since it was searched for.
+   * @param {boolean} hasMore */
+  async #fed(hasMore) {
     const { number } = this.own;
-    if (number?.claims && this.#isTaken(number)) {
-      // Somebody has claimed it since it was searched for.
-      this.own.leave();
-      await this.#takeNumber();
-    } else if (hasMore) {
-      this.#show();
-    }
+    const isTaken = Boolean(number?.claims && this.#isTaken(number));
+    if (isTaken) this.own.leave();
+    if (hasMore) this.#show();
     this.#ear.stands();
+    if (isTaken) await this.#takeNumber();
   }
 
   /** @param {import("./own.js").Held} number */
@@ -142,6 +147,7 @@ export class Whole {
       return;
     }
     if (this.text) this.#ear.settle();
+    if (this.#shown !== this.#feed) this.#begins();
     this.#say(value);
     this.#feed.hand();
     value.update();
@@ -151,10 +157,16 @@ export class Whole {
     this.#ear.stands();
   }
 
+  /** The text is begun anew, from what came by now. */
+  #begins() {
+    this.#shown?.close();
+    [this.#shown, this.text, this.own.failure] = [this.#feed, null, ""];
+  }
+
   /** @param {import("./value.js").Value} value */
   #say(value) {
     const { number } = this.own;
-    if (!number || this.own.hasFailed) return;
+    if (!number || this.own.failure) return;
     if (number.claims) value.claim(number.author.name, number.site, number.claims.rank);
     for (const one of value.own(TEXT, number.author.name)) {
       value.add(one);
@@ -172,21 +184,19 @@ export class Whole {
     this.#ear.stands();
   }
 
-  /** What was typed can't be kept: it is taken out.
-   * @param {any} why */
-  #failed(why) {
-    if (!(why instanceof Trouble)) reportError(why);
-    this.#next(async () => {
-      await this.#anew();
-      this.#ear.unkept(why.message);
-    });
+  /** What was typed can't be kept: it is taken out. */
+  #failed() {
+    this.#ear.unkept(this.own.failure);
+    this.#next(() => this.#anew());
   }
 
-  /** Has the note be shown anew from what is kept. */
+  /** Has the note be shown anew from what is kept. What is shown until then stays, and takes no edits. */
   async #anew() {
-    this.#feed.close();
-    [this.#feed, this.text, this.own.hasFailed] = [this.#newFeed(), null, false];
-    await this.#feedOn();
+    const feed = this.#newFeed();
+    await feed.next((done, of) => this.#ear.reads(done, of));
+    if (this.#feed !== this.#shown) this.#feed.close();
+    this.#feed = feed;
+    await this.#fed(true);
   }
 
   // The number.
