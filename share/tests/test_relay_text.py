@@ -37,6 +37,8 @@ MESSAGES_KEPT = """new Promise((done) => { indexedDB.open("vialshoal").onsuccess
     done(found.result.filter(({ raw }) => raw[1] === 4).reduce((sum, { raw }) => sum + raw[57] * 256 + raw[58], 0));
   };
 }; })"""
+PAST = "document.querySelector('#past-text .CodeMirror').CodeMirror.getValue()"
+STEP, SINCE = (f"document.getElementById('{name}').textContent" for name in ("step", "since-words"))
 NO_ROOM_TOLD = "document.getElementById('words').textContent.includes('no room left')"
 # What the browser has kept isn't read any more until `reads` is called.
 READING_IS_HELD = """void ((decrypt) => {
@@ -195,6 +197,79 @@ class Typed(AtText):
         window.wait_for("document.getElementById('legend').textContent.includes('<b>Ann</b>')")
         made = "document.querySelectorAll('#text img, #text script, #legend b').length"
         self.assertEqual(window.run(f"[document.title, {made}]"), ["picnic", 0])
+        self.assert_right(window)
+
+
+class Before(AtText):
+    """The text as it was, and what has changed since."""
+
+    def test_the_history_shows_each_step_and_who_wrote_what(self) -> None:
+        window, link = self.made_text()
+        window.rename("Bea")
+        window.type("mine")
+        window.state("all sent")
+        ann = self.engine_of("Ann", link, colour="#123456")
+        ann.gets_number()
+        ann.wait_for(lambda: ann.text == "mine", "the page's text")
+        ann.edit((0, 0, "Theirs \U0001f44d\n"))
+        window.shows("Theirs \U0001f44d\nmine")
+        window.select(0, 1)
+        window.type_over("t")
+        window.shows("theirs \U0001f44d\nmine")
+        ann.shows("theirs \U0001f44d\nmine")
+        window.press("history")
+        window.gives(PAST, "theirs \U0001f44d\nmine")
+        window.gives(STEP, "step 4 of 4: Bea, 1 typed")
+        for step, past in (("step 3 of 4: Bea, 1 deleted", "heirs \U0001f44d\nmine"), ("step 2 of 4: Ann, 12 typed", "Theirs \U0001f44d\nmine"),
+                           ("step 1 of 4: Bea, 4 typed", "mine"), ("at the beginning, of 4 steps", "")):
+            window.press("earlier")
+            window.gives(PAST, past)
+            window.gives(STEP, step)
+        window.press("later")
+        window.press("later")
+        # Of two writers, in two colours.
+        window.gives("[0, 1].map((one) => [...document.querySelectorAll(`#past-text .of-${one}`)].map((it) => it.textContent).join('|'))",
+                     ["mine", "Theirs \U0001f44d"])
+        window.gives("[...document.querySelectorAll('#authors li')].map((one) => one.textContent)", ["Ann", "Bea"])
+        # What has changed since then.
+        window.press("since-here")
+        window.gives(SINCE, "2 changes since that place of the history")
+        window.gives("[...document.querySelectorAll('#text .went')].map((one) => one.dataset.went)", ["T"])
+        window.gives("[...document.querySelectorAll('#text .came')].map((one) => one.textContent)", ["t"])
+        # Others' text comes meanwhile.
+        ann.edit((0, 0, "More "))
+        window.shows("More theirs \U0001f44d\nmine")
+        window.press("unchanged")
+        self.assert_right(window)
+
+    def test_what_has_changed_since_the_user_looked(self) -> None:
+        window, link = self.made_text()
+        window.paste("one two three")
+        window.state("all sent")
+        looked = "new Promise((done) => { indexedDB.open('vialshoal').onsuccess = ({ target }) => { " \
+            "target.result.transaction('notes').objectStore('notes').getAll().onsuccess = ({ target: found }) => { " \
+            "target.result.close(); done(found.result.map(({ looked }) => looked?.fronts.flat()[1] ?? 0)[0]); }; }; })"
+        # What is pasted is one message.
+        wait_for(lambda: window.run(looked) == 1, "the look to be kept")
+        window.press("changed")
+        window.gives(SINCE, "1 change since the note began")
+        window.close()
+        ann = self.engine_of("Ann", link)
+        ann.gets_number()
+        ann.wait_for(lambda: ann.text == "one two three", "the page's text")
+        ann.edit((4, 7, "2"))
+        ann.edit((0, 0, "From Ann: "))
+        window = self.text_of(link)
+        window.shows("From Ann: one 2 three")
+        window.press("changed")
+        window.wait_for(f"{SINCE}.startsWith('3 changes since you looked, ')")
+        window.gives("[...document.querySelectorAll('#text .came')].map((one) => one.textContent)", ["From Ann: ", "2"])
+        window.gives("[...document.querySelectorAll('#text .went')].map((one) => one.dataset.went)", ["two"])
+        window.gives("[...document.querySelectorAll('#changers li')].map((one) => one.textContent).sort()", ["Ann", "you"])
+        # They move with the text.
+        ann.edit((0, 0, "x\n"))
+        window.shows("x\nFrom Ann: one 2 three")
+        window.gives("[...document.querySelectorAll('#text .came')].map((one) => one.textContent)", ["From Ann: ", "2"])
         self.assert_right(window)
 
 

@@ -22,7 +22,7 @@ class Texts(unittest.TestCase):
             run = subprocess.run(words, capture_output=True, text=True, check=False)
             self.assertEqual((run.returncode, run.stderr), (0, ""), seed)
             found = json.loads(run.stdout)
-            self.assertEqual((found["writers"], found["characters"] > 0, found["dressed"] > 0), (2, True, True))
+            self.assertEqual((found["writers"], found["characters"] > 0, found["dressed"] > 0, found["steps"] > 0), (2, True, True, True))
 
 
 if __name__ == "__main__":

@@ -3,6 +3,7 @@
 import { Trouble, hex } from "./bytes.js";
 import { Feed } from "./feed.js";
 import { Followed } from "./followed.js";
+import { historyOf } from "./history.js";
 import { Own } from "./own.js";
 import { SharedText, TEXT } from "./shared.js";
 import { Spare } from "./spare.js";
@@ -80,6 +81,13 @@ export class Whole {
       this.#isDue = false;
       if (!this.#hasEnded) this.#show();
     });
+  }
+
+  /** How the text came to be. */
+  async history() {
+    const [{ entries }, { facts }] = [await this.#store.entries(this.#note.id), this];
+    const holders = new Map(facts.numbers().map(({ site, author }) => [site, author]));
+    return historyOf(entries, this.#keys, TEXT, holders, new Map(this.text?.fronts()));
   }
 
   /** Ends once all is kept; edits are counted from 0 then. */
