@@ -37,6 +37,7 @@ MESSAGES_KEPT = """new Promise((done) => { indexedDB.open("vialshoal").onsuccess
     done(found.result.filter(({ raw }) => raw[1] === 4).reduce((sum, { raw }) => sum + raw[57] * 256 + raw[58], 0));
   };
 }; })"""
+HEADINGS = "[...document.querySelectorAll('#formatted h1, #formatted h2')].map((one) => one.textContent).join()"
 PAST = "document.querySelector('#past-text .CodeMirror').CodeMirror.getValue()"
 STEP, SINCE = (f"document.getElementById('{name}').textContent" for name in ("step", "since-words"))
 NO_ROOM_TOLD = "document.getElementById('words').textContent.includes('no room left')"
@@ -197,6 +198,33 @@ class Typed(AtText):
         window.wait_for("document.getElementById('legend').textContent.includes('<b>Ann</b>')")
         made = "document.querySelectorAll('#text img, #text script, #legend b').length"
         self.assertEqual(window.run(f"[document.title, {made}]"), ["picnic", 0])
+        self.assert_right(window)
+
+
+class Formatted(AtText):
+    """The text as Markdown, formatted."""
+
+    def test_the_text_is_formatted_also_offline_and_loads_nothing(self) -> None:
+        window, _ = self.made_text()
+        window.wait_for("navigator.serviceWorker.controller")
+        window.paste("# Picnic\n\n- tea\n- <img src=x onerror=\"document.title='obeyed'\">\n\n![a picture](https://example.org/one.png)\n\n")
+        window.press("format")
+        window.wait_for(f"{HEADINGS} === 'Picnic'")
+        self.assertEqual(window.run("['li', 'img', 'a'].map((one) => document.querySelectorAll(`#formatted ${one}`).length)"), [2, 0, 0])
+        window.run(f"{MIRROR}.focus()")
+        self.at_end(window)
+        window.type("## More")
+        window.wait_for(f"{HEADINGS} === 'Picnic,More'")
+        wait_for(lambda: window.run(MESSAGES_KEPT) == 1 + len("## More"), "what was typed to be kept")
+        # What it is read by is kept once it was used.
+        self.relay.kill()
+        window.state("offline")
+        window.driver.refresh()
+        window.wait_for(READY)
+        window.press("format")
+        window.wait_for(f"{HEADINGS} === 'Picnic,More'")
+        self.assertEqual(window.run("[document.title, performance.getEntriesByType('resource').map(({ name }) => new URL(name).origin)"
+                                    ".filter((one) => one !== location.origin)]"), ["picnic", []])
         self.assert_right(window)
 
 
