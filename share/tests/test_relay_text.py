@@ -6,15 +6,21 @@ import pathlib
 import signal
 import tempfile
 import unittest
+from contextlib import closing
 from typing import TYPE_CHECKING
 
+from share.format.chunk import packed
+from share.format.entry import NO_HASH
 from share.format.second.form import SealedRecords
 from share.format.second.key_link import link_of, read_key_link
+from share.format.second.record import RecordKind
+from share.log.opening import opener_of
 from share.relay.page_files import core_path, missing_for_texts
 from share.tests.pages import FAULTS_OF_LOOKS, LOOKS_SO
 from share.tests.processes import children
 from share.tests.relays import RelayHere
-from share.tests.support import alive
+from share.tests.naive import inserting
+from share.tests.support import alive, raws_of
 from share.tests.test_relay_front import ALL_SENT, IS_HERE, NO_ROOM
 from share.tests.test_relay_people import AtPage
 from share.tests.test_relay_security import TappedLines, messages_of
@@ -207,7 +213,8 @@ class Formatted(AtText):
     def test_the_text_is_formatted_also_offline_and_loads_nothing(self) -> None:
         window, _ = self.made_text()
         window.wait_for("navigator.serviceWorker.controller")
-        window.paste("# Picnic\n\n- tea\n- <img src=x onerror=\"document.title='obeyed'\">\n\n![a picture](https://example.org/one.png)\n\n")
+        window.paste("# Picnic\n\n- tea\n- <img src=x onerror=\"document.title='obeyed'\">\n\n"
+                     "![a picture](https://example.org/one.png)\n\n")
         window.press("format")
         window.wait_for(f"{HEADINGS} === 'Picnic'")
         self.assertEqual(window.run("['li', 'img', 'a'].map((one) => document.querySelectorAll(`#formatted ${one}`).length)"), [2, 0, 0])
@@ -248,8 +255,9 @@ class Before(AtText):
         window.press("history")
         window.gives(PAST, "theirs \U0001f44d\nmine")
         window.gives(STEP, "step 4 of 4: Bea, 1 typed")
-        for step, past in (("step 3 of 4: Bea, 1 deleted", "heirs \U0001f44d\nmine"), ("step 2 of 4: Ann, 12 typed", "Theirs \U0001f44d\nmine"),
-                           ("step 1 of 4: Bea, 4 typed", "mine"), ("at the beginning, of 4 steps", "")):
+        for step, past in (("step 3 of 4: Bea, 1 deleted", "heirs \U0001f44d\nmine"),
+                           ("step 2 of 4: Ann, 12 typed", "Theirs \U0001f44d\nmine"), ("step 1 of 4: Bea, 4 typed", "mine"),
+                           ("at the beginning, of 4 steps", "")):
             window.press("earlier")
             window.gives(PAST, past)
             window.gives(STEP, step)
@@ -268,6 +276,26 @@ class Before(AtText):
         ann.edit((0, 0, "More "))
         window.shows("More theirs \U0001f44d\nmine")
         window.press("unchanged")
+        self.assert_right(window)
+
+    def test_what_does_not_count_is_told_and_shown(self) -> None:
+        window, link = self.made_text()
+        window.type("counts")
+        window.state("all sent")
+        form = SealedRecords(link_of(link).secret)
+        with closing(opener_of(self.relay.url, form)()) as log:
+            site = next(one.site for one in map(form.open, raws_of(log)) if one.kind is RecordKind.MESSAGES)
+            # Somebody types under the founder's number.
+            part = packed([inserting(site, 1, 1, None, 0, b"not his\r")])
+            assert part
+            log.append([form.messages(part, NO_HASH, form.new_author()).raw])
+        window.state(f"left out: 8 of site {site}")
+        window.shows("counts")
+        window.press("history")
+        window.gives(STEP, "step 1 of 1: you, 6 typed")
+        window.press("later")
+        window.gives(STEP, f"left out, since others hold its place: 8 characters of site {site}")
+        window.gives(PAST, "not his\n")
         self.assert_right(window)
 
     def test_what_has_changed_since_the_user_looked(self) -> None:

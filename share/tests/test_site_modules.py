@@ -371,7 +371,8 @@ class Histories(Modules):
         begin, end = sorted(chance.choices(range(length + 1), k=2))
         what = chance.randrange(8)
         if what < 3 or not length:
-            return site.insert(chance.choice([begin, length]), bytes(chance.choices(b"abc\1\x0e\r\xff", k=chance.choice([1, 1, 5])))).messages
+            data = bytes(chance.choices(b"abc\1\x0e\r\xff", k=chance.choice([1, 1, 5])))
+            return site.insert(chance.choice([begin, length]), data).messages
         if what < 5:
             return site.cut(begin, min(length, end + 1)).messages
         if what < 6:

@@ -32,7 +32,8 @@ export class Asking {
   /** @param {any} line */
   async history({ from = 0 }) {
     const { length, steps } = this.#history = await this.#whole.history();
-    return { length, steps: this.#named(steps.filter(({ begin }) => begin >= from)) };
+    const { leftOut } = this.#whole;
+    return { length, steps: this.#named(steps.filter(({ begin }) => begin >= from)), ...(leftOut.length ? { left_out: leftOut } : {}) };
   }
 
   /** @param {SharedText} text @param {any} line */

@@ -145,6 +145,11 @@ export class History {
   }
 }
 
+/** @param {import("./entry.js").Entry} entry that has messages */
+export function messagesOf({ kind, body }) {
+  return operationsOf(kind === KIND.base ? body : body.subarray(2 + ON_BYTES * numberAt(body, 0, 2)));
+}
+
 /** The history of a text of a note, of whose sites each is somebody's, and so many messages of it count.
  * @param {import("./store.js").Kept[]} entries @param {import("./keys.js").NoteKeys} keys @param {number} text
  * @param {Map<number, string>} holders @param {Map<number, number>} counting */
@@ -154,9 +159,7 @@ export async function historyOf(entries, keys, text, holders, counting) {
     of === text && (kind === KIND.base || (kind === KIND.messages && holders.get(site) === hex(author)))));
   for (let begin = 0; begin < some.length; begin += AT_ONCE) {
     const opened = await Promise.all(some.slice(begin, begin + AT_ONCE).map(({ raw }) => openedKept(keys, raw)));
-    for (const { kind, body } of opened) {
-      history.add(operationsOf(kind === KIND.base ? body : body.subarray(2 + ON_BYTES * numberAt(body, 0, 2))));
-    }
+    for (const one of opened) history.add(messagesOf(one));
   }
   return history;
 }

@@ -29,6 +29,8 @@ export class Own {
   #going = Promise.resolve();
   /** @type {Set<number>} */
   #sites = new Set();
+  /** @type {Set<string>} */
+  #authors = new Set();
 
   /** @param {import("./store.js").Store} store @param {import("./keys.js").NoteKeys} keys @param {string} id
    * @param {{ kept: (edits: number) => void, failed: () => void }} told of edits up to a number that are on the disk */
@@ -49,6 +51,12 @@ export class Own {
     return this.#sites.has(site);
   }
 
+  /** Whether this browser's user types, or typed, as an author.
+   * @param {string} author */
+  isOwnAuthor(author) {
+    return this.#authors.has(author);
+  }
+
   /** Writes under this number no more. */
   leave() {
     this.#number = null;
@@ -64,7 +72,9 @@ export class Own {
   async take(taken) {
     const note = await this.#store.note(this.#id);
     if (this.#number || !note) return this.#number?.site ?? 0;
-    this.#sites = new Set([note.author, ...note.numbers ?? []].flatMap((one) => (one ? [one.site] : [])));
+    const own = [note.author, ...note.numbers ?? []].flatMap((one) => (one ? [one] : []));
+    this.#sites = new Set(own.map(({ site }) => site));
+    this.#authors = new Set(await Promise.all(own.map(async ({ secret }) => hex((await authorOf(secret)).name))));
     if (note.author?.site && await this.#holds(note.author.site)) return this.#has(note.author, null);
     for (const one of note.numbers ?? []) {
       const isUsable = one.isClaimed || !taken.has(one.site);
@@ -108,6 +118,7 @@ export class Own {
     const claims = counter === null ? null : { counter, rank: await rankOf(this.#keys.identity, author.name, counter) };
     this.#number = { site, author, claims };
     this.#sites.add(site);
+    this.#authors.add(hex(author.name));
     return site;
   }
 

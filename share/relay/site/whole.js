@@ -4,6 +4,7 @@ import { Trouble, hex } from "./bytes.js";
 import { Feed } from "./feed.js";
 import { Followed } from "./followed.js";
 import { historyOf } from "./history.js";
+import { leftOutOf } from "./lost.js";
 import { Own } from "./own.js";
 import { SharedText, TEXT } from "./shared.js";
 import { Spare } from "./spare.js";
@@ -21,6 +22,9 @@ const AGAIN_MS = 20;
 export class Whole {
   /** @type {SharedText | null} */
   text = null;
+  /** What doesn't count for good.
+   * @type {import("./lost.js").LeftOut[]} */
+  leftOut = [];
   own;
   followed;
   #ear;
@@ -35,6 +39,8 @@ export class Whole {
   #spare;
   // Up to which of the editor's edits all was said, or is about to be.
   #edits = 0;
+  // Of whom it was seen last what doesn't count.
+  #lost = "[]";
   #turn = Promise.resolve();
   /** @type {ReturnType<typeof setTimeout> | undefined} */
   #later;
@@ -135,8 +141,19 @@ export class Whole {
     const isTaken = Boolean(number?.claims && this.#isTaken(number));
     if (isTaken) this.own.leave();
     if (hasMore) this.#show();
+    await this.#seesLost();
     this.#ear.stands();
     if (isTaken) await this.#takeNumber();
+  }
+
+  /** Sees what doesn't count for good, where that is of others, or more, than before. */
+  async #seesLost() {
+    const whose = this.facts.leftOut(TEXT);
+    const lost = JSON.stringify(whose);
+    if (lost === this.#lost) return;
+    const { entries } = await this.#store.entries(this.#note.id);
+    this.leftOut = await leftOutOf(entries, this.#keys, TEXT, whose, (author) => this.own.isOwnAuthor(author));
+    this.#lost = lost;
   }
 
   /** @param {import("./own.js").Held} number */
