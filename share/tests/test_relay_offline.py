@@ -1,12 +1,13 @@
 """The page of a relay without that relay, and beside one that offers another version: in Chromium and in Firefox."""
 import contextlib
+import os
 import pathlib
 import shutil
 import unittest
 from typing import TYPE_CHECKING
 from unittest import mock
 
-from share.relay.page_files import PAGE_FOLDER, PageFile, PageFiles
+from share.relay.page_files import CORE_VARIABLE, PAGE_FOLDER, PageFile, PageFiles
 from share.tests.firefox import FIREFOX, firefox
 from share.tests.relays import RelayHere
 from share.tests.support import Case
@@ -220,6 +221,10 @@ class InFirefox(Case, unittest.IsolatedAsyncioTestCase):
     """In Firefox."""
 
     async def test_notes_open_without_the_relay_and_another_version_waits(self) -> None:
+        # The copies that are offered have no editor beside them.
+        core = mock.patch.dict(os.environ, {CORE_VARIABLE: ""})
+        core.start()
+        self.addCleanup(core.stop)
         versions = Versions(self.folder)
         self.addCleanup(versions.relay.close)
         async with firefox(self.folder / "profile") as browser:
