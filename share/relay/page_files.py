@@ -26,8 +26,10 @@ BODY = re.compile(rb"<body>\n(.*)</body>", re.DOTALL)
 CORE_VARIABLE, CORE_FILE = "VIALSHOAL_CORE", "vialshoal.wasm"
 CORE = OWN_FOLDER.parent / "library" / "out" / "node" / CORE_FILE
 CODEMIRROR = pathlib.Path("/usr/share/javascript/codemirror")
-EDITOR_FILES = {one.name: one for one in (CODEMIRROR / "lib/codemirror.js", CODEMIRROR / "lib/codemirror.css",
-                                          CODEMIRROR / "addon/search/searchcursor.js")}
+# What is Debian's, by the names that files of the page have for it.
+EDITOR_FILES = {**{one.name: one for one in (CODEMIRROR / "lib/codemirror.js", CODEMIRROR / "lib/codemirror.css",
+                                             CODEMIRROR / "addon/search/searchcursor.js")},
+                "markdownit.js": pathlib.Path("/usr/share/javascript/markdown-it/markdown-it.js")}
 
 
 class PageFile(NamedTuple):
@@ -51,7 +53,7 @@ def missing_for_texts() -> str:
     """What isn't here without which no text is shown, in words."""
     if not core_path():
         return "the core as WebAssembly (bin/library --wasm)"
-    return "" if all(path.is_file() for path in EDITOR_FILES.values()) else "Debian's libjs-codemirror"
+    return "" if all(path.is_file() for path in EDITOR_FILES.values()) else "Debian's libjs-codemirror or libjs-markdown-it"
 
 
 class PageFiles:
@@ -85,7 +87,7 @@ class PageFiles:
         if path not in self._addresses:
             one = PageFile(PAGE_TYPES[path.suffix], self._data(path, named_by))
             is_front = path == self._folder / FRONT_FILE
-            address = FRONT_ADDRESS if is_front else f"/{path.stem}.{one.digest()[:HASH_DIGITS]}{path.suffix}"
+            address = FRONT_ADDRESS if is_front else f"/{path.stem.replace('-', '')}.{one.digest()[:HASH_DIGITS]}{path.suffix}"
             self._addresses[path], self.files[address] = address, one
         return self._addresses[path]
 

@@ -7,6 +7,9 @@ const [, , site, wasm, seed, steps] = process.argv;
 const { Core } = await import(pathToFileURL(`${site}/core.js`).href);
 const { Value } = await import(pathToFileURL(`${site}/value.js`).href);
 const { SharedText, TEXT } = await import(pathToFileURL(`${site}/shared.js`).href);
+const { History } = await import(pathToFileURL(`${site}/history.js`).href);
+const { operationsOf } = await import(pathToFileURL(`${site}/chunk.js`).href);
+const { changedSince, shownOf } = await import(pathToFileURL(`${site}/former.js`).href);
 const { Undoing } = await import(pathToFileURL(`${site}/undoing.js`).href);
 
 let state = Number(seed);
@@ -28,9 +31,10 @@ class Person {
     this.value.update();
     this.text = new SharedText(this.value);
     this.undoing = new Undoing(() => 0);
-    // What an editor shows that is told of others' changes; and what comes later.
+    // What an editor shows that is told of others' changes; what comes later; and all that came, in its order.
     this.shown = "";
     this.comes = [];
+    this.came = [];
   }
 
   /** A place that isn't inside a character. */
@@ -61,12 +65,51 @@ class Person {
   /** What was typed becomes entries, and what came is shown. */
   meets(other) {
     for (const one of this.value.own(TEXT, this.author)) {
-      this.value.add(one);
+      this.comes.push(one);
       other.comes.push(one);
+      this.takes(this.comes.length - 1);
     }
-    while (this.comes.length && chance(4)) this.value.add(this.comes.splice(chance(this.comes.length), 1)[0]);
+    while (this.comes.length && chance(4)) this.takes(chance(this.comes.length));
     this.value.update();
     this.sees();
+  }
+
+  takes(at) {
+    const [one] = this.comes.splice(at, 1);
+    this.value.add(one);
+    this.came.push(one);
+  }
+
+  /** How the text came to be, of which each place leads to the text as it is now by what has changed since. */
+  remembers() {
+    const history = new History(new Map(this.text.fronts()));
+    for (const { body } of this.came) history.add(operationsOf(body.subarray(2 + 34 * (body[0] * 256 + body[1]))));
+    for (let left = 20; left > 0; left -= 1) this.leads(history.frontsAt(chance(history.length + 1)));
+    if (shownOf(this.text.past(history.frontsAt(history.length))).text !== this.shown) throw new Error("the history ends elsewhere");
+    const ends = [0, ...history.steps.map(({ end }) => end)];
+    if (history.steps.some(({ begin }, at) => begin !== ends[at]) || ends.at(-1) !== history.length) throw new Error("steps are missing");
+    return history;
+  }
+
+  leads(fronts) {
+    const then = this.text.past(fronts);
+    const { came, went } = changedSince(then, this.text);
+    let [text, at] = ["", 0];
+    const goesOn = (end) => {
+      for (const { begin, end: until } of came) {
+        if (begin < at || begin >= end) continue;
+        text += this.shown.slice(at, begin);
+        at = Math.max(at, until);
+      }
+      text += this.shown.slice(at, Math.max(at, end));
+      at = Math.max(at, end);
+    };
+    for (const one of went) {
+      goesOn(one.at);
+      text += one.text;
+    }
+    goesOn(this.shown.length);
+    if (text !== shownOf(then).text) throw new Error(`was ${JSON.stringify(shownOf(then).text)}, not ${JSON.stringify(text)}`);
   }
 
   sees() {
@@ -89,4 +132,5 @@ for (let step = 0; step < Number(steps); step += 1) {
 for (let round = 0; round < 60; round += 1) for (const [one, other] of [people, [people[1], people[0]]]) one.meets(other);
 const [ann, bob] = people.map((one) => ({ text: one.text.slice(), dressed: one.text.dressed(1e6), wrote: one.text.wrote(0, one.text.length) }));
 if (JSON.stringify(ann) !== JSON.stringify(bob)) throw new Error(`${JSON.stringify(ann)} and ${JSON.stringify(bob)}`);
-console.log(JSON.stringify({ characters: ann.text.length, dressed: ann.dressed.length, writers: new Set(ann.wrote.map((one) => one.site)).size }));
+const [history] = people.map((one) => one.remembers());
+console.log(JSON.stringify({ steps: history.steps.length, characters: ann.text.length, dressed: ann.dressed.length, writers: new Set(ann.wrote.map((one) => one.site)).size }));

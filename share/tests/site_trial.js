@@ -1,7 +1,9 @@
 // Does with the modules of a relay's page, beside which it is put in Node and in a browser, what is asked.
 import * as bytes from './bytes.js';
+import { operationsOf } from './chunk.js';
 import * as entry from './entry.js';
 import { Facts } from './facts.js';
+import { History } from './history.js';
 import * as keys from './keys.js';
 import * as link from './link.js';
 import * as message from './message.js';
@@ -73,6 +75,11 @@ const does = {
     for (const raw of raws) await facts.add(ofHex(raw));
     const { entries, founder, isCopy, renewedBy } = facts;
     return { entries, founder, isCopy, renewedBy, numbers: facts.numbers() };
+  },
+  async history({ chunks, counting }) {
+    const history = new History(new Map(counting));
+    for (const chunk of chunks) history.add(operationsOf(ofHex(chunk)));
+    return { length: history.length, steps: history.steps };
   },
   async presence({ key, data }) {
     const note = await keys.NoteKeys.of(ofHex(key));

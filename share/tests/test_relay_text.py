@@ -6,16 +6,22 @@ import pathlib
 import signal
 import tempfile
 import unittest
+from contextlib import closing
 from typing import TYPE_CHECKING
 
+from share.format.chunk import packed
+from share.format.entry import NO_HASH
 from share.format.second.form import SealedRecords
 from share.format.second.key_link import link_of, read_key_link
+from share.format.second.record import RecordKind
+from share.log.opening import opener_of
 from share.relay.page_files import core_path, missing_for_texts
 from share.tests.pages import FAULTS_OF_LOOKS, LOOKS_SO
 from share.tests.processes import children
 from share.tests.relays import RelayHere
-from share.tests.support import alive
-from share.tests.test_relay_front import ALL_SENT, IS_HERE
+from share.tests.naive import inserting
+from share.tests.support import alive, raws_of
+from share.tests.test_relay_front import ALL_SENT, IS_HERE, NO_ROOM
 from share.tests.test_relay_people import AtPage
 from share.tests.test_relay_security import TappedLines, messages_of
 from share.tests.waiting import wait_for
@@ -37,6 +43,18 @@ MESSAGES_KEPT = """new Promise((done) => { indexedDB.open("vialshoal").onsuccess
     done(found.result.filter(({ raw }) => raw[1] === 4).reduce((sum, { raw }) => sum + raw[57] * 256 + raw[58], 0));
   };
 }; })"""
+HEADINGS = "[...document.querySelectorAll('#formatted h1, #formatted h2')].map((one) => one.textContent).join()"
+PAST = "document.querySelector('#past-text .CodeMirror').CodeMirror.getValue()"
+STEP, SINCE = (f"document.getElementById('{name}').textContent" for name in ("step", "since-words"))
+NO_ROOM_TOLD = "document.getElementById('words').textContent.includes('no room left')"
+# What the browser has kept isn't read any more until `reads` is called.
+READING_IS_HELD = """void ((decrypt) => {
+  const held = new Promise((done) => { window.reads = done; });
+  SubtleCrypto.prototype.decrypt = async function (...given) {
+    await held;
+    return decrypt.apply(this, given);
+  };
+})(SubtleCrypto.prototype.decrypt)"""
 ON = "[...document.querySelectorAll('#people li')].map((one) => one.textContent).sort().join()"
 CARETS = "[...document.querySelectorAll('.caret b')].map((one) => one.textContent)"
 # What would do something if a page, or a program of it, read it as more than text.
@@ -189,6 +207,128 @@ class Typed(AtText):
         self.assert_right(window)
 
 
+class Formatted(AtText):
+    """The text as Markdown, formatted."""
+
+    def test_the_text_is_formatted_also_offline_and_loads_nothing(self) -> None:
+        window, _ = self.made_text()
+        window.wait_for("navigator.serviceWorker.controller")
+        window.paste("# Picnic\n\n- tea\n- <img src=x onerror=\"document.title='obeyed'\">\n\n"
+                     "![a picture](https://example.org/one.png)\n\n")
+        window.press("format")
+        window.wait_for(f"{HEADINGS} === 'Picnic'")
+        self.assertEqual(window.run("['li', 'img', 'a'].map((one) => document.querySelectorAll(`#formatted ${one}`).length)"), [2, 0, 0])
+        window.run(f"{MIRROR}.focus()")
+        self.at_end(window)
+        window.type("## More")
+        window.wait_for(f"{HEADINGS} === 'Picnic,More'")
+        wait_for(lambda: window.run(MESSAGES_KEPT) == 1 + len("## More"), "what was typed to be kept")
+        # What it is read by is kept once it was used.
+        self.relay.kill()
+        window.state("offline")
+        window.driver.refresh()
+        window.wait_for(READY)
+        window.press("format")
+        window.wait_for(f"{HEADINGS} === 'Picnic,More'")
+        self.assertEqual(window.run("[document.title, performance.getEntriesByType('resource').map(({ name }) => new URL(name).origin)"
+                                    ".filter((one) => one !== location.origin)]"), ["picnic", []])
+        self.assert_right(window)
+
+
+class Before(AtText):
+    """The text as it was, and what has changed since."""
+
+    def test_the_history_shows_each_step_and_who_wrote_what(self) -> None:
+        window, link = self.made_text()
+        window.rename("Bea")
+        window.type("mine")
+        window.state("all sent")
+        ann = self.engine_of("Ann", link, colour="#123456")
+        ann.gets_number()
+        ann.wait_for(lambda: ann.text == "mine", "the page's text")
+        ann.edit((0, 0, "Theirs \U0001f44d\n"))
+        window.shows("Theirs \U0001f44d\nmine")
+        window.select(0, 1)
+        window.type_over("t")
+        window.shows("theirs \U0001f44d\nmine")
+        ann.shows("theirs \U0001f44d\nmine")
+        window.press("history")
+        window.gives(PAST, "theirs \U0001f44d\nmine")
+        window.gives(STEP, "step 4 of 4: Bea, 1 typed")
+        for step, past in (("step 3 of 4: Bea, 1 deleted", "heirs \U0001f44d\nmine"),
+                           ("step 2 of 4: Ann, 12 typed", "Theirs \U0001f44d\nmine"), ("step 1 of 4: Bea, 4 typed", "mine"),
+                           ("at the beginning, of 4 steps", "")):
+            window.press("earlier")
+            window.gives(PAST, past)
+            window.gives(STEP, step)
+        window.press("later")
+        window.press("later")
+        # Of two writers, in two colours.
+        window.gives("[0, 1].map((one) => [...document.querySelectorAll(`#past-text .of-${one}`)].map((it) => it.textContent).join('|'))",
+                     ["mine", "Theirs \U0001f44d"])
+        window.gives("[...document.querySelectorAll('#authors li')].map((one) => one.textContent)", ["Ann", "Bea"])
+        # What has changed since then.
+        window.press("since-here")
+        window.gives(SINCE, "2 changes since that place of the history")
+        window.gives("[...document.querySelectorAll('#text .went')].map((one) => one.dataset.went)", ["T"])
+        window.gives("[...document.querySelectorAll('#text .came')].map((one) => one.textContent)", ["t"])
+        # Others' text comes meanwhile.
+        ann.edit((0, 0, "More "))
+        window.shows("More theirs \U0001f44d\nmine")
+        window.press("unchanged")
+        self.assert_right(window)
+
+    def test_what_does_not_count_is_told_and_shown(self) -> None:
+        window, link = self.made_text()
+        window.type("counts")
+        window.state("all sent")
+        form = SealedRecords(link_of(link).secret)
+        with closing(opener_of(self.relay.url, form)()) as log:
+            site = next(one.site for one in map(form.open, raws_of(log)) if one.kind is RecordKind.MESSAGES)
+            # Somebody types under the founder's number.
+            part = packed([inserting(site, 1, 1, None, 0, b"not his\r")])
+            assert part
+            log.append([form.messages(part, NO_HASH, form.new_author()).raw])
+        window.state(f"left out: 8 of site {site}")
+        window.shows("counts")
+        window.press("history")
+        window.gives(STEP, "step 1 of 1: you, 6 typed")
+        window.press("later")
+        window.gives(STEP, f"left out, since others hold its place: 8 characters of site {site}")
+        window.gives(PAST, "not his\n")
+        self.assert_right(window)
+
+    def test_what_has_changed_since_the_user_looked(self) -> None:
+        window, link = self.made_text()
+        window.paste("one two three")
+        window.state("all sent")
+        looked = "new Promise((done) => { indexedDB.open('vialshoal').onsuccess = ({ target }) => { " \
+            "target.result.transaction('notes').objectStore('notes').getAll().onsuccess = ({ target: found }) => { " \
+            "target.result.close(); done(found.result.map(({ looked }) => looked?.fronts.flat()[1] ?? 0)[0]); }; }; })"
+        # What is pasted is one message.
+        wait_for(lambda: window.run(looked) == 1, "the look to be kept")
+        window.press("changed")
+        window.gives(SINCE, "1 change since the note began")
+        window.close()
+        ann = self.engine_of("Ann", link)
+        ann.gets_number()
+        ann.wait_for(lambda: ann.text == "one two three", "the page's text")
+        ann.edit((4, 7, "2"))
+        ann.edit((0, 0, "From Ann: "))
+        window = self.text_of(link)
+        window.shows("From Ann: one 2 three")
+        window.press("changed")
+        window.wait_for(f"{SINCE}.startsWith('3 changes since you looked, ')")
+        window.gives("[...document.querySelectorAll('#text .came')].map((one) => one.textContent)", ["From Ann: ", "2"])
+        window.gives("[...document.querySelectorAll('#text .went')].map((one) => one.dataset.went)", ["two"])
+        window.gives("[...document.querySelectorAll('#changers li')].map((one) => one.textContent).sort()", ["Ann", "you"])
+        # They move with the text.
+        ann.edit((0, 0, "x\n"))
+        window.shows("x\nFrom Ann: one 2 three")
+        window.gives("[...document.querySelectorAll('#text .came')].map((one) => one.textContent)", ["From Ann: ", "2"])
+        self.assert_right(window)
+
+
 class Kept(AtText):
     """What a browser's disk has."""
 
@@ -246,6 +386,43 @@ class Kept(AtText):
             window.shows("typed and kept")
             window.state("all sent")
             self.assertEqual(self.in_terminal("cat", "killed", link=link).stdout, "typed and kept")
+
+    def test_what_a_full_disk_did_not_take_is_taken_out_in_words(self) -> None:
+        window, _ = self.made_text()
+        window.type("kept")
+        window.state("all sent")
+        window.run("void (window.adds = IDBObjectStore.prototype.add)")
+        window.run(NO_ROOM)
+        window.type(" lost")
+        window.wait_for(NO_ROOM_TOLD)
+        window.shows("kept")
+        window.run("void (IDBObjectStore.prototype.add = window.adds)")
+        # There is room again.
+        window.wait_for(f"!{MIRROR}.getOption('readOnly')")
+        self.at_end(window)
+        window.type(" on")
+        wait_for(lambda: window.run(MESSAGES_KEPT) == len("kept on"), "what was typed to be kept")
+        window.state("all sent")
+        window.shows("kept on")
+        self.assert_right(window)
+
+    def test_the_page_goes_on_while_its_text_is_begun_anew(self) -> None:
+        window, _ = self.made_text()
+        window.type("kept")
+        window.state("all sent")
+        window.run(NO_ROOM)
+        window.run(READING_IS_HELD)
+        window.type("x")
+        window.wait_for(NO_ROOM_TOLD)
+        # The page's timer that tells where the cursor is ends before this one.
+        window.to(2)
+        window.run("new Promise((done) => setTimeout(done, 100))")
+        window.run("void window.reads()")
+        window.shows("kept")
+        window.wait_for(f"!{MIRROR}.getOption('readOnly')")
+        self.assertEqual(window.run(f"{MIRROR}.getCursor().ch"), 2)
+        self.assertEqual(window.run("document.getElementById('words').children.length"), 1)
+        self.assert_right(window)
 
     def test_a_note_that_is_not_here_is_told(self) -> None:
         window, _ = self.made_text()

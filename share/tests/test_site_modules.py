@@ -7,11 +7,15 @@ import shutil
 import subprocess
 import tempfile
 import unittest
+from collections import Counter
 from contextlib import closing
 from typing import Any
 
+from share.format.chunk import Packed, packed_in_parts
 from share.format.entry import NO_HASH, Author, Bad, Copied
 from share.format.heartbeat import Hears, Lack, Said, Way, heartbeat_of, token_of
+from share.format.history import Messages
+from share.format.operation import CHANGE_LOOKS, DELETE, INSERT, RESTORE, Operation, length_after
 from share.format.presence import AT_FRONT, Present, leaving, presence_of, read_presence, with_count
 from share.format.second.claim import found_among, number_of_rank, rank_of
 from share.format.second.form import SealedRecords
@@ -23,15 +27,19 @@ from share.log.base import InLog
 from share.log.opening import opener_of
 from share.log.polling import can_read
 from share.log.relay_messages import AppendRequest, ReadRequest, Refusal, RelayPage, Why
+from share.program.replay import as_line, steps
+from share.program.site import Rewrite, Site
 from share.relay.page_files import PAGE_FOLDER
 from share.tests.relays import RelayProcess, form_of, record
 from share.tests.support import Case, raws_of
 from share.tests.waiting import PATIENCE
 from share.text.errors import Trouble
+from share.text.looks import Looks
 
 HERE = pathlib.Path(__file__).parent
 VECTORS = json.loads((HERE / "data" / "second_form.json").read_bytes())
 KINDS = {"opening": 1, "claim": 2, "base": 3, "messages": 4, "anew": 5, "copies": 6, "renewed": 7}
+TURNS = 120
 AUTHOR = SealedRecords.author_of_any_note()
 
 
@@ -330,6 +338,54 @@ class BesidePython(Modules):
                              ("vialshoal:3:s:x@https://h", "newer version"), ("hello", "isn't a note's link"), ("", "isn't a note's link"),
                              ("https://notes.example/", "isn't a note's link"), ("vialshoal:2:s:abc", "cut short")):
             self.assertRegex(self.asked("readLink", given=given, relay="https://notes.example")["why"], words)
+
+
+class Histories(Modules):
+    """How a text came to be."""
+
+    def test_a_history_has_the_steps_that_engines_tell(self) -> None:
+        chance = random.Random(3)
+        with closing(Site(300)) as one, closing(Site(7)) as other:
+            said, parts, lengths = list[Operation](), list[Packed](), Counter[int]()
+            for _ in range(TURNS):
+                site, meets = chance.sample([one, other], 2)
+                sent = self.edit(site, chance)
+                meets.take(sent)
+                said += sent
+                for message in sent[:1]:
+                    parts += packed_in_parts(sent, lengths[message.site])
+                    lengths[message.site] = length_after(sent, lengths[message.site])
+        self.assertEqual({one.kind for one in said}, {INSERT, DELETE, CHANGE_LOOKS, RESTORE})
+        history, chunks = Messages(said), [part.chunk.hex() for part in parts]
+        counting = [*Counter(one.site for one in said).items()]
+        found = self.asked("history", chunks=chunks, counting=counting)
+        self.assertEqual(found["length"], len(history))
+        self.assertEqual(found["steps"], [as_line(one) for one in steps(history, 0, len(history))])
+        # What comes before what it follows waits, and is there in the end; what comes twice is there once.
+        mixed = chance.sample(chunks, len(chunks)) + chance.sample(chunks, 9)
+        self.assertEqual(self.asked("history", chunks=mixed, counting=counting)["length"], len(history))
+
+    def edit(self, site: Site, chance: random.Random) -> list[Operation]:
+        """What an edit says."""
+        length = len(site.text())
+        begin, end = sorted(chance.choices(range(length + 1), k=2))
+        what = chance.randrange(8)
+        if what < 3 or not length:
+            data = bytes(chance.choices(b"abc\1\x0e\r\xff", k=chance.choice([1, 1, 5])))
+            return site.insert(chance.choice([begin, length]), data).messages
+        if what < 5:
+            return site.cut(begin, min(length, end + 1)).messages
+        if what < 6:
+            end = min(length, begin + 4)
+            return [one for edited in site.replace([Rewrite(begin, end, b"xy z", int(end > begin + 1))]) for one in edited.messages]
+        names = site.names(begin, min(length, end + 1))
+        if not names:
+            return []
+        if what < 7:
+            return site.look(Looks(colour=chance.randrange(1, 9)), names).messages
+        gone = site.delete(names)[0].messages
+        behind = site.insert_behind([names[-1]._replace(at=names[-1].at + names[-1].length - 1, length=1)], b"behind", range(length))[0]
+        return gone + behind.messages + site.restore(names[:1])[0].messages
 
 
 class Relaying(Modules, Case):

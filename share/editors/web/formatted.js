@@ -4,7 +4,7 @@ import { ask, target } from "./links.js";
 
 /** @type {(id: string) => any} */
 const element = (id) => document.getElementById(id);
-const READER = "/markdown.js";
+const READER = new URL("./markdown.js", import.meta.url).href;
 const PLAIN = new Set(["p", "h1", "h2", "h3", "h4", "h5", "h6", "blockquote", "ul", "li", "table", "thead", "tbody", "tr",
   "em", "strong", "s", "br", "hr"]);
 const ALIGNED = new Set(["left", "right", "center"]);

@@ -1,6 +1,6 @@
 // Reads Markdown in a thread of its own, which the page ends where a part of a text takes too long: numbers that it sends meanwhile say
 // that it goes on. What it answers is data: no HTML.
-import "/markdown-it/markdown-it.js";
+import "./markdownit.js";
 
 const MOST_CELLS = 20_000;
 // Of how many parts of the work each is reported. The blocks of a text are found first, then it is read what is in them.

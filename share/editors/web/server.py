@@ -27,7 +27,7 @@ PAGE_FILES = ["secret.js", "page.js", "page.css", "text.css", "review.css", "alo
               "since.js", "state.js", "stretches.js", "suggesting.js", "threads.js", "writers.js"]
 LIBRARY = ["lib/codemirror.js", "lib/codemirror.css", "addon/search/searchcursor.js"]
 # What one view needs alone: its address, its file, and the package of Debian's that has it.
-MARKDOWN = "/markdown-it/markdown-it.js", pathlib.Path("/usr/share/javascript/markdown-it/markdown-it.js"), "libjs-markdown-it"
+MARKDOWN = "/markdownit.js", pathlib.Path("/usr/share/javascript/markdown-it/markdown-it.js"), "libjs-markdown-it"
 TYPES = {".html": "text/html", ".js": "text/javascript", ".css": "text/css"}
 SOCKET = "/socket"
 AGAIN = re.compile(b"again ([0-9a-f]{64})")

@@ -27,6 +27,8 @@ export class Facts {
   #lasts = new Map();
   /** @type {Set<number>} */
   #copied = new Set();
+  // Of which authors, numbers and texts what doesn't count was typed anew.
+  #anew = new Set();
 
   /** @param {import("./keys.js").NoteKeys} keys */
   constructor(keys) {
@@ -46,6 +48,8 @@ export class Facts {
     } else if (kind === KIND.messages) {
       const lasts = this.#lasts.get(`${author} ${site}`) ?? new Map();
       this.#lasts.set(`${author} ${site}`, lasts.set(text, Math.max(lasts.get(text) ?? 0, first + count - 1)));
+    } else if (kind === KIND.anew) {
+      this.#anew.add(`${author} ${site} ${text}`);
     } else if (kind === KIND.base) {
       this.#copied.add(site);
       this.isCopy = true;
@@ -59,17 +63,36 @@ export class Facts {
 
   /** Whose the numbers are, the lowest first. */
   numbers() {
-    const holders = new Map([...this.#holders].map(([site, { author }]) => [site, author]));
-    if (this.founder?.site) holders.set(this.founder.site, this.founder.author);
     /** @type {Numbered[]} */
-    const found = [...holders].filter(([site]) => !this.#copied.has(site)).map(([site, author]) => (
+    const found = [...this.#authors()].filter(([, author]) => author).map(([site, author]) => (
       { site, author, messages: this.#messages(author, site), isFounder: site === this.founder?.site }));
     return found.sort((one, other) => one.site - other.site);
+  }
+
+  /** By whom messages of a text don't count, since the number is another's, and how many; but for what was typed anew.
+   * @param {number} text */
+  leftOut(text) {
+    const authors = this.#authors();
+    return [...this.#lasts].flatMap(([key, lasts]) => {
+      const [[author, number], messages] = [key.split(" "), lasts.get(text) ?? 0];
+      const holder = authors.get(Number(number));
+      const isLost = messages > 0 && holder !== undefined && holder !== author && !this.#anew.has(`${key} ${text}`);
+      return isLost ? [{ author, site: Number(number), messages }] : [];
+    });
   }
 
   /** The numbers that somebody has, or that were copied. */
   taken() {
     return new Set([...this.#holders.keys(), ...this.#copied, ...(this.founder?.site ? [this.founder.site] : [])]);
+  }
+
+  /** By whom may be typed under each number that is taken; by nobody where that was copied.
+   * @returns {Map<number, string>} */
+  #authors() {
+    const found = new Map([...this.#holders].map(([site, { author }]) => [site, author]));
+    if (this.founder?.site) found.set(this.founder.site, this.founder.author);
+    for (const site of this.#copied) found.set(site, "");
+    return found;
   }
 
   /** @param {string} author @param {number} site */

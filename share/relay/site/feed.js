@@ -21,7 +21,6 @@ export class Feed {
   #store;
   #keys;
   #id;
-  #site;
   // Up to which of the store's entries they were handed on; those that wait for what the note begins with, and that as far as it is here.
   #last = 0;
   /** @type {Came[]} */
@@ -38,7 +37,7 @@ export class Feed {
     this.#store = store;
     this.#keys = keys;
     this.#id = id;
-    this.#site = site;
+    this.site = site;
     this.facts = new Facts(keys);
   }
 
@@ -95,7 +94,7 @@ export class Feed {
     const beginning = { founder: body.slice(FOUNDER_AT, NUMBER_AT), number: numberAt(body, NUMBER_AT, 2), root, base: join(...chunks),
       baseKey: await derived(body.slice(0, SECRET_BYTES), "base") };
     try {
-      this.value = new Value(this.#core, await derived(this.#keys.key, "hash"), beginning, this.#site);
+      this.value = new Value(this.#core, await derived(this.#keys.key, "hash"), beginning, this.site);
     } catch (why) {
       if (!(why instanceof RefusedByCore) || why.number !== MALFORMED) throw why;
     }

@@ -9,6 +9,8 @@
   const CACHE = CACHES + VERSION;
   const NAMED = /(?<=["'])\.\/([a-z]+\.([0-9a-f]{32})\.(?:js|css|html|wasm))(?=["'])/g;
   const ADDRESS = /^\/[a-z]+\.([0-9a-f]{32})\.(?:js|css|wasm)$/;
+  // What is kept once it is asked for: no text needs it to be shown, and it is large.
+  const LATER = /^\/markdownit\./;
   const DOCUMENT = /^\/note\.[0-9a-f]{32}\.html$/;
   const TYPES = { "/": "text/html; charset=utf-8", html: "text/html; charset=utf-8", js: "text/javascript; charset=utf-8",
     css: "text/css; charset=utf-8", wasm: "application/wasm" };
@@ -35,11 +37,20 @@
     const files = new Map([[FRONT, VERSION]]);
     // What a file names is met in its turn.
     for (const [address, digest] of files) {
+      if (LATER.test(address)) continue;
       const answer = await fetched(address, digest);
       for (const [, name, named] of (await answer.clone().text()).matchAll(NAMED)) files.set(`/${name}`, named);
       await cache.put(address, answer);
     }
     if (!files.has(own)) throw new Error(`${own} isn't of the version ${VERSION}.`);
+  }
+
+  /** A file of the version that isn't kept yet.
+   * @param {string} address @param {string} digest */
+  async function missing(address, digest) {
+    const answer = await fetched(address, digest);
+    if (LATER.test(address)) await (await caches.open(CACHE)).put(address, answer.clone());
+    return answer;
   }
 
   async function begin() {
@@ -93,7 +104,7 @@
     if (from !== origin) return;
     const [, digest] = ADDRESS.exec(pathname) ?? [];
     if (method === "GET" && digest) {
-      event.respondWith(caches.match(pathname).then((kept) => kept ?? fetched(pathname, digest)));
+      event.respondWith(caches.match(pathname).then((kept) => kept ?? missing(pathname, digest)));
     } else if (method === "GET" && mode === "navigate" && pathname === FRONT) {
       event.respondWith(front());
       event.waitUntil(forget());

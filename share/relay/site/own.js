@@ -1,6 +1,6 @@
 // What is typed in this tab: under a number that no other tab types under meanwhile, so that they never make two histories of one. An edit is
 // an entry, which is sealed and signed, and on the disk before it is answered.
-import { hex } from "./bytes.js";
+import { Trouble, hex } from "./bytes.js";
 import { KIND, claim, sealed } from "./entry.js";
 import { authorOf, sha256 } from "./keys.js";
 import { rankOf } from "./rank.js";
@@ -14,8 +14,8 @@ import { TEXT } from "./shared.js";
 const AT_ONCE = 100;
 
 export class Own {
-  // Whether something wasn't kept, so that nothing may be said that builds on it.
-  hasFailed = false;
+  // Why something wasn't kept, in words, so that nothing may be said that builds on it.
+  failure = "";
   #store;
   #keys;
   #id;
@@ -29,9 +29,11 @@ export class Own {
   #going = Promise.resolve();
   /** @type {Set<number>} */
   #sites = new Set();
+  /** @type {Set<string>} */
+  #authors = new Set();
 
   /** @param {import("./store.js").Store} store @param {import("./keys.js").NoteKeys} keys @param {string} id
-   * @param {{ kept: (edits: number) => void, failed: (why: unknown) => void }} told of edits up to a number that are on the disk */
+   * @param {{ kept: (edits: number) => void, failed: () => void }} told of edits up to a number that are on the disk */
   constructor(store, keys, id, told) {
     this.#store = store;
     this.#keys = keys;
@@ -49,6 +51,12 @@ export class Own {
     return this.#sites.has(site);
   }
 
+  /** Whether this browser's user types, or typed, as an author.
+   * @param {string} author */
+  isOwnAuthor(author) {
+    return this.#authors.has(author);
+  }
+
   /** Writes under this number no more. */
   leave() {
     this.#number = null;
@@ -64,7 +72,9 @@ export class Own {
   async take(taken) {
     const note = await this.#store.note(this.#id);
     if (this.#number || !note) return this.#number?.site ?? 0;
-    this.#sites = new Set([note.author, ...note.numbers ?? []].flatMap((one) => (one ? [one.site] : [])));
+    const own = [note.author, ...note.numbers ?? []].flatMap((one) => (one ? [one] : []));
+    this.#sites = new Set(own.map(({ site }) => site));
+    this.#authors = new Set(await Promise.all(own.map(async ({ secret }) => hex((await authorOf(secret)).name))));
     if (note.author?.site && await this.#holds(note.author.site)) return this.#has(note.author, null);
     for (const one of note.numbers ?? []) {
       const isUsable = one.isClaimed || !taken.has(one.site);
@@ -76,7 +86,7 @@ export class Own {
   /** Has what was said be sealed and kept, after what was said before.
    * @param {Saying} saying @param {number} edits up to which of the editor's edits this has all */
   say(saying, edits) {
-    if (this.hasFailed) return;
+    if (this.failure) return;
     this.#queue.push({ saying, edits });
     if (!this.#isBusy) this.#going = this.#go();
   }
@@ -108,6 +118,7 @@ export class Own {
     const claims = counter === null ? null : { counter, rank: await rankOf(this.#keys.identity, author.name, counter) };
     this.#number = { site, author, claims };
     this.#sites.add(site);
+    this.#authors.add(hex(author.name));
     return site;
   }
 
@@ -131,9 +142,10 @@ export class Own {
         this.#queue.splice(0, some.length);
         this.#told.kept(some[some.length - 1].edits);
       }
-    } catch (why) {
-      [this.#queue, this.hasFailed] = [[], true];
-      this.#told.failed(why);
+    } catch (/** @type {any} */ why) {
+      if (!(why instanceof Trouble)) reportError(why);
+      [this.#queue, this.failure] = [[], why.message];
+      this.#told.failed();
     } finally {
       this.#isBusy = false;
     }

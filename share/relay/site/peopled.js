@@ -48,10 +48,10 @@ export class People {
     });
   }
 
-  /** Stretches with what their writers are called.
-   * @param {{ begin: number, end: number, site: number }[]} stretches @param {import("./whole.js").Whole} whole */
-  named(stretches, { own }) {
-    return stretches.map((one) => {
+  /** What sites wrote, with what their people are called.
+   * @template {{ site: number }} Of @param {Of[]} found @param {import("./whole.js").Whole} whole */
+  named(found, { own }) {
+    return found.map((one) => {
       const isOwn = own.isOwn(one.site);
       const name = isOwn ? this.you.name : this.#names[one.site];
       return { ...one, own: isOwn, ...(name ? { name } : {}) };

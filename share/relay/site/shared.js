@@ -3,6 +3,8 @@ import { Buffer, isAscii, isUtf8 } from "../../../library/node/bytes.js";
 import { CUT, INSERT, PUT, composed } from "../../../library/node/delta.js";
 import { use } from "../../../library/node/host.js";
 import { Positions, decoded } from "../../../library/node/positions.js";
+import { Trouble } from "./bytes.js";
+import { RefusedByCore } from "./core.js";
 import { isAlike, setting, toldOf } from "./looking.js";
 import { inside } from "./rewriting.js";
 
@@ -14,6 +16,8 @@ import { inside } from "./rewriting.js";
  * @typedef {{ came: Names[], went: Names[], looked: Looked[] }} Step */
 /** @typedef {import("./looking.js").Look} Look */
 /** @typedef {{ names: Names, was: Look, became: Look }} Looked */
+/** Where what a site wrote begins and ends.
+ * @typedef {{ begin: number, end: number, site: number }} Wrote */
 
 export const TEXT = 1;
 const ENCODER = new TextEncoder();
@@ -24,6 +28,26 @@ use({ Buffer, isAscii, isUtf8, calls: null, Journal: null });
 /** A note's bytes as an editor's, or an editor's as a note's.
  * @param {Uint8Array} bytes */
 const swapped = (bytes) => bytes.map((byte) => (byte === LINE_FEED ? RETURN : byte === RETURN ? LINE_FEED : byte));
+
+/** A note's bytes as people read them.
+ * @param {Uint8Array} bytes @returns {string} */
+export const readable = (bytes) => decoded(Buffer.from(swapped(bytes)));
+
+/** Who wrote what of a stretch.
+ * @param {Names[]} names those of its characters @param {number} begin @param {(byte: number) => number} unit @returns {Wrote[]} */
+export function wroteOf(names, begin, unit) {
+  /** @type {Wrote[]} */
+  const found = [];
+  let at = begin;
+  for (const [site, , many] of names) {
+    const [from, to] = [unit(at), unit(at + many)];
+    at += many;
+    const last = found[found.length - 1];
+    if (last && last.site === site) last.end = to;
+    else if (to > from) found.push({ begin: from, end: to, site });
+  }
+  return found;
+}
 
 /** An edit that isn't done, and why. */
 export class Wrong extends Error {
@@ -185,20 +209,33 @@ export class SharedText {
     return found;
   }
 
-  /** Who wrote what of a stretch: where that begins and ends, and the site.
+  /** Who wrote what of a stretch.
    * @param {number} begin @param {number} end */
   wrote(begin, end) {
-    let at = this.byteOf(begin);
-    /** @type {{ begin: number, end: number, site: number }[]} */
-    const found = [];
-    for (const [site, , many] of this.#value.names(TEXT, at, this.byteOf(end))) {
-      const [from, to] = [at, at + many].map((byte) => this.#positions.unit(byte));
-      at += many;
-      const last = found[found.length - 1];
-      if (last && last.site === site) last.end = to;
-      else if (to > from) found.push({ begin: from, end: to, site });
-    }
-    return found;
+    const at = this.byteOf(begin);
+    return wroteOf(this.#value.names(TEXT, at, this.byteOf(end)), at, (byte) => this.unit(byte));
+  }
+
+  /** The names of all characters. */
+  names() {
+    return this.#value.names(TEXT, 0, this.#value.length(TEXT));
+  }
+
+  /** How many messages of each site count. */
+  fronts() {
+    return this.#value.fronts(TEXT);
+  }
+
+  /** The text as it was when so many messages of each site counted.
+   * @param {[number, number][]} fronts */
+  past(fronts) {
+    return this.#value.past(TEXT, fronts);
+  }
+
+  /** How many units the characters have that begin before a byte.
+   * @param {number} byte @returns {number} */
+  unit(byte) {
+    return this.#positions.unit(byte);
   }
 
   /** The name of the character before a place, as others are told where a cursor is; zeros at the front.
@@ -228,6 +265,16 @@ export class SharedText {
 
   /** @param {number} beg @param {number} end @returns {string} */
   #read(beg, end) {
-    return end > beg ? decoded(Buffer.from(swapped(this.#value.bytes(TEXT, beg, end)))) : "";
+    return end > beg ? readable(this.#value.bytes(TEXT, beg, end)) : "";
   }
+}
+
+/** What went wrong, as a page is answered it.
+ * @param {unknown} why */
+export function errorOf(why) {
+  if (why instanceof Wrong) return { error: why.code, words: why.message };
+  if (why instanceof RefusedByCore) return { error: "refused", words: why.message, number: why.number };
+  if (why instanceof Trouble) return { error: "failed", words: why.message };
+  reportError(why);
+  return { error: "failed", words: `This page has a fault: ${why}` };
 }

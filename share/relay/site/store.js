@@ -9,10 +9,12 @@ const WORDS = { QuotaExceededError: NO_ROOM, VersionError: NEWER, InvalidStateEr
 
 /** A note as it is kept: by its identity, in hexadecimal digits. `place` is how far its relay's log was read, after `size` entries;
  * `author` the secret and the number of who founded it here, `spare` those of a number that was searched for, and the counter of its claim;
- * `numbers` those that were taken so, of which each tab writes under one; `people` what those with some numbers are called.
+ * `numbers` those that were taken so, of which each tab writes under one; `people` what those with some numbers are called; `looked` when its user looked at it last.
  * @typedef {{ id: string, key: Uint8Array, url: string, name: string, place: string, size: number, heard: number, bad: number,
  *   author: { secret: Uint8Array, site: number } | null, spare?: Searched | null, numbers?: Searched[],
- *   people?: Record<number, string> }} Note */
+ *   people?: Record<number, string>, looked?: Look }} Note */
+/** Its time in seconds, and how many messages of each site counted then.
+ * @typedef {{ time: number, fronts: [number, number][] }} Look */
 /** A number that was searched for, and whose claim may be in the log.
  * @typedef {{ secret: Uint8Array, site: number, counter: bigint, isClaimed?: boolean }} Searched */
 /** An entry, named by its hash. The relay may lack what isn't sent.

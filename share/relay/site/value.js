@@ -23,12 +23,14 @@ const little = (value, size) => number(value, size).reverse();
 export class Value {
   #core;
   #at;
+  // Where a text is handed out as it was.
+  #past;
 
   /** @param {Core} core @param {Uint8Array} hash the key by which messages are hashed @param {Beginning} beginning
    * @param {number} site under which is typed here, or 0 */
   constructor(core, hash, { founder, number: its, baseKey, root, base }, site) {
     this.#core = core;
-    this.#at = core.word();
+    [this.#at, this.#past] = [core.word(), core.word()];
     core.handed(join(hash, founder, baseKey, root, base), (at) => {
       const [by, key, last, chunks] = [1, 2, 3, 4].map((one) => at + one * HASH_BYTES);
       core.does("note_new", this.#at, site || NO_SITE, at, by, its, key, last, chunks, base.length);
@@ -144,15 +146,21 @@ export class Value {
    * @param {number} text @param {number} beg @param {number} end */
   names(text, beg, end) {
     const core = this.#core;
+    return core.filled(NAME, (at, most) => core.call("note_names", this.#at, text, BigInt(beg), BigInt(end), at, most, core.answer),
+      (at, many) => this.#inRows(at, many));
+  }
+
+  /** Names of which neighbouring ones are one.
+   * @param {number} at @param {number} many */
+  #inRows(at, many) {
+    const core = this.#core;
     /** @type {Names[]} */
     const found = [];
-    core.filled(NAME, (at, most) => core.call("note_names", this.#at, text, BigInt(beg), BigInt(end), at, most, core.answer), (at, many) => {
-      for (let name = at; name < at + NAME * many; name += NAME) {
-        const [last, site, offset] = [found[found.length - 1], core.short(name), core.number(name + 4)];
-        if (last && last[0] === site && last[1] + last[2] === offset) last[2] += 1;
-        else found.push([site, offset, 1]);
-      }
-    });
+    for (let name = at; name < at + NAME * many; name += NAME) {
+      const [last, site, offset] = [found[found.length - 1], core.short(name), core.number(name + 4)];
+      if (last && last[0] === site && last[1] + last[2] === offset) last[2] += 1;
+      else found.push([site, offset, 1]);
+    }
     return found;
   }
 
@@ -162,6 +170,41 @@ export class Value {
     const core = this.#core;
     if (core.call("note_find", this.#at, text, site, offset, core.answer)) return null;
     return { pos: core.wide(core.answer), isShown: core.byte(core.answer + 8) === 1 };
+  }
+
+  /** How many messages of a site count.
+   * @param {number} text @param {number} site */
+  front(text, site) {
+    this.#core.does("note_front", this.#at, text, site, this.#core.answer);
+    return this.#core.number(this.#core.answer);
+  }
+
+  /** How many messages of each site count.
+   * @param {number} text @returns {[number, number][]} */
+  fronts(text) {
+    const core = this.#core;
+    const sites = core.filled(2, (at, most) => core.call("note_sites", this.#at, text, at, most, core.answer),
+      (at, many) => Array.from({ length: many }, (_, index) => core.short(at + 2 * index)));
+    return sites.map((site) => [site, this.front(text, site)]);
+  }
+
+  /** A text as it was when so many messages of each site counted: its bytes, and their names.
+   * @param {number} text @param {[number, number][]} fronts */
+  past(text, fronts) {
+    const core = this.#core;
+    const rows = new DataView(new ArrayBuffer(NAME * fronts.length));
+    fronts.flat().forEach((value, at) => rows.setUint32(4 * at, value, true));
+    core.handed(new Uint8Array(rows.buffer), (at) => core.does("note_past", this.#at, text, at, fronts.length, this.#past));
+    try {
+      core.does("past_length", this.#past, core.answer);
+      const all = [0n, BigInt(core.wide(core.answer))];
+      return {
+        bytes: core.filled(1, (at, most) => core.call("past_bytes", this.#past, ...all, at, most, core.answer), (at, many) => core.bytes(at, many)),
+        names: core.filled(NAME, (at, most) => core.call("past_names", this.#past, ...all, at, most, core.answer), (at, many) => this.#inRows(at, many)),
+      };
+    } finally {
+      core.call("past_free", this.#past);
+    }
   }
 
   /** What changed of what is shown, since this was asked last; and whether all that was shown then gives way to all that is shown now.

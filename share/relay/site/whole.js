@@ -3,6 +3,8 @@
 import { Trouble, hex } from "./bytes.js";
 import { Feed } from "./feed.js";
 import { Followed } from "./followed.js";
+import { historyOf } from "./history.js";
+import { leftOutOf } from "./lost.js";
 import { Own } from "./own.js";
 import { SharedText, TEXT } from "./shared.js";
 import { Spare } from "./spare.js";
@@ -20,6 +22,9 @@ const AGAIN_MS = 20;
 export class Whole {
   /** @type {SharedText | null} */
   text = null;
+  /** What doesn't count for good.
+   * @type {import("./lost.js").LeftOut[]} */
+  leftOut = [];
   own;
   followed;
   #ear;
@@ -27,10 +32,15 @@ export class Whole {
   #store;
   #keys;
   #note;
+  // From where entries come; and from where they came that the text has, until the text is begun anew.
   #feed;
+  /** @type {Feed | null} */
+  #shown = null;
   #spare;
   // Up to which of the editor's edits all was said, or is about to be.
   #edits = 0;
+  // Of whom it was seen last what doesn't count.
+  #lost = "[]";
   #turn = Promise.resolve();
   /** @type {ReturnType<typeof setTimeout> | undefined} */
   #later;
@@ -41,7 +51,7 @@ export class Whole {
    * @param {import("./store.js").Note} note @param {Ear} ear */
   constructor(core, store, keys, note, ear) {
     [this.#core, this.#store, this.#keys, this.#note, this.#ear] = [core, store, keys, note, ear];
-    this.own = new Own(store, keys, note.id, { kept: (edits) => this.#kept(edits), failed: (why) => this.#failed(why) });
+    this.own = new Own(store, keys, note.id, { kept: (edits) => this.#kept(edits), failed: () => this.#failed() });
     this.#spare = new Spare(store, keys, note.id, async () => this.facts.taken());
     this.#feed = this.#newFeed();
     this.followed = new Followed(store, keys, note.url, (hasEntries) => this.#came(hasEntries), () => this.#keepSpare());
@@ -58,7 +68,7 @@ export class Whole {
 
   /** Whether something can be typed. */
   get types() {
-    return Boolean(this.text && this.own.number && !this.own.hasFailed);
+    return Boolean(this.text && !this.own.failure && this.own.number && this.own.number.site === this.#shown?.site);
   }
 
   /** Whether a number is searched for. */
@@ -77,6 +87,13 @@ export class Whole {
       this.#isDue = false;
       if (!this.#hasEnded) this.#show();
     });
+  }
+
+  /** How the text came to be. */
+  async history() {
+    const [{ entries }, { facts }] = [await this.#store.entries(this.#note.id), this];
+    const holders = new Map(facts.numbers().map(({ site, author }) => [site, author]));
+    return historyOf(entries, this.#keys, TEXT, holders, new Map(this.text?.fronts()));
   }
 
   /** Ends once all is kept; edits are counted from 0 then. */
@@ -114,16 +131,29 @@ export class Whole {
   }
 
   async #feedOn() {
-    const hasMore = await this.#feed.next((done, of) => this.#ear.reads(done, of));
+    await this.#fed(await this.#feed.next((done, of) => this.#ear.reads(done, of)));
+  }
+
+  /** Shows what was read, if there is more; and takes another number, where somebody has claimed it since it was searched for.
+   * @param {boolean} hasMore */
+  async #fed(hasMore) {
     const { number } = this.own;
-    if (number?.claims && this.#isTaken(number)) {
-      // Somebody has claimed it since it was searched for.
-      this.own.leave();
-      await this.#takeNumber();
-    } else if (hasMore) {
-      this.#show();
-    }
+    const isTaken = Boolean(number?.claims && this.#isTaken(number));
+    if (isTaken) this.own.leave();
+    if (hasMore) this.#show();
+    await this.#seesLost();
     this.#ear.stands();
+    if (isTaken) await this.#takeNumber();
+  }
+
+  /** Sees what doesn't count for good, where that is of others, or more, than before. */
+  async #seesLost() {
+    const whose = this.facts.leftOut(TEXT);
+    const lost = JSON.stringify(whose);
+    if (lost === this.#lost) return;
+    const { entries } = await this.#store.entries(this.#note.id);
+    this.leftOut = await leftOutOf(entries, this.#keys, TEXT, whose, (author) => this.own.isOwnAuthor(author));
+    this.#lost = lost;
   }
 
   /** @param {import("./own.js").Held} number */
@@ -142,6 +172,7 @@ export class Whole {
       return;
     }
     if (this.text) this.#ear.settle();
+    if (this.#shown !== this.#feed) this.#begins();
     this.#say(value);
     this.#feed.hand();
     value.update();
@@ -151,10 +182,16 @@ export class Whole {
     this.#ear.stands();
   }
 
+  /** The text is begun anew, from what came by now. */
+  #begins() {
+    this.#shown?.close();
+    [this.#shown, this.text, this.own.failure] = [this.#feed, null, ""];
+  }
+
   /** @param {import("./value.js").Value} value */
   #say(value) {
     const { number } = this.own;
-    if (!number || this.own.hasFailed) return;
+    if (!number || this.own.failure) return;
     if (number.claims) value.claim(number.author.name, number.site, number.claims.rank);
     for (const one of value.own(TEXT, number.author.name)) {
       value.add(one);
@@ -172,21 +209,19 @@ export class Whole {
     this.#ear.stands();
   }
 
-  /** What was typed can't be kept: it is taken out.
-   * @param {any} why */
-  #failed(why) {
-    if (!(why instanceof Trouble)) reportError(why);
-    this.#next(async () => {
-      await this.#anew();
-      this.#ear.unkept(why.message);
-    });
+  /** What was typed can't be kept: it is taken out. */
+  #failed() {
+    this.#ear.unkept(this.own.failure);
+    this.#next(() => this.#anew());
   }
 
-  /** Has the note be shown anew from what is kept. */
+  /** Has the note be shown anew from what is kept. What is shown until then stays, and takes no edits. */
   async #anew() {
-    this.#feed.close();
-    [this.#feed, this.text, this.own.hasFailed] = [this.#newFeed(), null, false];
-    await this.#feedOn();
+    const feed = this.#newFeed();
+    await feed.next((done, of) => this.#ear.reads(done, of));
+    if (this.#feed !== this.#shown) this.#feed.close();
+    this.#feed = feed;
+    await this.#fed(true);
   }
 
   // The number.
