@@ -11,6 +11,7 @@ from share.format.second.signature import check_library
 from share.relay.limits import Limits
 from share.relay.options import DEFAULT_LISTEN, RelayOptions, web_origin
 from share.relay.page_files import PageFiles, missing_for_texts
+from share.relay.page_rules import listed_headers
 from share.relay.shelf import shelf_at
 from share.store import notes
 from share.text.errors import Trouble
@@ -41,7 +42,8 @@ def relay_parser() -> argparse.ArgumentParser:
     parser.add_argument("--origin", metavar="URL", action="append", default=[],
                         help="a page elsewhere, https://HOST, whose browsers may come; may be given again")
     parser.add_argument("--digests", action="store_true", help="only print which digest each file of the page has")
-    parser.add_argument("--write-page", metavar="FOLDER", help="only write the page's files into a new folder, for another server")
+    parser.add_argument("--write-page", metavar="FOLDER",
+                        help="only write the page's files into a new folder, for another server, and the headers that it has to send")
     parser.add_argument("--forwarded", action="store_true", help="the reverse proxy says who comes from where, by X-Forwarded-For")
     parser.add_argument("--note-bytes", metavar="N", type=_limit, default=default.note_bytes, help="how large a note may get; %(default)s")
     parser.add_argument("--entries-a-second", metavar="N", type=_limit, default=default.entries_a_second,
@@ -81,9 +83,10 @@ def _hand_out_page(folder: str | None, urls: Sequence[str]) -> int:
     """Prints the digests of the page's files, and writes them where a folder is named, as the page of the relay at a URL."""
     if folder and len(urls) != 1:
         raise Trouble("The page is written for one relay: name it by --url https://HOST.")
-    files = PageFiles(relay=web_origin(*urls)) if folder else PageFiles()
+    relays = [web_origin(url) for url in urls] if folder else []
+    files = PageFiles(relay="".join(relays))
     if folder:
-        files.write(pathlib.Path(folder))
+        files.write(pathlib.Path(folder), listed_headers(files, relays))
     print(files.digests(), end="")
     return 0
 

@@ -11,7 +11,7 @@ from share.text.errors import Trouble
 
 OWN_FOLDER = pathlib.Path(__file__).absolute().parents[1]
 PAGE_FOLDER, FRONT_FILE, FRONT_ADDRESS = OWN_FOLDER / "relay" / "site", "index.html", "/"
-DIGESTS_FILE = "digests"
+DIGESTS_FILE, HEADERS_FILE = "digests", "headers"
 PAGE_TYPES = {".html": "text/html", ".js": "text/javascript", ".css": "text/css", ".wasm": "application/wasm"}
 # How a file names another one, of its own folder, of a local engine's page or of the library; and the digits of a hash in an address.
 NAMED_FILE = re.compile(rb"""(?<=["'])((?:\./|\.\./\.\./editors/web/|\.\./\.\./\.\./library/node/)[a-z]+\.(?:js|css|html|wasm))(?=["'])""")
@@ -42,6 +42,10 @@ class PageFile(NamedTuple):
         """By what it is known, in hexadecimal digits."""
         return hashlib.sha256(self.data).hexdigest()
 
+    def media_type(self) -> str:
+        """Its type as a server says it."""
+        return f"{self.type}; charset=utf-8" if self.type.startswith("text/") else self.type
+
 
 def core_path() -> pathlib.Path | None:
     """Where the core is that pages run."""
@@ -70,13 +74,14 @@ class PageFiles:
         """Which digest each file has, as sha256sum writes and checks it."""
         return "".join(f"{one.digest()}  {file_name(address)}\n" for address, one in sorted(self.files.items()))
 
-    def write(self, folder: pathlib.Path) -> None:
-        """Writes the files, and the list of their digests, into a new folder, for another server."""
+    def write(self, folder: pathlib.Path, headers: str) -> None:
+        """Writes the files, the list of their digests, and what is to be said of each, into a new folder, for another server."""
         try:
             folder.mkdir()
             for address, one in self.files.items():
                 (folder / file_name(address)).write_bytes(one.data)
             (folder / DIGESTS_FILE).write_text(self.digests())
+            (folder / HEADERS_FILE).write_text(headers)
         except OSError as why:
             raise Trouble(f"{folder}: {why.strerror}.") from why
 

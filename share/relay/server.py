@@ -13,19 +13,18 @@ from aiohttp import WSCloseCode, WSMsgType, web
 from share.log.relay_messages import (ABOUT_PATH, MOST_REQUEST, RELAY_VERSION, SOCKET_PATH, SUBPROTOCOL, Misspelled, challenge_message,
                                       read_proof, welcome_message)
 from share.relay.door import Door
-from share.relay.front import Answering, add_page, page_rules
+from share.relay.front import Answering, add_page
 from share.relay.kept import KeptNote
 from share.relay.limits import NewNotes, Paces
 from share.relay.member import Member, Sending
 from share.relay.membership import PROOF_SECONDS, Challenge, NotProved
 from share.relay.options import RelayOptions
 from share.relay.page_files import PageFiles
+from share.relay.page_rules import HEADERS, page_rules
 from share.relay.room import NoteRoom
 from share.relay.shelf import Shelf
 from share.text.errors import Trouble
 
-HEADERS = {"Cache-Control": "no-store", "X-Content-Type-Options": "nosniff", "Referrer-Policy": "no-referrer",
-           "Cross-Origin-Resource-Policy": "same-origin"}
 # How often the door is looked at, and how long a WebSocket may be silent before it is asked whether it is there.
 DOOR_SECONDS, SILENT_SOCKET_SECONDS = 5.0, 60.0
 CLOSE_SECONDS, KEEPALIVE_SECONDS = 2.0, 5.0

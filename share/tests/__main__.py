@@ -45,7 +45,7 @@ MODULES = ["test_storm", "test_spots", "test_all_editors", "test_page", "test_re
            "test_relay_offline", "test_relay_people", "test_note_definitions", "test_folding",
            "test_folded_notes"]
 # These need the core as WebAssembly, which bin/library --wasm makes where Rust can. Where it isn't here they aren't run, which is said.
-OVER_THE_CORE = ["test_relay_text", "test_site_texts"]
+OVER_THE_CORE = ["test_relay_text", "test_relay_text_firefox", "test_site_texts"]
 # These run over notes of the second form, too, which has rules of its own for what they are about: numbers, copies, losses, what is
 # sent, who is on, and attacks. Any module does as "test_one:2".
 OVER_BOTH = frozenset(("test_all_editors", "test_carried", "test_changed", "test_copied_numbers", "test_copies", "test_left_out",

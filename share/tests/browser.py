@@ -1,10 +1,12 @@
 """Chromium, with pages of a note in windows of its own."""
+import asyncio
 import contextlib
 import json
 import pathlib
 import shutil
 from typing import Any
 
+import aiohttp
 from selenium import webdriver
 from selenium.common.exceptions import (ElementClickInterceptedException, ElementNotInteractableException, JavascriptException,
                                         StaleElementReferenceException, WebDriverException)
@@ -90,6 +92,13 @@ class Browser:
         self.driver.set_window_size(*self.size)
         return Window(self, self.driver.current_window_handle)
 
+    def window_apart(self) -> "Window":
+        """A new window of a user of its own: what the browser keeps for others it doesn't have."""
+        target = asyncio.run(_opened_apart(self.driver.capabilities["goog:chromeOptions"]["debuggerAddress"]))
+        window = Window(self, wait_for(lambda: next((one for one in self.driver.window_handles if target in one), ""), "the window"))
+        window.driver.set_window_size(*self.size)
+        return window
+
     def open(self, path: pathlib.Path) -> "Window":
         """A page that a file leads to, in a window of its own."""
         window = self.window()
@@ -110,6 +119,24 @@ def _started(options: Any) -> Any:
     return webdriver.Chrome(service=Service(DRIVER), options=options)
 
 
+async def _opened_apart(address: str) -> str:
+    """The number of a window that a browser is told at this address to open for a user of its own."""
+    async with aiohttp.ClientSession() as session:
+        async with session.get(f"http://{address}/json/version") as about:
+            way = (await about.json(content_type=None))["webSocketDebuggerUrl"]
+        async with session.ws_connect(way) as line:
+
+            async def asked(method: str, **words: object) -> Any:
+                await line.send_json({"id": 1, "method": method, "params": words})
+                while (answer := await line.receive_json()).get("id") != 1:
+                    pass
+                return answer["result"]
+
+            user = await asked("Target.createBrowserContext")
+            opened = await asked("Target.createTarget", url="about:blank", newWindow=True, browserContextId=user["browserContextId"])
+            return str(opened["targetId"])
+
+
 class Window:
     """A window, with a note's page."""
 
@@ -122,6 +149,10 @@ class Window:
         if self._browser.driver.current_window_handle != self.handle:
             self._browser.driver.switch_to.window(self.handle)
         return self._browser.driver
+
+    def goes_to(self, address: str) -> None:
+        """Has it show an address."""
+        self.driver.get(address)
 
     def run(self, script: str, *words: object) -> Any:
         """What a script of the page gives."""

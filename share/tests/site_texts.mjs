@@ -64,11 +64,9 @@ class Person {
 
   /** What was typed becomes entries, and what came is shown. */
   meets(other) {
-    for (const one of this.value.own(TEXT, this.author)) {
-      this.comes.push(one);
-      other.comes.push(one);
-      this.takes(this.comes.length - 1);
-    }
+    const said = this.value.say(TEXT, this.author);
+    this.came.push(...said);
+    other.comes.push(...said);
     while (this.comes.length && chance(4)) this.takes(chance(this.comes.length));
     this.value.update();
     this.sees();
@@ -114,13 +112,18 @@ class Person {
 
   sees() {
     const changes = this.text.changed();
-    for (const [begin, end, put] of changes ?? []) this.shown = this.shown.slice(0, begin) + put + this.shown.slice(end);
-    if (!changes) this.shown = this.text.slice();
+    // Undos go with a text that begins anew, as it does where something that counted doesn't any more. Nothing is so here.
+    if (!changes) throw new Error("the text began anew");
+    for (const [begin, end, put] of changes) this.shown = this.shown.slice(0, begin) + put + this.shown.slice(end);
     if (this.shown !== this.text.slice()) throw new Error(`shown: ${JSON.stringify(this.shown)}, has: ${JSON.stringify(this.text.slice())}`);
   }
 }
 
 const people = [new Person(1), new Person(2)];
+// The second one has text of the other's before an own one, as who joins has.
+while (!people[0].shown) people[0].types();
+people[0].meets(people[1]);
+while (people[1].comes.length) people[1].meets(people[0]);
 for (let step = 0; step < Number(steps); step += 1) {
   const [one, other] = chance(2) ? people : [people[1], people[0]];
   const what = chance(10);

@@ -21,6 +21,8 @@ from share.text.errors import Trouble
 
 PAGE_ELSEWHERE = "https://page.example"
 HASHED = re.compile(r"/[a-z]+\.[0-9a-f]{32}\.(js|css|html|wasm)")
+# What a server says of itself, and of how it answers.
+OWN_HEADERS = {"Date", "Server", "Content-Length", "ETag", "Vary", "Connection"}
 OF_TEXTS = re.compile(r"/note\.[0-9a-f]{32}\.html")
 
 
@@ -69,6 +71,18 @@ class Files(Case):
             fewer = named(PageFiles())
         self.assertLess(fewer, stand)
         self.assertFalse({"note.html", "vialshoal.wasm", "codemirror.js"} & fewer)
+
+
+def headers_in(text: str) -> dict[str, dict[str, str]]:
+    """What a server has to say of each file, by its address."""
+    told = dict[str, dict[str, str]]()
+    for line in text.splitlines():
+        if line.startswith("/"):
+            told[line] = {}
+        else:
+            name, _, value = line.strip().partition(": ")
+            told[[*told][-1]][name] = value
+    return told
 
 
 def named(site: PageFiles) -> set[str]:
@@ -213,6 +227,21 @@ class Handed(Case):
         self.assertEqual([line.split()[1] for line in written ^ here], ["index.html"] * 2)
         again = self.relay("--write-page", str(to), "--url", "https://notes.example")
         self.assertEqual((again.returncode, again.stdout), (2, ""))
+
+    def test_another_server_is_told_what_the_relay_says_of_each_file(self) -> None:
+        with with_core(self.folder):
+            relay = RelayProcess(self.folder / "kept")
+            self.addCleanup(relay.close)
+            self.relay("--write-page", str(self.folder / "page"), "--url", "https://notes.example")
+        told = headers_in((self.folder / "page" / "headers").read_text())
+        self.assertEqual({address.rpartition("/")[2] or "index.html" for address in told},
+                         {path.name for path in (self.folder / "page").iterdir()} - {"digests", "headers"})
+        here = " ".join(sorted(f"ws://{host}:{relay.port}" for host in ("127.0.0.1", "localhost")))
+        for address, headers in told.items():
+            # The address of the page that names the relay is the same, and so are those of all that doesn't.
+            with urllib.request.urlopen(relay.url + address) as served:
+                said = {name: value.replace(here, "wss://notes.example") for name, value in served.headers.items() if name not in OWN_HEADERS}
+            self.assertEqual(headers, said, address)
 
 
 if __name__ == "__main__":

@@ -1,13 +1,18 @@
 """A note's text in a relay's page, as a whole site in Chromium: beside others' engines, offline, killed, in two tabs, with a full disk."""
 import base64
 import contextlib
+import http.server
 import os
 import pathlib
 import signal
 import tempfile
+import threading
 import unittest
+from collections.abc import Mapping
 from contextlib import closing
+from functools import partial
 from typing import TYPE_CHECKING
+from unittest import mock
 
 from share.format.chunk import packed
 from share.format.entry import NO_HASH
@@ -16,12 +21,14 @@ from share.format.second.key_link import link_of, read_key_link
 from share.format.second.record import RecordKind
 from share.log.opening import opener_of
 from share.relay.page_files import core_path, missing_for_texts
-from share.tests.pages import FAULTS_OF_LOOKS, LOOKS_SO
+from share.tests.pages import FAULTS_OF_LOOKS, LOOKS_SO, Server
 from share.tests.processes import children
-from share.tests.relays import RelayHere
 from share.tests.naive import inserting
+from share.tests.relays import RelayHere, RelayProcess
 from share.tests.support import alive, raws_of
-from share.tests.test_relay_front import ALL_SENT, IS_HERE, NO_ROOM
+from share.tests.test_relay_front import ALL_SENT, IS_HERE, NO_ROOM, Silent
+from share.tests.test_relay_offline import REFUSED
+from share.tests.test_relay_page import headers_in
 from share.tests.test_relay_people import AtPage
 from share.tests.test_relay_security import TappedLines, messages_of
 from share.tests.waiting import wait_for
@@ -55,8 +62,12 @@ READING_IS_HELD = """void ((decrypt) => {
     return decrypt.apply(this, given);
   };
 })(SubtleCrypto.prototype.decrypt)"""
+NEVER_ANSWERED = "StorageManager.prototype.persist = () => new Promise(() => {});"
 ON = "[...document.querySelectorAll('#people li')].map((one) => one.textContent).sort().join()"
 CARETS = "[...document.querySelectorAll('.caret b')].map((one) => one.textContent)"
+# What a page has for its user to do, and what of that a page of a local engine has alone.
+CONTROLS = "button", "textbox", "combobox", "searchbox", "checkbox"
+LOCAL_ALONE = {"Remark", "Suggest", "Suggesting", "Remarks"}
 # What would do something if a page, or a program of it, read it as more than text.
 HOSTILE = ("<img src=x onerror=\"document.title='obeyed'\"><script>document.title='obeyed'</script>\u202e\0\x1b[31m\r\n"
            "${document.title='obeyed'} javascript:alert(1) \U0001f44d\U0001f3fd \u00e9 \ufffe\n")
@@ -424,10 +435,86 @@ class Kept(AtText):
         self.assertEqual(window.run("document.getElementById('words').children.length"), 1)
         self.assert_right(window)
 
+    def test_who_is_asked_whether_to_keep_it_need_not_answer(self) -> None:
+        """Firefox asks its user, and its page gets no answer as long as he gives none."""
+        _, link = self.made_text()
+        window = self.browser.window_apart()
+        self.addCleanup(self.leave, window)
+        window.command("Page.enable")
+        window.command("Page.addScriptToEvaluateOnNewDocument", source=NEVER_ANSWERED)
+        window.driver.get(link)
+        window.wait_for("document.title === 'Note 1'")
+
+    def test_a_saved_note_opens_though_the_relay_has_lost_it(self) -> None:
+        saved = self.folder / "typed.vialshoal-note"
+        appends, exports = ["append", "typed", "by another", "--new", "--log", self.relay.url], ["export", "typed", str(saved)]
+        for words in appends, [*exports, "--format", "note"]:
+            run = self.in_terminal(*words)
+            self.assertEqual(run.returncode, 0, run.stderr)
+        self.relay.kill()
+        for path in (self.folder / "kept").glob("*.log*"):
+            path.unlink()
+        self.relay.start()
+        window = self.at()
+        window.element("#saved-note").send_keys(str(saved))
+        window.wait_for("document.getElementById('title').textContent === 'typed'")
+        window.wait_for(ALL_SENT)
+        window.press("text")
+        window.wait_for(READY)
+        window.shows("by another\n")
+        self.assert_right(window)
+
     def test_a_note_that_is_not_here_is_told(self) -> None:
         window, _ = self.made_text()
         address = window.run("location.href.slice(0, -32)")
         window = self.at(address + "0" * 32, "document.getElementById('state').textContent.includes('Its link opens it again')")
+
+
+class BySaid(Silent):
+    """Serves files as a page's list of headers says."""
+
+    # By the address.
+    said: Mapping[str, Mapping[str, str]] = {}
+
+    def end_headers(self) -> None:
+        for name, value in self.said.get(self.path, {}).items():
+            # It says that one itself.
+            if name != "Content-Type":
+                self.send_header(name, value)
+        super().end_headers()
+
+
+class Elsewhere(AtText):
+    """A page that another server has."""
+
+    def test_it_runs_by_the_headers_that_are_written_beside_it(self) -> None:
+        folder = self.folder / "page"
+        with http.server.ThreadingHTTPServer(("127.0.0.1", 0), partial(BySaid, directory=str(folder))) as server:
+            thread = threading.Thread(target=server.serve_forever)
+            thread.start()
+            try:
+                self.from_elsewhere(folder, f"http://127.0.0.1:{server.server_address[1]}")
+            finally:
+                server.shutdown()
+                thread.join()
+
+    def from_elsewhere(self, folder: pathlib.Path, elsewhere: str) -> None:
+        """A text is typed into a page at this address, whose rules hold."""
+        relay = RelayProcess(self.folder / "other", "--origin", elsewhere)
+        self.addCleanup(relay.close)
+        run = self.in_terminal("relay", "--write-page", str(folder), "--url", relay.url)
+        self.assertEqual((run.returncode, run.stderr), (0, ""))
+        with mock.patch.object(BySaid, "said", headers_in((folder / "headers").read_text())):
+            window = self.at(elsewhere)
+            self.made(window, "picnic")
+            window.wait_for(ALL_SENT)
+            window.press("text")
+            window.wait_for(READY)
+            window.run(f"{MIRROR}.focus()")
+            window.type("typed elsewhere")
+            window.state("all sent")
+            self.assert_right(window)
+            self.assertEqual(window.run(REFUSED), ["img-src", "enforce"])
 
 
 class Seen(AtText):
@@ -469,6 +556,30 @@ class Seen(AtText):
             window.command("Emulation.setEmulatedMedia", features=[{"name": "prefers-color-scheme", "value": scheme}])
             window.wait_for(LOOKS_SO, width, scheme)
             self.assertEqual(window.run(FAULTS_OF_LOOKS, width < 600), [])
+
+    def test_what_is_read_aloud_is_what_a_local_page_has_to_say(self) -> None:
+        lines = [f"line {number} of it" for number in range(300)]
+        window, _ = self.made_text("note")
+        window.paste("\n".join(lines))
+        window.state("all sent")
+        local = Server(self.folder / "local", "--no-browser")
+        self.addCleanup(local.close)
+        other = self.browser.open(local.path)
+        self.addCleanup(self.leave, other)
+        here, there = self.said_aloud(window), self.said_aloud(other)
+        self.assertEqual([words for role, words in here if role == "StaticText" and words.startswith("line ")], lines)
+        self.assertEqual([role for role, name in here if role in (*CONTROLS, "heading") and not name], [])
+        # What a page has to do is called the same; it does less.
+        called, elsewhere = ({one for one in said if one[0] in CONTROLS} for said in (here, there))
+        self.assertEqual(called - elsewhere, set())
+        self.assertEqual({name for _, name in elsewhere - called}, LOCAL_ALONE)
+
+    @staticmethod
+    def said_aloud(window: "Window") -> list[tuple[str, str]]:
+        """The roles and the names of what a screen reader has of a page, in their order."""
+        window.command("Accessibility.enable")
+        nodes = [node for node in window.command("Accessibility.getFullAXTree")["nodes"] if not node.get("ignored")]
+        return [(node["role"]["value"], node.get("name", {}).get("value", "").replace("\u00a0", " ")) for node in nodes]
 
 
 if __name__ == "__main__":

@@ -84,19 +84,29 @@ async function sayWhetherItLasts(asks) {
 async function openFile(store, file) {
   const { link } = savedIn(new Uint8Array(await file.arrayBuffer()));
   if (!link) throw new Trouble(`${file.name} lacks the note's link. Open that first, and read the file there.`);
-  await openLink(store, link, file.name.replace(/\.[^.]*$/, ""));
+  await show(store, await taken(store, link, file.name.replace(/\.[^.]*$/, "")));
+  // What is wrong with it is said here.
   await shown?.read(file);
+  await sayWhetherItLasts(true);
 }
 
-/** @param {Store} store @param {string} given @param {string} [name] */
-async function openLink(store, given, name) {
+/** @param {Store} store @param {string} given */
+async function openLink(store, given) {
+  const note = await taken(store, given);
+  if (goToText(note.id)) return;
+  await show(store, note);
+  await sayWhetherItLasts(true);
+}
+
+/** Has a note be here to which a link leads, by this name if it is new.
+ * @param {Store} store @param {string} given @param {string} [name] */
+async function taken(store, given, name) {
   const { key, url } = await readLink(given, relay);
   if (url !== relay) throw new Trouble(`That note is at ${url}, and this page reaches ${relay} alone. Open its link there.`);
   const keys = await NoteKeys.of(key);
   const note = noteOf(keys, url, name || `Note ${(await store.notes()).length + 1}`);
   await store.add(note);
-  await sayWhetherItLasts(true);
-  if (!goToText(note.id)) await show(store, await store.note(note.id) ?? note);
+  return await store.note(note.id) ?? note;
 }
 
 /** @param {Store} store @param {string} name */

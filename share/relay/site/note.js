@@ -6,6 +6,7 @@ import { Core } from "./core.js";
 import { NoteKeys } from "./keys.js";
 import { Source } from "./source.js";
 import { Store } from "./store.js";
+import { keepFirst } from "./version.js";
 
 const FORGOTTEN = "This note isn't in this browser. Its link opens it again.";
 
@@ -19,6 +20,8 @@ async function begin() {
   const note = await store.note(location.hash.slice(1));
   if (!note) throw new Trouble(FORGOTTEN);
   const [keys, core] = await Promise.all([NoteKeys.of(note.key), Core.of(new URL("./vialshoal.wasm", import.meta.url))]);
+  // Firefox asks its user, who may take long to answer, or never do.
+  void navigator.storage?.persist?.().catch(() => {});
   sessionStorage.setItem("note", note.id);
   sessionStorage.removeItem("name");
   /** @type {Source | undefined} */
@@ -27,6 +30,8 @@ async function begin() {
     source = new Source(told, core, store, keys, note);
     return source;
   }, leave);
+  // Whoever came by a link has left the front page before that kept all. Where it can't be kept the note is shown all the same.
+  if (navigator.serviceWorker) void keepFirst(location.href).catch(() => {});
   addEventListener("pagehide", () => source?.close());
   // A page that comes back as it was has let the note go.
   addEventListener("pageshow", ({ persisted }) => { if (persisted) location.reload(); });

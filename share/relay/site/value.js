@@ -105,12 +105,15 @@ export class Value {
     }
   }
 
-  /** The messages of own edits that don't count yet, as entries by who has the number.
+  /** Has own edits count, as entries by who has the number, which are given: before others' that came since, as they are shown. In another
+   * order the text would begin anew.
    * @param {number} text @param {Uint8Array} author */
-  own(text, author) {
+  say(text, author) {
     /** @type {Saying[]} */
     const found = [];
     for (let one = this.#own(text, author, 0); one; one = this.#own(text, author, found.length)) found.push(one);
+    for (const one of found) this.add(one);
+    if (found.length) this.update();
     return found;
   }
 

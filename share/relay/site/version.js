@@ -85,6 +85,20 @@ class Offered {
   }
 }
 
+/** Keeps the version of which a file is shown, where none is kept yet; the one that is offered.
+ * @param {string} shown the file's address */
+export async function keepFirst(shown) {
+  const { serviceWorker } = navigator;
+  const data = await asked("/");
+  const version = hex(await sha256(data));
+  const { active } = await serviceWorker.getRegistration(SCOPE) ?? {};
+  if (!active && new TextDecoder().decode(data).includes(new URL(shown).pathname)) {
+    // Where there is no room the page goes on as it is.
+    await take(WORKER, version).catch(() => {});
+  }
+  return version;
+}
+
 /** Keeps the version that is shown, where none is kept yet, and looks again and again for another one.
  * @param {string} front the address of the page's first module @param {(work: () => Promise<unknown>) => void} does */
 export async function keepVersion(front, does) {
@@ -92,16 +106,9 @@ export async function keepVersion(front, does) {
   if (!serviceWorker) return;
   const shown = new Offered(does);
   const look = async () => {
-    const data = await asked("/");
-    const version = hex(await sha256(data));
-    let registration = await serviceWorker.getRegistration(SCOPE);
-    if (!registration?.active && new TextDecoder().decode(data).includes(new URL(front).pathname)) {
-      // Where there is no room the page goes on as it is.
-      await take(WORKER, version).catch(() => {});
-      registration = await serviceWorker.getRegistration(SCOPE);
-    }
+    const version = await keepFirst(front);
     await say();
-    await shown.show(versionOf(registration?.active), version);
+    await shown.show(versionOf((await serviceWorker.getRegistration(SCOPE))?.active), version);
   };
   const say = async () => {
     const kept = versionOf((await serviceWorker.getRegistration(SCOPE))?.active);

@@ -193,10 +193,7 @@ export class Whole {
     const { number } = this.own;
     if (!number || this.own.failure) return;
     if (number.claims) value.claim(number.author.name, number.site, number.claims.rank);
-    for (const one of value.own(TEXT, number.author.name)) {
-      value.add(one);
-      this.own.say(one, this.#edits);
-    }
+    for (const one of value.say(TEXT, number.author.name)) this.own.say(one, this.#edits);
     // An edit that did nothing is answered, too.
     if (!this.own.waiting) this.#ear.kept(this.#edits);
   }
