@@ -33,8 +33,7 @@ def opened(site: int) -> Note:
 def give(entries: Iterable[Entry], *notes: Note) -> None:
     """Hands entries to notes, which show what counts then."""
     for note in notes:
-        for entry in entries:
-            note.add(entry)
+        note.add_all(entries)
         note.update()
 
 

@@ -151,12 +151,12 @@ CALLS = {
     "past": (HANDLE, FRONTS, c_size_t, PAST),
     "past_free": (PAST,),
 }
-# A hash or a key is 32 bytes.
+# A hash or a key is 32 bytes; a head that is given, those of a CHead.
 NOTE_CALLS = {
     "new": (NOTE, c_uint16, c_char_p, c_char_p, c_uint16, c_char_p, c_char_p, c_char_p, c_size_t),
     "free": (NOTE,),
     "claim": (NOTE, c_char_p, c_uint16, c_char_p),
-    "add": (NOTE, POINTER(CHead), c_char_p, c_size_t),
+    "add": (NOTE, c_char_p, c_char_p, c_size_t),
     "update": (NOTE,),
     "insert": (NOTE, c_uint16, c_uint64, c_char_p, c_size_t, U32),
     "delete": (NOTE, c_uint16, c_uint64, c_uint64, U32),

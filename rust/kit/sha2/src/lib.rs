@@ -4,6 +4,8 @@
 use fallible::AllocError;
 
 const BLOCK: usize = 64;
+// Where the message's length stands in its last block.
+const LENGTH_AT: usize = 56;
 // The first bits of the fractional parts of the square roots of the first primes, and of their cube roots.
 const BEGIN: [u32; 8] = [
     0x6a09e667, 0xbb67ae85, 0x3c6ef372, 0xa54ff53a, 0x510e527f, 0x9b05688c, 0x1f83d9ab, 0x5be0cd19,
@@ -112,21 +114,25 @@ impl Digest for Sha256 {
     }
 
     fn update<T: AsRef<[u8]>>(&mut self, data: T) {
-        for byte in data.as_ref() {
-            self.rest[(self.len % BLOCK as u64) as usize] = *byte;
-            self.len += 1;
-            if self.len % BLOCK as u64 == 0 {
+        let mut data = data.as_ref();
+        while !data.is_empty() {
+            let at = (self.len % BLOCK as u64) as usize;
+            let (now, later) = data.split_at(data.len().min(BLOCK - at));
+            self.rest[at..at + now.len()].copy_from_slice(now);
+            self.len += now.len() as u64;
+            if at + now.len() == BLOCK {
                 compress(&mut self.state, &self.rest);
             }
+            data = later;
         }
     }
 
     fn finalize(mut self) -> [u8; 32] {
         let bits = self.len.wrapping_mul(8);
+        // A one and zeros, up to where the length fills a block.
+        let zeros = (BLOCK + LENGTH_AT - 1 - (self.len % BLOCK as u64) as usize) % BLOCK;
         self.update([0x80]);
-        while self.len % BLOCK as u64 != 56 {
-            self.update([0]);
-        }
+        self.update(&[0_u8; BLOCK][..zeros]);
         self.update(bits.to_be_bytes());
         let mut digest = [0; 32];
         for (bytes, word) in digest.chunks_exact_mut(4).zip(self.state) {
