@@ -63,10 +63,11 @@ def main() -> None:
     begin = time.process_time()
     while some := [*islice(entries, AT_ONCE)]:
         middle = time.process_time()
-        for claim in some:
-            if isinstance(claim, Record):
-                note.claim(claim.author, claim.site, claim.rank)
-        note.add_all(one for one in some if isinstance(one, Entry))
+        for one in some:
+            if isinstance(one, Entry):
+                note.add(one)
+            else:
+                note.claim(one.author, one.site, one.rank)
         opening, adding, begin = opening + middle - begin, adding + time.process_time() - middle, time.process_time()
     note.update()
     shown = len(note.text())

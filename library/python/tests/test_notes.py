@@ -33,7 +33,8 @@ def opened(site: int) -> Note:
 def give(entries: Iterable[Entry], *notes: Note) -> None:
     """Hands entries to notes, which show what counts then."""
     for note in notes:
-        note.add_all(entries)
+        for entry in entries:
+            note.add(entry)
         note.update()
 
 

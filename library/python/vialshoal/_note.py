@@ -117,14 +117,9 @@ class Note:
 
     def add(self, entry: Entry) -> None:
         """An entry came, perhaps again, or an own one. It counts after the next `update`."""
-        self.add_all((entry,))
-
-    def add_all(self, entries: Iterable[Entry]) -> None:
-        """Entries came. Where one is refused, those before it are added."""
+        head, body = _packed(given.instance(entry, Entry).head), given.data(entry.body)
         with self._lock:
-            for entry in entries:
-                head, body = _packed(given.instance(entry, Entry).head), given.data(entry.body)
-                done(c.calls_for(64 * len(body)).vialshoal_note_add(self._handle, head, body, len(body)))
+            done(c.calls_for(64 * len(body)).vialshoal_note_add(self._handle, head, body, len(body)))
 
     def update(self) -> None:
         """Has the texts show what counts of all that came. Own edits that `say` didn't answer are taken back."""
