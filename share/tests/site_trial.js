@@ -3,7 +3,7 @@ import * as bytes from './bytes.js';
 import { operationsOf } from './chunk.js';
 import * as entry from './entry.js';
 import { Facts } from './facts.js';
-import { History } from './history.js';
+import { History, messagesOf } from './history.js';
 import * as keys from './keys.js';
 import * as link from './link.js';
 import * as message from './message.js';
@@ -80,6 +80,9 @@ const does = {
     const history = new History(new Map(counting));
     for (const chunk of chunks) history.add(operationsOf(ofHex(chunk)));
     return { length: history.length, steps: history.steps };
+  },
+  async messages({ body, ...head }) {
+    return messagesOf(/** @type {any} */ ({ kind: entry.KIND.messages, body: ofHex(body), ...head })).length;
   },
   async presence({ key, data }) {
     const note = await keys.NoteKeys.of(ofHex(key));

@@ -11,7 +11,7 @@ from collections import Counter
 from contextlib import closing
 from typing import Any
 
-from share.format.chunk import Packed, packed_in_parts
+from share.format.chunk import Packed, packed, packed_in_parts
 from share.format.entry import NO_HASH, Author, Bad, Copied
 from share.format.heartbeat import Hears, Lack, Said, Way, heartbeat_of, token_of
 from share.format.history import Messages
@@ -30,6 +30,7 @@ from share.log.relay_messages import AppendRequest, ReadRequest, Refusal, RelayP
 from share.program.replay import as_line, steps
 from share.program.site import Rewrite, Site
 from share.relay.page_files import PAGE_FOLDER
+from share.tests.naive import inserting
 from share.tests.relays import RelayProcess, form_of, record
 from share.tests.support import Case, raws_of
 from share.tests.waiting import PATIENCE
@@ -364,6 +365,15 @@ class Histories(Modules):
         # What comes before what it follows waits, and is there in the end; what comes twice is there once.
         mixed = chance.sample(chunks, len(chunks)) + chance.sample(chunks, 9)
         self.assertEqual(self.asked("history", chunks=mixed, counting=counting)["length"], len(history))
+
+    def test_what_is_not_as_its_entry_says_has_no_messages(self) -> None:
+        part = packed([inserting(7, 3, 3, None, 0, b"abc"), inserting(7, 4, 4, None, 3, b"d")])
+        assert part
+        body, right = bytes(2) + part.chunk, {"site": 7, "first": 3, "count": 2}
+        for words, many in (right, 2), ({**right, "site": 8}, 0), ({**right, "first": 4}, 0), ({**right, "count": 1}, 0):
+            self.assertEqual(self.asked("messages", body=body.hex(), **words), many)
+        for data in *(body[:size] for size in range(len(body))), b"\xff" * 40, bytes(8) + b"\x07" + b"\xff" * 20:
+            self.assertLess(self.asked("messages", body=data.hex(), **right), 2)
 
     def edit(self, site: Site, chance: random.Random) -> list[Operation]:
         """What an edit says."""

@@ -1,4 +1,4 @@
-// The messages of a chunk, as docs/FORMATS.md has them. What is read here was found right before, by the core, and counts.
+// The messages of a chunk, as docs/FORMATS.md has them. Whether they are right, and count, the core says.
 import { Trouble } from "./bytes.js";
 
 /** @typedef {import("./value.js").Names} Names */
@@ -11,7 +11,8 @@ import { Trouble } from "./bytes.js";
 const [TAG_BYTES, PLAIN_LOOKS_SELECTED] = [6, 7];
 const [OTHER_SITE, LATER_STAMP, NEW_LOOKS, NEAR_CARET, FAR_FROM_CARET, LONG, SET, ONE, CHANGED, RESTORED, ESCAPE, NEW_SITE]
   = [1, 2, 3, 4, 5, 6, 7, 8, 0x0b, 0x0c, 0x0e, 0x0f];
-const CODES = new Set([OTHER_SITE, LATER_STAMP, NEW_LOOKS, NEAR_CARET, FAR_FROM_CARET, LONG, SET, ONE, CHANGED, RESTORED, ESCAPE, NEW_SITE]);
+const CODES = new Set([OTHER_SITE, LATER_STAMP, NEW_LOOKS, NEAR_CARET, FAR_FROM_CARET, LONG, SET, ONE, CHANGED, RESTORED, ESCAPE,
+  NEW_SITE]);
 const OF_NAMES = new Map([[SET, "deleted"], [RESTORED, "restored"], [CHANGED, "looked"]]);
 const NONE = new Uint8Array(0);
 

@@ -1,5 +1,5 @@
 // How a note's text came to be: its messages that count, in the order in which their entries came to this browser.
-import { hex, numberAt } from "./bytes.js";
+import { Trouble, hex, numberAt } from "./bytes.js";
 import { operationsOf } from "./chunk.js";
 import { KIND, headOf, openedKept } from "./entry.js";
 
@@ -145,9 +145,16 @@ export class History {
   }
 }
 
-/** @param {import("./entry.js").Entry} entry that has messages */
-export function messagesOf({ kind, body }) {
-  return operationsOf(kind === KIND.base ? body : body.subarray(2 + ON_BYTES * numberAt(body, 0, 2)));
+/** The messages of an entry; none where it hasn't those that its head says, as somebody may have sealed it.
+ * @param {import("./entry.js").Entry} entry */
+export function messagesOf({ kind, body, site, first, count }) {
+  try {
+    const found = operationsOf(kind === KIND.base ? body : body.subarray(2 + ON_BYTES * numberAt(body, 0, 2)));
+    return found.every((one) => one.site === site && one.seq >= first && one.seq + one.size <= first + count) ? found : [];
+  } catch (why) {
+    if (why instanceof Trouble) return [];
+    throw why;
+  }
 }
 
 /** The history of a text of a note, of whose sites each is somebody's, and so many messages of it count.

@@ -11,13 +11,14 @@ import { readable } from "./shared.js";
 /** What was typed of it.
  * @param {import("./store.js").Kept[]} entries @param {import("./keys.js").NoteKeys} keys @param {number} text @param {Whose[]} whose
  * @param {(author: string) => boolean} isOwn @returns {Promise<LeftOut[]>} */
-export function leftOutOf(entries, keys, text, whose, isOwn) {
+export async function leftOutOf(entries, keys, text, whose, isOwn) {
   const heads = entries.map(({ raw }) => ({ raw, ...headOf(raw) })).filter((one) => one.kind === KIND.messages && one.text === text);
-  return Promise.all(whose.map(async ({ author, site, messages }) => {
+  const found = await Promise.all(whose.map(async ({ author, site, messages }) => {
     const some = heads.filter((one) => one.site === site && hex(one.author) === author).sort((one, other) => one.first - other.first);
     const shown = typedIn(await Promise.all(some.map(({ raw }) => openedKept(keys, raw))));
     return { site, own: isOwn(author), characters: [...shown].length, messages, text: shown };
   }));
+  return found.filter(({ characters }) => characters > 0);
 }
 
 /** What entries of one author typed, one after the other.

@@ -40,7 +40,7 @@ export class Source {
     this.#isFirst = !note.size && !note.author;
     this.#whole = new Whole(core, store, keys, note, {
       isBusy: () => this.#telling.isBusy(), settle: () => this.#telling.settle(), changed: (changes) => this.#changed(changes),
-      unkept: (words) => this.#telling.answer(this.#telling.edits, { error: "unkept", words }), kept: (edits) => this.#telling.answer(edits),
+      unkept: (words) => this.#telling.unkept(words), kept: (edits) => this.#telling.answer(edits),
       reads: (done, of) => this.#reads(done, of), stands: () => this.#stands(), says: (words) => this.#says(words),
     });
     this.#people = new People(this.#whole.followed.presence, store, note);

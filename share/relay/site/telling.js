@@ -71,6 +71,13 @@ export class Telling {
     this.#told.came({ answer: "edit", edits, ...why });
   }
 
+  /** What was done since isn't on the disk, and is taken out.
+   * @param {string} words */
+  unkept(words) {
+    if (this.edits > this.#kept) this.answer(this.edits, { error: "unkept", words });
+    else if (this.isOpen) this.#told.came({ notice: "says", words });
+  }
+
   /** Tells how things are, where that has changed. */
   stands() {
     clearTimeout(this.#later);
