@@ -64,10 +64,10 @@ def main() -> None:
     while some := [*islice(entries, AT_ONCE)]:
         middle = time.process_time()
         for one in some:
-            if isinstance(one, Entry):
-                note.add(one)
-            else:
+            if isinstance(one, Record):
                 note.claim(one.author, one.site, one.rank)
+            else:
+                note.add(one)
         opening, adding, begin = opening + middle - begin, adding + time.process_time() - middle, time.process_time()
     note.update()
     shown = len(note.text())

@@ -295,7 +295,8 @@ class Before(AtText):
         window.state("all sent")
         form = SealedRecords(link_of(link).secret)
         with closing(opener_of(self.relay.url, form)()) as log:
-            site = next(one.site for one in map(form.open, raws_of(log)) if one.kind is RecordKind.MESSAGES)
+            opened = (form.open(raw) for raw in raws_of(log) if raw)
+            site = next(one.site for one in opened if one.kind is RecordKind.MESSAGES)
             # Somebody types under the founder's number.
             part = packed([inserting(site, 1, 1, None, 0, b"not his\r")])
             assert part
