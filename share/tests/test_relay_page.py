@@ -240,7 +240,8 @@ class Handed(Case):
         for address, headers in told.items():
             # The address of the page that names the relay is the same, and so are those of all that doesn't.
             with urllib.request.urlopen(relay.url + address) as served:
-                said = {name: value.replace(here, "wss://notes.example") for name, value in served.headers.items() if name not in OWN_HEADERS}
+                said = {name: value.replace(here, "wss://notes.example") for name, value in served.headers.items()
+                        if name not in OWN_HEADERS}
             self.assertEqual(headers, said, address)
 
 
