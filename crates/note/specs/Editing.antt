@@ -1,6 +1,7 @@
 -- Edits of a site's own, in a text of a note.
-use Rattle.std.specs.Prelude.{◌≡◌, ◌≢◌, ℕ, ◌+◌, ◌-◌, ◌<◌, ◌≤◌, IsTrue, List, length, slice_index_or, Result}
+use Rattle.std.specs.Prelude.{◌≡◌, ◌≢◌, ℕ, ◌+◌, ◌-◌, ◌<◌, ◌≤◌, nat_lt, ◌==◌, ◌&&◌, Bool, IsTrue, List, [], ◌∷◌, ◌++◌, filter, length, slice_get, slice_index_or, take, Result, Some}
 use Rattle.operations.specs.Operation.{Operation}
+use Rattle.set_laws.specs.Fronts.{front_of}
 use Rattle.texts.specs.Edit.{insertion, deletion, looks_change}
 use Rattle.texts.specs.Named.{EditsByNamesSending, are_here}
 use Rattle.texts.specs.Outcome.{EditsSending}
@@ -8,6 +9,7 @@ use Rattle.texts.specs.TextState.{TextState, shown_of}
 use Rattle.texts.specs.declared.edit_refusal.EditRefusal.{EditRefusal}
 use Rattle.note_laws.specs.Note.{Note, Entries, Saying}
 use Rattle.note_laws.specs.Admission.{BuildsOn}
+use Rattle.note_laws.specs.Chains.{operations}
 use Rattle.note_admission.specs.Growing.{AreTaken, IsLastHash}
 use Rattle.note_hashes.specs.Hashes.{digest_of, said_by}
 use Rattle.note.specs.Notes.{NoteSeen}
@@ -65,3 +67,62 @@ pub record IsOwnEntry (author : ℕ) (t : NoteText) (entry : OwnEntry) : Type 0 
   pub site_is : entry.head.site ≡ t.replica.site
   pub text_is : entry.head.text ≡ t.replica.text
   pub some : 0 < entry.head.count
+
+-- ---- own messages that don't count yet
+
+-- whether an operation is of the text's own site, beyond what is admitted
+abbrev pub is_own_left : NoteText → Operation → Bool
+is_own_left t op = (op.site == t.replica.site) && nat_lt (front_of t.admission.ops t.replica.site) op.seq
+
+-- those, in the order of their making
+abbrev pub own_left : NoteText → List Operation
+own_left t = filter (λ op. is_own_left t op) t.replica.operations
+
+-- their numbers go on after the last one that counts
+abbrev pub AreNumberedOn : NoteText → List Saying → Type 0
+AreNumberedOn t said =
+    (n : ℕ) (s : Saying) → slice_get said n ≡ Some s → s.op.seq ≡ front_of t.admission.ops t.replica.site + n + 1
+
+-- the hash of the last of these messages, or this one where there are none
+abbrev pub last_hash : (before : ℕ) → List Saying → ℕ
+last_hash before [] = before
+last_hash before (s ∷ said) = last_hash s.hash said
+
+-- an author says these messages, each after the one before it, the first after the message of this hash
+abbrev pub AreSaidInTurn : (key : List ℕ) → (author before : ℕ) → List Saying → Type 0
+AreSaidInTurn key author before [] = Unit {0}
+AreSaidInTurn key author before (s ∷ said) =
+    (s ≡ said_by key author before s.op s.on) × AreSaidInTurn key author s.hash said
+
+-- each says what it builds on, behind what is admitted and those before it
+abbrev pub BuildInTurn : (key : List ℕ) → NoteText → List Saying → Type 0
+BuildInTurn key t said =
+    (note : Note) (entries : Entries) (admitted : List Saying) → note.digest ≡ digest_of key
+    → AreTaken note entries t.admission admitted → (n : ℕ) (s : Saying) → slice_get said n ≡ Some s
+    → BuildsOn note (admitted ++ take n said) s
+
+-- an entry of these messages, of which the first has this seq, and comes after the message of this hash
+pub record IsOwnEntryOf (author : ℕ) (t : NoteText) (seq before : ℕ) (entry : OwnEntry) (said : List Saying) : Type 0 where
+  pub own : IsOwnEntry author t entry
+  pub first : entry.head.first ≡ seq
+  pub after : entry.head.before ≡ before
+  pub many : entry.head.count ≡ length said
+
+-- entries of these messages, each of which begins where the one before it ends; the first begins with this seq, after this hash
+abbrev pub AreEntriesOf : (author : ℕ) → NoteText → (seq before : ℕ) → List OwnEntry → List Saying → Type 0
+AreEntriesOf author t seq before [] said = said ≡ []
+AreEntriesOf author t seq before (entry ∷ entries) said =
+    (own : List Saying) × (rest : List Saying) × (said ≡ own ++ rest) × IsOwnEntryOf author t seq before entry own
+    × AreEntriesOf author t (seq + length own) (last_hash before own) entries rest
+
+-- The entries say all of the site's own messages of a text that don't count yet, and nothing else: an author says them in turn,
+-- after the last one that counts.
+pub record SayAllLeft (key : List ℕ) (author : ℕ) (t : NoteText) (entries : List OwnEntry) : Type 0 where
+  pub said : List Saying
+  pub all : operations said ≡ own_left t
+  pub numbered : AreNumberedOn t said
+  pub last : ℕ
+  pub counts : IsLastOfText t t.replica.site last
+  pub in_turn : AreSaidInTurn key author last said
+  pub build : BuildInTurn key t said
+  pub parts : AreEntriesOf author t (front_of t.admission.ops t.replica.site + 1) last entries said

@@ -1,3 +1,4 @@
 pub mod Editing
 pub mod Notes
+pub mod Own
 pub mod Texts

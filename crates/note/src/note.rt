@@ -13,7 +13,7 @@ ghost use Rattle.note_bodies.specs.declared.messages.TheConstants.{TEXTS};
 ghost use Rattle.note.specs.Texts.{ArePairs, EachText, IsSameText, KeepsNoting, TellsChanges};
 ghost use Rattle.note.specs.Notes.{IsOfEntries, KeepsEntries, ShowsWhatCounts, TakesClaim, TakesEntry, TakesSaying, TakesSomeOf};
 ghost use Rattle.note.specs.Texts.{NoteText as NoteTextSeen};
-ghost use Rattle.note.specs.Editing.{FitsText, HasEditedText, IsLastOfText, IsOtherwiseAsBefore, IsOwnEntry, IsSaidWell, numbered_text};
+ghost use Rattle.note.specs.Editing.{FitsText, HasEditedText, IsLastOfText, IsOtherwiseAsBefore, IsOwnEntry, IsSaidWell, SayAllLeft, numbered_text};
 
 use crate::each_text;
 use crate::note_text::NoteText;
@@ -195,6 +195,8 @@ impl Note {
         requires { text ≤ TEXTS }
         ensures heads { IfOk result (λ entries. (d : NoteTextSeen)
             → All (IsOwnEntry author (numbered_text self.now text d)) entries.items) }
+        ensures all { IfOk result (λ entries. (d : NoteTextSeen)
+            → SayAllLeft self.now.key author (numbered_text self.now text d) entries.items) }
         ensures errors { IfErr result (λ why. (why ≡ refusal.Behind) ⊎ (why ≡ refusal.OutOfMemory)) }
     {
         let Some(at) = self.place(text) else {

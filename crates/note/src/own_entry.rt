@@ -1,8 +1,12 @@
 //! The entries that say what a site did itself.
 
-ghost use Rattle.std.specs.Prelude.{◌≡◌, ◌<◌, ◌≤◌, ◌⊎◌, All, IfErr, IfOk, IfSome, length};
+ghost use Rattle.std.specs.Prelude.{◌≡◌, ℕ, ◌⊎◌, true, false, List, All, IfErr, IfOk, IfSome, MatchOption, OnOk, Some as Just, slice_get};
 ghost use Rattle.looks.specs.declared.refusal.Refusal.TheVariants as refusal;
-ghost use Rattle.note.specs.Editing.{IsOwnEntry};
+ghost use Rattle.note_laws.specs.Note.{Saying as Said};
+ghost use Rattle.note_laws.specs.Chains.{operations};
+ghost use Rattle.note_bodies.specs.Writing.{nothing_said};
+ghost use Rattle.note.specs.Editing.{IsOwnEntry, SayAllLeft, is_own_left, own_left};
+ghost use Rattle.note.specs.Own.{HasNoRoom, HasPut, HaveSaid, IsNextEntry, PutsSaying};
 
 use crate::note_text::NoteText;
 use looks::Refusal;
@@ -21,20 +25,22 @@ pub struct OwnEntry {
 
 // How far own messages are put into entries.
 #[derive(Drop)]
-struct Turn {
+pub(crate) struct Turn {
     // The place in the replica of the next operation.
-    place: u64,
+    pub(crate) place: u64,
     // The seq of the next message.
-    seq: u32,
+    pub(crate) seq: u32,
     // The hash of the last message.
-    before: Hash,
+    pub(crate) before: Hash,
     // Those that aren't admitted.
-    between: Continuing,
+    pub(crate) between: Continuing,
 }
 
 impl NoteText {
     // Whether an operation is the site's own, and isn't admitted.
-    fn is_own(&self, op: &Op) -> bool {
+    fn is_own(&self, op: &Op) -> bool
+        ensures { result ≡ is_own_left self.now op.now }
+    {
         op.site() == self.replica.site() && self.admission.front(op.site()) < op.seq()
     }
 
@@ -49,8 +55,10 @@ impl NoteText {
         turn: &mut Turn,
         body: &mut BodyWriter,
     ) -> Result<bool, Refusal>
-        requires { turn.old.place < length self.now.replica.operations }
-        ensures place { turn.new.place ≡ turn.old.place }
+        requires { slice_get self.now.replica.operations turn.old.place ≡ Just op }
+        ensures put { IfOk result (λ put. put ≡ true
+            → PutsSaying key.now author self.now op turn.old turn.new body.old body.new) }
+        ensures full { IfOk result (λ put. put ≡ false → HasNoRoom self.now op turn.old turn.new body.old body.new) }
         ensures errors { IfErr result (λ why. (why ≡ refusal.Behind) ⊎ (why ≡ refusal.OutOfMemory)) }
     {
         let on = self.admission.builds_on(key, &op, &turn.between)?;
@@ -63,7 +71,7 @@ impl NoteText {
         Ok(true)
     }
 
-    // Puts own messages into a body, as many as go there.
+    // Puts own messages into an empty body, as many as go there: one at least, if one is left.
     //
     // Refused `Behind` where one mentions another's character that isn't admitted, and `OutOfMemory`.
     fn write_body(
@@ -73,8 +81,14 @@ impl NoteText {
         turn: &mut Turn,
         body: &mut BodyWriter,
     ) -> Result<(), Refusal>
+        ensures ok { OnOk result ((last : ℕ) (said : List Said) → HaveSaid key.now author self.now last turn.old said
+            → body.old ≡ nothing_said self.now.replica.text
+            → HasPut key.now author self.now last said turn.old turn.new body.new) }
         ensures errors { IfErr result (λ why. (why ≡ refusal.Behind) ⊎ (why ≡ refusal.OutOfMemory)) }
     {
+        self.replica.lemma_is_text();
+        self.replica.lemma_are_taken_once();
+        self.replica.lemma_have_spelling();
         while turn.place < self.replica.taken_len() {
             let op = self.replica.taken(turn.place)?;
             if self.is_own(&op) && !self.write_message(key, author, op, turn, body)? {
@@ -95,6 +109,10 @@ impl NoteText {
         turn: &mut Turn,
     ) -> Result<Option<OwnEntry>, Refusal>
         ensures some { IfOk result (λ entry. IfSome entry (IsOwnEntry author self.now)) }
+        ensures ok { IfOk result (λ entry. (last : ℕ) (said : List Said)
+            → HaveSaid key.now author self.now last turn.old said
+            → MatchOption entry (operations said ≡ own_left self.now)
+            (λ made. IsNextEntry key.now author self.now last said turn.old made turn.new)) }
         ensures errors { IfErr result (λ why. (why ≡ refusal.Behind) ⊎ (why ≡ refusal.OutOfMemory)) }
     {
         let (first, before) = (turn.seq, turn.before);
@@ -123,6 +141,7 @@ impl NoteText {
     // Refused `Behind` where one mentions another's character that isn't admitted, and `OutOfMemory`.
     pub(crate) fn own_entries(&self, key: &NoteKey, author: Hash) -> Result<Vec<OwnEntry>, Refusal>
         ensures heads { IfOk result (λ entries. All (IsOwnEntry author self.now) entries.items) }
+        ensures all { IfOk result (λ entries. SayAllLeft key.now author self.now entries.items) }
         ensures errors { IfErr result (λ why. (why ≡ refusal.Behind) ⊎ (why ≡ refusal.OutOfMemory)) }
     {
         let site = self.replica.site();
@@ -133,10 +152,7 @@ impl NoteText {
             between: Continuing::new(self.alloc),
         };
         let mut entries = Vec::new(self.alloc);
-        for _ in self.alike..self.replica.taken_len() {
-            let Some(entry) = self.own_entry(key, author, &mut turn)? else {
-                return Ok(entries);
-            };
+        while let Some(entry) = self.own_entry(key, author, &mut turn)? {
             entries.push(entry)?;
         }
         Ok(entries)

@@ -1,9 +1,10 @@
 -- The body of an entry of messages that is being written.
-use Rattle.std.specs.Prelude.{◌≡◌, ℕ, ◌+◌, ◌-◌, ◌^◌, ◌<◌, ◌⊎◌, List, [], ◌∷◌, ◌++◌, length, Option, Some, None}
+use Rattle.std.specs.Prelude.{◌≡◌, ℕ, ◌+◌, ◌-◌, ◌^◌, ◌<◌, ◌⊎◌, true, List, [], ◌∷◌, ◌++◌, length, Option, Some, None}
 use Rattle.std.specs.List.{flat_map}
 use Rattle.std.specs.Int.{w16}
 use Rattle.byte_fields.specs.Fields.{number_spelling}
-use Rattle.chunks.specs.Chunks.{Placed, Written, nothing_written, written_on}
+use Rattle.packed.specs.Told.{IsNext}
+use Rattle.chunks.specs.Chunks.{Placed, Written, begun, fits, nothing_written, written_on}
 use Rattle.note_entries.specs.Bytes.{hash_bytes}
 use Rattle.note_bodies.specs.declared.ons.On.{On}
 use Rattle.note_bodies.specs.declared.writing.TheConstants.{MAX_ONS}
@@ -34,6 +35,12 @@ added_on w p on = record {
 -- a message that says this, or nothing, has room beside those that are there, whatever its operation
 abbrev pub HasRoom : Begun → Option ℕ → Type 0
 HasRoom w on = (w.count < 2 ^ 16 - 1) × ((on ≡ None) ⊎ (length w.ons < MAX_ONS))
+
+-- it has room for a message of this operation that says this, and the operation can come next
+pub record CanBeAdded (w : Begun) (p : Placed) (on : Option ℕ) : Type 0 where
+  pub room : HasRoom w on
+  pub next : IsNext (begun w.chunk.told p) p.op
+  pub fits : fits w.chunk p ≡ true
 
 -- an index, and a hash
 abbrev pub on_spelling : On → List ℕ

@@ -4,10 +4,8 @@ ghost use Rattle.std.specs.Prelude.{◌≡◌, ◌++◌, IfOk, OnErr, OnOk, IsTr
 ghost use Rattle.std.specs.List.{flat_map};
 ghost use Rattle.looks.specs.Refusal.{RefusedForMemoryAlone};
 ghost use Rattle.byte_fields.specs.Fields.{Appends};
-ghost use Rattle.chunks.specs.Chunks.{begun};
 ghost use Rattle.chunks.specs.Parts.{placed};
-ghost use Rattle.packed.specs.Told.{IsNext};
-ghost use Rattle.note_bodies.specs.Writing.{HasRoom, body_spelling, added_on, nothing_said, on_spelling};
+ghost use Rattle.note_bodies.specs.Writing.{CanBeAdded, HasRoom, body_spelling, added_on, nothing_said, on_spelling};
 
 use crate::ons::On;
 use byte_fields::put_u16;
@@ -93,7 +91,7 @@ impl BodyWriter {
     /// Refused `OutOfMemory` alone. Then, and where there is no room, all is as before.
     pub fn add(&mut self, op: &Op, len: u32, on: Option<Hash>) -> Result<bool, Refusal>
         ensures added { IfOk result (λ added. added ≡ true → self.new ≡ added_on self.old (placed op.now len) on) }
-        ensures next { IfOk result (λ added. added ≡ true → IsNext (begun self.old.chunk.told (placed op.now len)) op.now) }
+        ensures room { IfOk result (λ added. IsTrue added ↔ CanBeAdded self.old (placed op.now len) on) }
         ensures full { IfOk result (λ added. added ≡ false → self.new ≡ self.old) }
         ensures errors { RefusedForMemoryAlone result }
         ensures err { OnErr result (self.new ≡ self.old) }

@@ -17,15 +17,15 @@ pub struct OwnEntry {
 }
 
 // How far own messages are put into entries.
-struct Turn {
+pub(crate) struct Turn {
     // The place in the replica of the next operation.
-    place: u64,
+    pub(crate) place: u64,
     // The seq of the next message.
-    seq: u32,
+    pub(crate) seq: u32,
     // The hash of the last message.
-    before: Hash,
+    pub(crate) before: Hash,
     // Those that aren't admitted.
-    between: Continuing,
+    pub(crate) between: Continuing,
 }
 
 impl NoteText {
@@ -55,7 +55,7 @@ impl NoteText {
         Ok(true)
     }
 
-    // Puts own messages into a body, as many as go there.
+    // Puts own messages into an empty body, as many as go there: one at least, if one is left.
     //
     // Refused `Behind` where one mentions another's character that isn't admitted, and `OutOfMemory`.
     fn write_body(
@@ -117,10 +117,7 @@ impl NoteText {
             between: Continuing::new(self.alloc),
         };
         let mut entries = Vec::new(self.alloc);
-        for _ in self.alike..self.replica.taken_len() {
-            let Some(entry) = self.own_entry(key, author, &mut turn)? else {
-                return Ok(entries);
-            };
+        while let Some(entry) = self.own_entry(key, author, &mut turn)? {
             entries.push(entry)?;
         }
         Ok(entries)
