@@ -133,7 +133,8 @@ class Carried(Engines):
         second.settle()
         self.assertIn("end", second.text)
         second.close()
-        self.assertEqual(self.printed(), second.text)
+        # What the killed one had sent may be taken in after that.
+        self.assertEqual(self.printed()[:len(second.text)], second.text)
 
     def test_an_editor_that_does_not_read_holds_nobody_up(self) -> None:
         first, second = self.editor(), self.editor()
