@@ -447,25 +447,27 @@ class Accounts(Case):
         self.assertEqual(list(self.folder.iterdir()), [])
 
     def test_no_key_and_no_password_in_arguments(self) -> None:
-        server = Server(self.folder / "redis", "--requirepass", "gooseberry")
+        # These tests run twice at once, for notes of both forms.
+        word = os.urandom(8).hex()
+        server = Server(self.folder / "redis", "--requirepass", word)
         self.addCleanup(server.close)
         person, password = self.person(), self.folder / "password"
-        password.write_text("gooseberry\n")
+        password.write_text(f"{word}\n")
         terminal = Terminal(self, person, "note", "--log", server.url, "--password-file", str(password))
         wait_for(lambda: (terminal.read(), b"Link: " in terminal.shown)[1], "the link to be asked for")
         terminal.press(b"\n")
         wait_for(lambda: (terminal.read(), b"all sent" in terminal.shown)[1], "the editor")
         link = person.link()
-        secrets = [b"gooseberry", link.split(":")[3].split("@")[0].encode()[:20], link_of(link).secret]
+        secrets = [word.encode(), link.split(":")[3].split("@")[0].encode()[:20], link_of(link).secret]
         of_server = server.process.pid
         running = [path for path in pathlib.Path("/proc").glob("[0-9]*/cmdline") if path.parent.name != str(of_server)]
         for path in running:
             with contextlib.suppress(OSError):
                 words = path.read_bytes()
                 self.assertFalse(any(one in words for one in secrets), words)
-        run = self.note("note", "--print", "--log", f"redis://:gooseberry@127.0.0.1:{server.port}")
+        run = self.note("note", "--print", "--log", f"redis://:{word}@127.0.0.1:{server.port}")
         self.assert_says(run, "no user or password in it")
-        self.assertNotIn("gooseberry", run.stderr)
+        self.assertNotIn(word, run.stderr)
 
     def test_control_characters_do_nothing_to_a_terminal(self) -> None:
         note = self.opened(self.person())
