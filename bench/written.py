@@ -11,7 +11,7 @@ from share.format.chunk import packed
 from share.format.entry import Author, BuiltOn, Entry, Form, digest
 from share.format.operation import INSERT, PLAIN_LOOKS, Operation
 from share.format.second.claim import found_among
-from share.format.second.folding import at_once, due, folding
+from share.format.second.folding import run_through, due, folding
 from share.format.second.form import RecordForm
 from share.store.founding import Begun
 from share.text.names import Names
@@ -58,8 +58,8 @@ class Writers:
         judge = RecordJudge(some, form=self.form)
         judge.count()
         for site, author in self.authors.items():
-            while (chain := judge.foldable(site)) and (found := at_once(due(chain.extents()))):
-                fold = at_once(folding(chain, found, self.form, author))
+            while (chain := judge.foldable(site)) and (found := run_through(due(chain.extents()))):
+                fold = run_through(folding(chain, found, self.form, author))
                 assert fold
                 judge.add_fold(Row(0, fold, True))
                 judge.look_for_folded()

@@ -5,7 +5,7 @@ from share.admission.lines import MessageChain
 from share.admission.records import Records
 from share.admission.sayings import Sayings
 from share.format.entry import NO_HASH
-from share.format.second.folding import Extent, Part
+from share.format.second.folding import EntrySpan, ChainPart
 
 
 class FoldableChain:
@@ -20,7 +20,7 @@ class FoldableChain:
         # Where another branch holds, or all is let through anew, the line has another path.
         return self._line.branch is self._path
 
-    def extents(self) -> Iterator[Extent | None]:
+    def extents(self) -> Iterator[EntrySpan | None]:
         """Its entries in their order, after which as many follow as are left as they are; in place of what is folded its folds. None where
         something else was looked at."""
         end = self._front
@@ -32,7 +32,7 @@ class FoldableChain:
             number = self._record_at(place)
             last = place + records.size(number)
             if records.first(number) == place + 1 and self._path.numbers[last - 1] == records.last(number):
-                yield Extent(records.hash(number), records.length(number), place, last)
+                yield EntrySpan(records.hash(number), records.length(number), place, last)
                 place = last
             else:
                 # It goes on in another branch.
@@ -43,10 +43,10 @@ class FoldableChain:
         """The record that has the message at a place, or its fold."""
         return self._records.folds.of(self._records.having(self._path.numbers[place]))
 
-    def part(self, begin: int, end: int) -> Part:
+    def part(self, begin: int, end: int) -> ChainPart:
         """Its messages from one place to another."""
         numbers, sayings = self._path.numbers[begin:end], self._sayings
-        return Part([*self._path.runs(begin, end)], [*map(sayings.hash, numbers)], [*map(sayings.on, numbers)])
+        return ChainPart([*self._path.runs(begin, end)], [*map(sayings.hash, numbers)], [*map(sayings.on, numbers)])
 
     def before(self, place: int) -> tuple[bytes, int]:
         """The hash of the message before a place, and how many characters were inserted by then."""

@@ -7,8 +7,7 @@ from typing import NamedTuple
 
 from share.admission.hashes import HASH_BYTES
 from share.admission.in_fold import InFold
-
-HASH_OF = attrgetter("hash")
+from share.admission.ledger import HASH_OF
 
 
 class OfFold(NamedTuple):

@@ -5,7 +5,8 @@ from contextlib import suppress
 from share.admission.foldable import FoldableChain
 from share.admission.in_fold import InFold
 from share.admission.judging import Judging
-from share.format.second.folding import LEAST_FOLDED, Extent, Steps, due, folding
+from share.admission.ledger import Row
+from share.format.second.folding import LEAST_FOLDED, EntrySpan, Steps, due, folding
 from share.format.second.form import RecordForm
 from share.format.second.record import Record
 from share.program.trace import Traced, trace
@@ -117,7 +118,7 @@ class Folding:
         self._next = len(judge) + LEAST_FOLDED
 
     @staticmethod
-    def _read(some: list[Extent], replicator: Replicator) -> Steps[list[Extent]]:
+    def _read(some: list[EntrySpan], replicator: Replicator) -> Steps[list[EntrySpan]]:
         """Those of the first of some entries that were read in the log, where they are enough to be folded."""
         many = 0
         while many < len(some) and replicator.were_read([one.hash for one in some[many:many + MOST_IN_A_TURN]]):
@@ -130,7 +131,9 @@ class Folding:
         with suppress(Unkept):
             # Where there is no room now it is folded later.
             places = self._file.mended(lambda: self._file.disk.keep([fold], True))
-            self._holdings.add_fold(fold, places)
+            if fold.hash not in self._judge:
+                self._judge.add_fold(Row(0, fold, True))
+            self._holdings.add([fold], places)
             replicator.made(places)
             trace(Traced.FOLDED, messages=fold.size)
             return True

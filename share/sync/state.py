@@ -111,15 +111,6 @@ class Holdings(WhatWasLost):
         for entry in entries:
             if entry.hash not in self.judge:
                 self._add(Row(0, entry, True))
-        self._follow(places)
-
-    def add_fold(self, fold: Entry, places: range) -> None:
-        """Adds a fold that was made here of own entries, and is in the file at these places."""
-        if fold.hash not in self.judge:
-            self.judge.add_fold(Row(0, fold, True))
-        self._follow(places)
-
-    def _follow(self, places: range) -> None:
         if places and places[0] == self._place + 1:
             self._place = places[-1]
 

@@ -11,7 +11,7 @@ from share.admission.ledger import Row
 from share.admission.record_judge import RecordJudge
 from share.format.entry import Author, Bad
 from share.format.operation import DELETE
-from share.format.second.folding import LEAST_FOLDED, LEFT_AFTER, MOST_FOLDED, at_once, due, fold_of, folding
+from share.format.second.folding import LEAST_FOLDED, LEFT_AFTER, MOST_FOLDED, run_through, due, fold_of, folding
 from share.format.second.form import PlainRecords, SealedRecords
 from share.format.second.record import Record, RecordKind
 from share.sync.folding import MOST_IN_A_TURN, Folding
@@ -98,7 +98,7 @@ class OfOneAuthor(unittest.TestCase):
         """The fold that is due."""
         chain = judge.foldable(1, text)
         assert chain
-        return at_once(folding(chain, at_once(due(chain.extents())), self.form, self.ada))
+        return run_through(folding(chain, run_through(due(chain.extents())), self.form, self.ada))
 
     def test_a_fold_has_the_same_hashes_and_what_its_messages_build_on(self) -> None:
         self.writer.type(b"abc")

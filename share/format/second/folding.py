@@ -18,12 +18,12 @@ MOST_FOLDED = MOST_CHUNK
 # The most messages that are written in one step, and how many more each step counts for.
 MOST_IN_A_STEP, OF_EACH_STEP = 16, 2
 
-Found = TypeVar("Found")
+ComesTo = TypeVar("ComesTo")
 # What is done in steps, each of which says at how many entries or messages it looked.
-Steps = Generator[int, None, Found]
+Steps = Generator[int, None, ComesTo]
 
 
-class Extent(NamedTuple):
+class EntrySpan(NamedTuple):
     """An entry of a chain: its hash, the length of what it says, and from which place of the chain to which its messages are."""
 
     hash: bytes
@@ -42,7 +42,7 @@ class Extent(NamedTuple):
         return self.size_said > MOST_FOLDED // 2
 
 
-class Part(NamedTuple):
+class ChainPart(NamedTuple):
     """Messages of a chain that follow one another: operations, their hashes, and what each of them builds on."""
 
     operations: Sequence[Operation]
@@ -53,10 +53,10 @@ class Part(NamedTuple):
 class Foldable(Protocol):
     """A chain, as far as folding asks for it."""
 
-    def extents(self) -> Iterable[Extent | None]:
+    def extents(self) -> Iterable[EntrySpan | None]:
         """Its entries in their order; None where something else was looked at."""
 
-    def part(self, begin: int, end: int) -> Part:
+    def part(self, begin: int, end: int) -> ChainPart:
         """Its messages from one place to another."""
 
     def before(self, place: int) -> tuple[bytes, int]:
@@ -73,7 +73,7 @@ class ToFold:
         # How much of it is whole entries, in bytes and messages.
         self._kept = 0, 0
 
-    def add(self, part: Part) -> bool:
+    def add(self, part: ChainPart) -> bool:
         """Adds what is next; whether there is room for it, and it has these hashes there."""
         many = len(self._hashes)
         ons = {index: on for index, on in enumerate(part.ons) if on}
@@ -100,9 +100,9 @@ class ToFold:
         return self._form.fold(bytes(self._writer.data[:size]), self._first, self._hashes[:many], self._before, self._author, ons)
 
 
-def due(extents: Iterable[Extent | None]) -> Steps[list[Extent]]:
+def due(extents: Iterable[EntrySpan | None]) -> Steps[list[EntrySpan]]:
     """The first entries of a chain that become a fold, or more of them than it has room for; none where none do."""
-    some = list[Extent]()
+    some = list[EntrySpan]()
     for one in extents:
         yield 1
         if one is None:
@@ -119,7 +119,7 @@ def due(extents: Iterable[Extent | None]) -> Steps[list[Extent]]:
     return _worth_folding(some)
 
 
-def _worth_folding(some: list[Extent]) -> list[Extent]:
+def _worth_folding(some: list[EntrySpan]) -> list[EntrySpan]:
     """Those of some entries that become a fold: without the first of them that have as many messages as all after them, so that no message
     is folded more often than the number of folded ones doubles."""
     at, after = 0, some[-1].end - some[0].begin if some else 0
@@ -129,7 +129,7 @@ def _worth_folding(some: list[Extent]) -> list[Extent]:
     return some[at:] if len(some) - at >= LEAST_FOLDED else []
 
 
-def folding(chain: Foldable, some: Sequence[Extent], form: RecordForm, author: Author) -> Steps[Record | None]:
+def folding(chain: Foldable, some: Sequence[EntrySpan], form: RecordForm, author: Author) -> Steps[Record | None]:
     """The fold of the first of some entries that follow one another in an author's chain, as many as it has room for; none where that is
     one."""
     for begin in range(len(some) - 1):
@@ -144,7 +144,7 @@ def folding(chain: Foldable, some: Sequence[Extent], form: RecordForm, author: A
     return None
 
 
-def _written(chain: Foldable, one: Extent, fold: ToFold) -> Steps[bool]:
+def _written(chain: Foldable, one: EntrySpan, fold: ToFold) -> Steps[bool]:
     """Adds an entry to a fold; whether that has room for all of it."""
     for begin in range(one.begin, one.end, MOST_IN_A_STEP):
         end = min(begin + MOST_IN_A_STEP, one.end)
@@ -154,13 +154,13 @@ def _written(chain: Foldable, one: Extent, fold: ToFold) -> Steps[bool]:
     return True
 
 
-def at_once(steps: Steps[Found]) -> Found:
+def run_through(steps: Steps[ComesTo]) -> ComesTo:
     """What steps come to."""
     while True:
         try:
             next(steps)
         except StopIteration as ended:
-            found: Found = ended.value
+            found: ComesTo = ended.value
             return found
 
 
@@ -168,7 +168,7 @@ def fold_of(form: RecordForm, records: Sequence[Record], author: Author, length:
     """Records of one author, number and text, each after the one before it, in one; None where one hasn't room for all of them, or they
     don't follow one another. Before them the chain had inserted so many characters."""
     some = ToFold(form, author, records[0].before, length)
-    if not all(some.add(Part(one.operations, one.hashes, one.ons)) for one in records):
+    if not all(some.add(ChainPart(one.operations, one.hashes, one.ons)) for one in records):
         return None
     some.keep()
     return some.folded()
