@@ -32,6 +32,7 @@ from share.tests.test_relay_page import headers_in
 from share.tests.test_relay_people import AtPage
 from share.tests.test_relay_security import TappedLines, messages_of
 from share.tests.waiting import wait_for
+from share.tests.writers import IS_KEPT_OFFLINE
 
 if TYPE_CHECKING:
     from share.tests.browser import Window
@@ -223,7 +224,7 @@ class Formatted(AtText):
 
     def test_the_text_is_formatted_also_offline_and_loads_nothing(self) -> None:
         window, _ = self.made_text()
-        window.wait_for("navigator.serviceWorker.controller")
+        window.wait_for(IS_KEPT_OFFLINE)
         window.paste("# Picnic\n\n- tea\n- <img src=x onerror=\"document.title='obeyed'\">\n\n"
                      "![a picture](https://example.org/one.png)\n\n")
         window.press("format")
@@ -346,6 +347,7 @@ class Kept(AtText):
 
     def test_typed_offline_closed_and_opened_it_is_sent(self) -> None:
         window, link = self.made_text()
+        window.wait_for(IS_KEPT_OFFLINE)
         window.type("before. ")
         window.state("all sent")
         self.relay.kill()

@@ -31,7 +31,7 @@ async function begin() {
     return source;
   }, leave);
   // Whoever came by a link has left the front page before that kept all. Where it can't be kept the note is shown all the same.
-  if (navigator.serviceWorker) void keepFirst(location.href).catch(() => {});
+  if (navigator.serviceWorker && !navigator.serviceWorker.controller) void keepFirst(location.href).catch(() => {});
   addEventListener("pagehide", () => source?.close());
   // A page that comes back as it was has let the note go.
   addEventListener("pageshow", ({ persisted }) => { if (persisted) location.reload(); });
