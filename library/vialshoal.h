@@ -481,7 +481,9 @@ uint32_t vialshoal_note_own(const vialshoal_note *note, uint16_t text, const via
                             uint8_t *room, size_t length, uint64_t *need);
 
 /* What changed of what a text shows, as vialshoal_changes has it, own edits too. *is_anew says that the text was begun anew since it was
- * asked last, as where a lesser hash takes messages out of the count: then all that was shown gives way to all that is. */
+ * asked last, as where a lesser hash takes messages out of the count: then all that was shown gives way to all that is. Changes that a room
+ * was too short for are handed out before that is said, also where the text was begun anew meanwhile, and then their places aren't those of
+ * the text as it is: so call until `need` is 0, and read the text by them only where no call said *is_anew. */
 uint32_t vialshoal_note_changes(vialshoal_note *note, uint16_t text, bool *is_anew, vialshoal_change *room, size_t length, uint64_t *need);
 
 /* These ask a text what vialshoal_length, _bytes, _looks, _names, _find, _front, _sites and _past ask, and answer as they do;

@@ -16,7 +16,7 @@ class Counts(unittest.TestCase):
         self.assertEqual(DEFINED.findall(source), [("-- one\n-- more\n", "one"), ("", "Two"), ("", "Three"), ("  -- four\n", "four")])
 
     def test_two_crates_define_one_word_where_it_means_the_same(self) -> None:
-        self.assertEqual(list(repeated_words()), ["EditsText", "GoesOn", "HasRoom", "TellsChanges", "text_in", "◌>>=◌"])
+        self.assertEqual(list(repeated_words()), ["◌>>=◌"])
 
     def test_a_stack_has_the_functions_of_crates(self) -> None:
         counted = (

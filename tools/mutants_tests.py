@@ -5,7 +5,8 @@ import tempfile
 import unittest
 from pathlib import Path
 
-from tools.mutants import Malformed, Verdict, counted, cut, verdicts
+from tools import TOP
+from tools.mutants import Malformed, Verdict, bodies_of, counted, cut, verdicts
 
 FIRST = "refused by: the clause of `f`\nfile: src/a.rt\nold: 1\nnew: 2\n"
 SECOND = "file: src/a.rt\nold: 3\nnew: 4\n"
@@ -35,6 +36,11 @@ class Mutants(unittest.TestCase):
         for text in FIRST, f"== f one\n{FIRST}", f"== f--one\n{FIRST}== f--two\n{SECOND}", "== f--one\nfile: src/b.rt\n":
             with self.assertRaises(Malformed):
                 self.bodies(text)
+
+    def test_all_files_of_the_repository_can_be_cut(self) -> None:
+        for folder in TOP.glob("crates/*/mutants"):
+            with self.subTest(folder.parent.name):
+                self.assertTrue(bodies_of(folder.parent.name))
 
     def test_what_a_clause_refuses_is_counted_apart(self) -> None:
         found = verdicts(SAID, ["a"])

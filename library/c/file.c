@@ -226,7 +226,8 @@ static bool are_alike(const fronts *one, const fronts *other) {
 static uint32_t unpack(vialshoal_text *text, const uint8_t *chunks, size_t length) {
     vialshoal_unpacking unpacking;
     for (size_t at = 0; at < length;) {
-        size_t one = length - at < CHUNK ? SIZE_MAX : chunks[at] + 256u * chunks[at + 1];
+        if (length - at < CHUNK) return VIALSHOAL_BAD_FILE;
+        size_t one = chunks[at] + 256u * chunks[at + 1];
         if (one > length - at - CHUNK) return VIALSHOAL_BAD_FILE;
         uint32_t number = vialshoal_unpack(text, chunks + at + CHUNK, one, &unpacking);
         if (number != 0) return number;

@@ -329,9 +329,10 @@ export class Note {
     /** Has the texts show what counts of all that came. Own edits that `say` didn't answer are taken back. */
     update(): void;
     /** Entries, by an author who holds the site's number, that say all own edits which weren't said. They count here from now on: seal, sign,
-     * keep and send them. */
+     * keep and send them. Where memory is refused, the next call answers them. */
     say(author: Uint8Array): Entry[];
-    /** One of its texts, 1 to 16. Changes are told once, so one asks for each text once. */
+    /** One of its texts, 1 to 16. Changes are told once, to the first that asks for them, as whatever counts UTF-16 units does: it is a
+     * TypeError where another one does, too. */
     text(number?: number, options?: Options): NoteText;
 }
 

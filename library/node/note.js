@@ -22,6 +22,13 @@ function headOf(head) {
         site: given.site(site), text: given.number(text, 0, MOST) };
 }
 
+// Whether two own entries are one.
+function isSame({ head, body }, { head: other, body: its }) {
+    const { author, before, first, count, text } = head;
+    return text === other.text && first === other.first && count === other.count && author.equals(other.author) &&
+        before.equals(other.before) && body.equals(its);
+}
+
 // Chunks as one row of bytes, each behind its length.
 function rowOf(chunks) {
     return Buffer.concat([...chunks].flatMap((chunk) => {
@@ -53,10 +60,22 @@ function callsFor(number) {
     };
 }
 
+// Has the changes of a text be told to one who asks, and to no other, since each would miss what the other one was told: what is answered is
+// called before they are asked for.
+function hearing(heard, number) {
+    let hears = false;
+    return () => {
+        if (!hears && heard.has(number)) throw new TypeError(`another NoteText is told the changes of text ${number}: use that one`);
+        hears = true;
+        heard.add(number);
+    };
+}
+
 // The changes of a text's bytes since this was called last: where it was begun anew, all that was told gives way to all that is.
-function changesOf(handle, number) {
+function changesOf(handle, number, hear) {
     let told = 0;
     return () => {
+        hear();
         const changes = [];
         let isAnew = false;
         for (let numbers = [0, 0, 0]; numbers.length > 2;) {
@@ -73,7 +92,7 @@ function changesOf(handle, number) {
     };
 }
 
-let handleOf;
+let handleOf, heardOf;
 
 // A text of a note: what counts, and own edits, which are shown at once and are to be said.
 export class NoteText extends Shown {
@@ -83,12 +102,14 @@ export class NoteText extends Shown {
 
     constructor(note, number, { units = 'bytes' } = {}) {
         if (units !== 'bytes' && units !== 'utf-16') throw new TypeError(`units are bytes or utf-16, not ${units}`);
-        const handle = handleOf(given.instance(note, Note)), changes = changesOf(handle, given.number(number, 1, TEXTS));
+        const handle = handleOf(given.instance(note, Note)), hear = hearing(heardOf(note), given.number(number, 1, TEXTS));
+        const changes = changesOf(handle, number, hear);
         super(handle, units, changes, callsFor(number), true);
         this.#note = note;
         this.#number = number;
         this.#changes = changes;
         done(calls.noteLength(handle, number));
+        if (units !== 'bytes') hear();
     }
 
     get number() {
@@ -152,6 +173,10 @@ export class NoteText extends Shown {
 export class Note {
     #handle;
     #site;
+    // Entries of own edits that `say` hasn't answered: where memory was refused they may count already, and are to be said yet.
+    #made = [];
+    // Of which texts a `NoteText` is told the changes.
+    #heard = new Set();
 
     constructor(site, { key, founder, number = 0, base = [], baseKey = ZEROS, root = ZEROS }) {
         if (site === 0) throw failure(NO_NUMBER);
@@ -163,6 +188,7 @@ export class Note {
 
     static {
         handleOf = (note) => note.#handle;
+        heardOf = (/** @type {Note} */ note) => note.#heard;
     }
 
     get site() {
@@ -190,16 +216,17 @@ export class Note {
 
     // Has the texts show what counts of all that came.
     update() {
+        this.#made.forEach((entry) => this.add(entry));
         done(calls.noteUpdate(this.#handle));
     }
 
-    // Entries that say all own edits which weren't said; they count here from now on.
+    // Entries that say all own edits which weren't said; they count here from now on. Where memory is refused, the next call answers them.
     say(author) {
         hash(author);
-        const entries = Array.from({ length: TEXTS }, (_, at) => this.#own(at + 1, author)).flat();
-        entries.forEach((entry) => this.add(entry));
-        if (entries.length > 0) this.update();
-        return entries;
+        const own = Array.from({ length: TEXTS }, (_, at) => this.#own(at + 1, author)).flat();
+        this.#made.push(...own.filter((entry) => !this.#made.some((made) => isSame(made, entry))));
+        if (this.#made.length > 0) this.update();
+        return this.#made.splice(0);
     }
 
     #own(text, author) {

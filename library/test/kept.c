@@ -34,6 +34,14 @@ void *vialshoal_heap_malloc(size_t size) { return is_refused() ? NULL : malloc(s
 void *vialshoal_heap_realloc(void *block, size_t size) { return is_refused() ? NULL : realloc(block, size); }
 void vialshoal_heap_free(void *block) { free(block); }
 
+/* -- what files have the library unpack, where the linker is told of it (--wrap): no more than a file has -- */
+
+uint32_t __real_vialshoal_unpack(vialshoal_text *, const uint8_t *, size_t, vialshoal_unpacking *) __attribute__((weak));
+uint32_t __wrap_vialshoal_unpack(vialshoal_text *text, const uint8_t *chunk, size_t length, vialshoal_unpacking *unpacking) {
+    IS(length < MOST);
+    return __real_vialshoal_unpack(text, chunk, length, unpacking);
+}
+
 /* -- files -- */
 
 static uint8_t *bytes_of(const char *path, size_t *length) {
@@ -187,6 +195,42 @@ static void is_cut_off(void) {
     IS(unlink(note) == 0);
 }
 
+static uint32_t sum_of(const uint8_t *at, size_t length) {
+    uint32_t sum = ~0u;
+    for (size_t i = 0; i < 8 * length; i++) sum = sum >> 1 ^ (0xedb88320u & -((sum ^ at[i / 8] >> i % 8) & 1));
+    return ~sum;
+}
+
+static void put_word(uint8_t *at, uint32_t word) {
+    for (int i = 0; i < 4; i++) at[i] = (uint8_t)(word >> (24 - 8 * i));
+}
+
+/* Rows of chunks that end within one are told, where all sums are right: in the history, and in an entry. */
+static void ends_within_a_chunk(void) {
+    static const uint8_t rows[][3] = {{'x'}, {0, 1}, {5, 0, 'x'}};
+    for (size_t row = 0; row < 3; row++) {
+        for (int is_entry = 0; is_entry < 2; is_entry++) {
+            size_t length = row + 1, history = is_entry ? 0 : length, at = HEAD + (is_entry ? 8 : 0);
+            uint8_t *file = malloc(at + length), entry[11] = {0, 1, 0, 1};
+            IS(file != NULL);
+            memcpy(file, "OTJ1\0\1\0\1", 8);
+            memcpy(file + at, rows[row], length);
+            put_word(file + 8, (uint32_t)history);
+            put_word(file + 12, sum_of(file + HEAD, history));
+            put_word(file + 16, sum_of(file, 16));
+            put_word(entry + 4, (uint32_t)length);
+            memcpy(entry + 8, rows[row], length);
+            if (is_entry) {
+                put_word(file + HEAD, (uint32_t)length);
+                put_word(file + HEAD + 4, sum_of(entry, 8 + length));
+            }
+            put(other, file, at + length);
+            free(file);
+            IS(answer_of(other, 0, 0) == VIALSHOAL_BAD_FILE);
+        }
+    }
+}
+
 /* A full disk is told, and loses nothing. */
 static void is_full(void) {
     struct rlimit limit, old;
@@ -337,6 +381,7 @@ int main(int count, char **words) {
     goes_on();
     is_forked();
     is_cut_off();
+    ends_within_a_chunk();
     is_full();
     is_copied();
     is_packed();

@@ -101,7 +101,7 @@ class Log(ABC):
         included."""
 
     def end(self) -> tuple[str, int]:
-        """The place of the last entry, and how many there are."""
+        """The place of the last entry, and how many there are, none that was taken out among them."""
         after, many = START, 0
         while page := self.read(after):
             after, many = page[-1].place, many + len(page)

@@ -289,7 +289,8 @@ class RedisLog(Log):
         return self._stream.claimed(kind, at)
 
     def end(self) -> tuple[str, int]:
-        return self._stream.end()[:2]
+        place, size, self.taken_out = self._stream.end()
+        return place, size - self.taken_out
 
     def bytes_kept(self) -> int:
         return sum(size for key in (self._entries, self._places) if isinstance(size := self._wire.ask("MEMORY", "USAGE", key), int))

@@ -127,8 +127,10 @@ class SqliteLog(Log):
 
     def end(self) -> tuple[str, int]:
         with self._at_file():
-            found, taken_out = self._file.execute(LAST).fetchone(), self._many_taken_out()
-        return (f"{found[0]}.{found[1]}", found[2] + taken_out) if found else (START, taken_out)
+            # (first, so that what is taken out meanwhile is seen later)
+            self._many_taken_out()
+            found = self._file.execute(LAST).fetchone()
+        return (f"{found[0]}.{found[1]}", found[2]) if found else (START, 0)
 
     def bytes_kept(self) -> int:
         with self._at_file():

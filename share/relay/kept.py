@@ -45,8 +45,8 @@ class KeptNote:
     def __init__(self, shelf: Shelf, note: bytes, most_bytes: int):
         self._shelf, self._note, self._most_bytes = shelf, note, most_bytes
         self._log: Log | None = None
-        # Where the log ended as it was looked at last, and how many entries it had.
-        self._end, self._size = START, 0
+        # Where the log ended as it was looked at last, and how many entries it had; and how many were taken out before it was opened.
+        self._end, self._size, self._taken_out = START, 0, 0
 
     def is_there(self) -> bool:
         """Whether something of the note is kept."""
@@ -74,6 +74,7 @@ class KeptNote:
         log.most_read = most
         try:
             page = log.read(after) if after != self._end else []
+            self._check(log)
         except LogLost as why:
             # The log itself was just seen to stand.
             raise NoSuchPlace from why
@@ -99,9 +100,15 @@ class KeptNote:
         with contextlib.ExitStack() as failing:
             log = failing.enter_context(contextlib.closing(self._shelf.open(self._note)))
             self._end, self._size = log.end()
+            self._taken_out = log.taken_out
             failing.pop_all()
         self._log = log
         return log
+
+    def _check(self, log: Log) -> None:
+        """Sees that nothing was taken out since: else those who read to the end counted more entries than those who begin."""
+        if log.taken_out != self._taken_out:
+            raise LogLost("Entries were taken out of a log that the relay had open: all read it from the front.")
 
     def _news(self, log: Log) -> News:
         before, found, room = self._end, list[InLog](), MOST_NEWS
@@ -110,4 +117,5 @@ class KeptNote:
             self._end, self._size = page[-1].place, self._size + len(page)
             room -= sum(len(one.raw or b"") for one in page)
             found = [*found, *page] if room > 0 else []
+        self._check(log)
         return News(before, found, self._end, self._size)

@@ -19,6 +19,8 @@ HASH_DIGITS = 32
 # Where the page says which relay is its own, where that isn't the server that it comes from; and which page shows texts, if one does.
 OWN_RELAY = b'<meta name="relay" content="">'
 TEXT_PAGE = b'<meta name="text" content="./note.html">'
+# Lines that are comments, of which a browser needs none. No text of these programs goes over lines.
+COMMENTS = re.compile(rb"^[ \t]*(?://[^\n]*|/\*(?:[^*]|\*(?!/))*\*/[ \t]*)\n", re.MULTILINE)
 # What a page has of another one, whose elements are its own.
 BODY_OF = re.compile(rb"<!-- the body of (\S+) -->")
 BODY = re.compile(rb"<body>\n(.*)</body>", re.DOTALL)
@@ -100,6 +102,8 @@ class PageFiles:
         data = _file_bytes(path)
         if path.suffix == ".wasm" or path in EDITOR_FILES.values():
             return data
+        if path.suffix == ".js":
+            data = COMMENTS.sub(b"", data)
         data = BODY_OF.sub(lambda found: _body_of(path.parent / found[1].decode()), data)
         data = data.replace(OWN_RELAY, OWN_RELAY.replace(b'""', f'"{self._relay}"'.encode()))
         if not self.shows_texts:

@@ -42,10 +42,11 @@ MODULES = ["test_storm", "test_spots", "test_all_editors", "test_page", "test_re
            "test_rebasing", "test_record_judge", "test_second_notes", "test_not_begun", "test_turns", "test_said_by_others", "test_margin",
            "test_review", "test_reviews", "test_critic", "test_review_scripts", "test_review_terminal", "test_relay", "test_relay_logs",
            "test_relay_notes", "test_relay_security", "test_relay_page", "test_site_modules", "test_relay_front", "test_relay_firefox",
-           "test_relay_offline", "test_relay_people", "test_note_definitions", "test_folding",
-           "test_folded_notes"]
+           "test_relay_offline", "test_relay_certificate", "test_relay_people", "test_note_definitions", "test_folding",
+           "test_folded_notes", "test_site_margin"]
 # These need the core as WebAssembly, which bin/library --wasm makes where Rust can. Where it isn't here they aren't run, which is said.
-OVER_THE_CORE = ["test_relay_text", "test_relay_text_firefox", "test_site_texts"]
+OVER_THE_CORE = ["test_all_at_relay", "test_relay_text", "test_relay_text_firefox", "test_site_texts", "test_site_feed",
+                 "test_site_lost", "test_relay_review", "test_relay_left_out", "test_relay_ends", "test_site_reviews"]
 # These run over notes of the second form, too, which has rules of its own for what they are about: numbers, copies, losses, what is
 # sent, who is on, and attacks. Any module does as "test_one:2".
 OVER_BOTH = frozenset(("test_all_editors", "test_carried", "test_changed", "test_copied_numbers", "test_copies", "test_left_out",

@@ -49,6 +49,11 @@ class Firefox:
         await self._open_tab()
         await self.ask("browsingContext.close", context=closed)
 
+    async def cut_off(self, is_offline: bool) -> None:
+        """Has the tab reach nobody, or all."""
+        conditions = {"type": "offline"} if is_offline else None
+        await self.ask("emulation.setNetworkConditions", contexts=[self._tab], networkConditions=conditions)
+
     async def ask(self, method: str, **words: object) -> Any:
         """What a command answers."""
         number = next(self._numbers)
@@ -133,6 +138,10 @@ class FirefoxHere:
     def open_another(self) -> None:
         """Closes its tab, and opens another one."""
         self._ended(self._tab.open_another())
+
+    def cut_off(self, is_offline: bool) -> None:
+        """Has its tab reach nobody, or all."""
+        self._ended(self._tab.cut_off(is_offline))
 
     def run(self, script: str, *words: object) -> Any:
         """What an expression of the page's gives, in which `words`, or `arguments`, are these."""

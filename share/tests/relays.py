@@ -2,11 +2,13 @@
 import asyncio
 import os
 import pathlib
+import shutil
 import signal
 import subprocess
+import sys
 import threading
 import unittest
-from collections.abc import AsyncIterator
+from collections.abc import AsyncIterator, Sequence
 from contextlib import asynccontextmanager
 from functools import lru_cache
 from unittest import mock
@@ -19,13 +21,21 @@ from share.log.relay_messages import SOCKET_PATH, SUBPROTOCOL, MessageKind, Proo
 from share.relay.door import Door
 from share.relay.limits import Limits
 from share.relay.options import RelayOptions
-from share.relay.page_files import CORE_VARIABLE
+from share.relay.page_files import CORE_VARIABLE, PAGE_FOLDER
 from share.relay.server import RelayServer, serve_relay
 from share.relay.shelf import shelf_at
 from share.tests.servers import RedisServer, held_port, port_of
-from share.tests.support import NOTE
+from share.tests.support import NOTE, TOP
 from share.tests.waiting import PATIENCE
 
+# What bin/note does, whose page is that of a folder which its first word names.
+WITH_PAGE = f"""import pathlib, sys
+sys.path.insert(0, {str(TOP)!r})
+from share.relay import page_files, server
+page = pathlib.Path(sys.argv.pop(1))
+server.PageFiles = lambda: page_files.PageFiles(page)
+from share.cli.main import main
+sys.exit(main())"""
 # Keys of notes, with which their logs are opened.
 KEY, OTHER_KEY = bytes(range(32)), bytes(32)
 
@@ -50,6 +60,17 @@ def with_core(test: unittest.TestCase, core: str = "") -> None:
     here = mock.patch.dict(os.environ, {CORE_VARIABLE: core})
     here.start()
     test.addCleanup(here.stop)
+
+
+def page_of_free_claims(folder: pathlib.Path) -> str:
+    """Where the files are of a page for which a claim costs nothing, below a folder."""
+    page = folder / "share" / "relay" / "site"
+    shutil.copytree(PAGE_FOLDER, page)
+    rank = page / "rank.js"
+    rank.write_text(rank.read_text().replace("[65_528, 20]", "[65_528, 0]"))
+    for beside in "share/editors", "library":
+        (folder / beside).symlink_to(TOP / beside)
+    return str(page)
 
 
 class RelayHere:
@@ -96,10 +117,11 @@ class RelayHere:
 
 
 class RelayProcess:
-    """A relay by the real command, which is killed and begins again."""
+    """A relay by the real command, or with another page, which is killed and begins again."""
 
-    def __init__(self, folder: pathlib.Path, *words: str, url: str = "", **environment: str):
+    def __init__(self, folder: pathlib.Path, *words: str, url: str = "", page: str = "", **environment: str):
         self.folder, self._words, self._environment = folder, words, environment
+        self._command: Sequence[str] = [sys.executable, "-B", "-c", WITH_PAGE, page] if page else [NOTE]
         self._held = held_port()
         self.port = port_of(self._held)
         self.url = url.replace("PORT", str(self.port)) or f"http://127.0.0.1:{self.port}"
@@ -109,7 +131,7 @@ class RelayProcess:
         """Starts it."""
         own = ["--url", self.url] if self.url.startswith("https") else []
         words = ["relay", "--listen", f"127.0.0.1:{self.port}", "--log", str(self.folder), *own, *self._words]
-        self.process = subprocess.Popen([NOTE, *words], env={**os.environ, **self._environment}, stdin=subprocess.DEVNULL,
+        self.process = subprocess.Popen([*self._command, *words], env={**os.environ, **self._environment}, stdin=subprocess.DEVNULL,
                                         stdout=subprocess.PIPE, stderr=subprocess.PIPE, text=True)
         assert self.process.stdout and can_read(self.process.stdout, PATIENCE), "the relay says nothing"
         self.said = self.process.stdout.readline()

@@ -64,7 +64,7 @@ class Person {
 
   /** What was typed becomes entries, and what came is shown. */
   meets(other) {
-    const said = this.value.say(TEXT, this.author);
+    const said = this.value.say([TEXT], this.author);
     this.came.push(...said);
     other.comes.push(...said);
     while (this.comes.length && chance(4)) this.takes(chance(this.comes.length));
@@ -119,6 +119,55 @@ class Person {
   }
 }
 
+// What is said is handed out where memory is refused as it is to be shown, before it counts or after.
+for (const isDone of [false, true]) {
+  const [one, other] = [new Person(1), new Person(2)];
+  one.text.edit([0, 0, "Oberon"]);
+  core.call = (name, ...given) => {
+    const isRefused = name === "note_update", answer = isRefused && !isDone ? 7 : Core.prototype.call.call(core, name, ...given);
+    return isRefused ? 7 : answer;
+  };
+  other.comes.push(...one.value.say([TEXT], one.author));
+  delete core.call;
+  one.value.update();
+  while (other.comes.length) other.meets(one);
+  if (other.shown !== "Oberon" || one.text.slice() !== "Oberon") throw new Error(`${one.text.slice()} became ${other.shown}`);
+}
+
+/** Counts calls of a method of the core's, those that begin so. */
+function counting(method, ...words) {
+  const [called, found] = [core[method], { many: 0, ends: () => { core[method] = called; } }];
+  core[method] = function (...given) {
+    found.many += Number(words.every((word, at) => word === given[at]));
+    return called.apply(this, given);
+  };
+  return found;
+}
+
+/** Who writes, or reads, a plain text asks for no looks; a long text that is shown first is read as a whole. */
+function takesLittle() {
+  const [ann, bob] = [new Person(1), new Person(2)];
+  const asked = counting("call", "note_looks");
+  const hears = () => {
+    for (const one of ann.value.say([TEXT], ann.author)) bob.value.add(one);
+    bob.value.update();
+  };
+  for (let at = 0; at < 3_000; at += 1) ann.text.edit([0, 0, `${at} `]);
+  hears();
+  const read = counting("wide");
+  bob.text = new SharedText(bob.value);
+  if (read.many > 20) throw new Error(`${read.many} numbers were read of a text that is shown first`);
+  read.ends();
+  if (!bob.text.length || bob.text.slice() !== ann.text.slice()) throw new Error("the text isn't all there");
+  for (const { text } of [ann, bob]) if (text.dressed(9).length) throw new Error("a plain text has looks");
+  if (asked.many) throw new Error("looks were asked for of a plain text");
+  asked.ends();
+  ann.text.look([[1, 2]], { bold: true });
+  hears();
+  for (const { text } of [ann, bob]) if (text.dressed(9).length !== 1) throw new Error("looks aren't told");
+}
+
+takesLittle();
 const people = [new Person(1), new Person(2)];
 // The second one has text of the other's before an own one, as who joins has.
 while (!people[0].shown) people[0].types();

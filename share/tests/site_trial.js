@@ -3,13 +3,21 @@ import * as bytes from './bytes.js';
 import { operationsOf } from './chunk.js';
 import * as entry from './entry.js';
 import { Facts } from './facts.js';
+import { Feed } from './feed.js';
+import { Followed } from './followed.js';
 import { History, messagesOf } from './history.js';
 import * as keys from './keys.js';
 import * as link from './link.js';
+import { Marginal } from './marginal.js';
 import * as message from './message.js';
+import { Own } from './own.js';
+import { passagesOf } from './passages.js';
 import * as presence from './presence.js';
 import { numberOfRank, rankOf, searched } from './rank.js';
+import { idOf, readLine, sumOf } from './record.js';
 import { RelayLine } from './relay.js';
+import { Store } from './store.js';
+import { linesOf } from './written.js';
 
 const { hex } = bytes;
 
@@ -57,6 +65,37 @@ const does = {
   async isSigned({ data, signature, name }) {
     return keys.isSigned(ofHex(data), ofHex(signature), ofHex(name));
   },
+  async imported({ data, signed }) {
+    const { importKey } = crypto.subtle;
+    let many = 0;
+    crypto.subtle.importKey = function (...given) {
+      many += 1;
+      return importKey.apply(this, given);
+    };
+    try {
+      const are = await Promise.all(signed.map(({ signature, name }) => keys.isSigned(ofHex(data), ofHex(signature), ofHex(name))));
+      return { are, many };
+    } finally {
+      crypto.subtle.importKey = importKey;
+    }
+  },
+  async kept({ calls }) {
+    const store = await Store.open(() => {});
+    const { getKey } = IDBIndex.prototype;
+    let [open, atOnce] = [0, 0];
+    IDBIndex.prototype.getKey = function (...given) {
+      const request = getKey.apply(this, given);
+      [open, atOnce] = [open + 1, Math.max(atOnce, open + 1)];
+      request.addEventListener('success', () => { open -= 1; });
+      return request;
+    };
+    await store.add(/** @type {any} */ ({ id: 'one' }));
+    const many = [];
+    for (const call of calls) many.push(await store.keep('one', call.map(([hash, isSent]) => ({ hash, raw: bytes.join(hash), isSent }))));
+    IDBIndex.prototype.getKey = getKey;
+    const { entries } = await store.entries('one');
+    return { many, atOnce, entries: entries.map(({ hash, isSent }) => [hash, isSent]) };
+  },
   async opened({ key, raws, bits }) {
     const note = await keys.NoteKeys.of(ofHex(key));
     return Promise.all(raws.map((raw) => orWhy(() => entry.opened(note, ofHex(raw), bits))));
@@ -73,8 +112,28 @@ const does = {
   async facts({ key, raws }) {
     const facts = new Facts(await keys.NoteKeys.of(ofHex(key)));
     for (const raw of raws) await facts.add(ofHex(raw));
+    await facts.base.look();
     const { entries, founder, isCopy, renewedBy } = facts;
     return { entries, founder, isCopy, renewedBy, numbers: facts.numbers() };
+  },
+  async handed({ key, raws, refused }) {
+    const entries = raws.map((raw) => ({ raw: ofHex(raw) }));
+    const store = { entriesAfter: async () => ({ entries, last: raws.length }) };
+    const feed = new Feed(/** @type {any} */ (null), /** @type {any} */ (store), await keys.NoteKeys.of(ofHex(key)), '', 0);
+    const [handed, said] = [[], []];
+    feed.value = /** @type {any} */ ({
+      claim() {},
+      add({ author, first }) {
+        handed.push([author, first]);
+        if (handed.length === refused) throw new bytes.Trouble('There is no memory.');
+        return true;
+      },
+    });
+    feed.sayings = /** @type {any} */ ({ claim() {}, anew() {}, add: ({ author, first }) => { said.push([author, first]); } });
+    await feed.next(() => {});
+    const why = await orWhy(async () => feed.hand());
+    feed.hand();
+    return { why, handed, said };
   },
   async history({ chunks, counting }) {
     const history = new History(new Map(counting));
@@ -83,6 +142,46 @@ const does = {
   },
   async messages({ body, ...head }) {
     return messagesOf(/** @type {any} */ ({ kind: entry.KIND.messages, body: ofHex(body), ...head })).length;
+  },
+  async passages({ chunk, hides }) {
+    return passagesOf(operationsOf(ofHex(chunk)), hides);
+  },
+  async own({ key, numbers, said }) {
+    return keptOf(await keys.NoteKeys.of(ofHex(key)), numbers, said);
+  },
+  async keptAsItCloses({ key }) {
+    const [note, heard, soon] = [await keys.NoteKeys.of(ofHex(key)), [], () => new Promise((done) => { setTimeout(done, 50); })];
+    // Another tab has the line.
+    Object.defineProperty(globalThis, 'navigator', { value: { locks: { request: () => new Promise(() => {}) } }, configurable: true });
+    const other = new BroadcastChannel(`vialshoal ${hex(note.identity)}`);
+    other.onmessage = ({ data }) => heard.push(data);
+    const store = { you: async () => ({ name: '', colour: '#000000' }), note: async () => ({}) };
+    const followed = new Followed(/** @type {any} */ (store), note, '', () => {}, () => {});
+    let ends = () => {};
+    followed.close(new Promise((done) => { ends = done; }));
+    await soon();
+    followed.kept();
+    ends();
+    await soon();
+    // Nobody hears this any more.
+    followed.kept();
+    await soon();
+    other.close();
+    return heard.filter((what) => what === 'kept').length;
+  },
+  async records({ lines }) {
+    return Promise.all(lines.map(async (line) => readLine(ofHex(line), await sumOf(ofHex(line)))));
+  },
+  async written({ record, site, at }) {
+    return orWhy(() => linesOf(record, site, at));
+  },
+  async margin({ inserted }) {
+    const margin = new Marginal();
+    for (const { site, at, stamp, data } of inserted) {
+      const record = readLine(ofHex(data), await sumOf(ofHex(data)));
+      if (record) margin.add({ id: idOf(site, at), site, stamp, record });
+    }
+    return margin.threads().map((id) => margin.thread(id));
   },
   async presence({ key, data }) {
     const note = await keys.NoteKeys.of(ofHex(key));
@@ -139,6 +238,60 @@ const does = {
     return atRelay(await keys.NoteKeys.of(ofHex(key)), url, appended.map(ofHex), heard);
   },
 };
+
+/** Which entries are kept of what is said under numbers, each of which is left while the disk is slow; how many numbers nobody else can have
+ * until then, and after that; and why nothing is said then.
+ * @param {keys.NoteKeys} note @param {any[]} numbers @param {any[][]} said */
+async function keptOf(note, numbers, said) {
+  const locked = locks();
+  const held = { author: null, numbers: numbers.map(({ secret, counter, ...one }) => ({ ...one, secret: ofHex(secret), counter: BigInt(counter) })) };
+  const raws = [];
+  let goesOn = () => {};
+  const slow = new Promise((done) => { goesOn = done; });
+  const store = {
+    note: async () => held,
+    async keep(_, entries, changes) {
+      await slow;
+      raws.push(...entries.map(({ raw }) => raw));
+      Object.assign(held, changes(held));
+    },
+  };
+  const own = new Own(/** @type {any} */ (store), note, 'note', { kept() {}, failed() {} });
+  const says = (places) => places.forEach(({ before, body, ...place }) => (
+    own.say({ ...place, before: ofHex(before), body: ofHex(body), author: new Uint8Array(32) }, 1)));
+  for (const places of said) {
+    await own.take(new Set());
+    says(places);
+    own.leave();
+  }
+  own.close();
+  const soon = () => new Promise((done) => { setTimeout(done); });
+  await soon();
+  const until = locked.size;
+  goesOn();
+  await own.settled();
+  await soon();
+  let why = '';
+  try {
+    says(said[0]);
+  } catch (wrong) {
+    why = wrong.message;
+  }
+  return { raws, why, claimed: held.numbers.filter(({ isClaimed }) => isClaimed).length, locked: [until, locked.size] };
+}
+
+/** Has nobody else hold a lock, and nothing but these: a Node of before has none. */
+function locks() {
+  const held = new Set();
+  const request = async (name, _, work) => {
+    if (held.has(name)) return work(null);
+    held.add(name);
+    await work({ name });
+    return held.delete(name);
+  };
+  Object.defineProperty(globalThis, 'navigator', { value: { locks: { request } }, configurable: true });
+  return held;
+}
 
 /** What comes of a line: how often it was up, and what was read after entries were appended, over a break of the connection.
  * @param {keys.NoteKeys} note @param {string} url @param {Uint8Array[]} raws @param {(what: string) => void} heard */

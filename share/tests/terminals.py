@@ -31,7 +31,10 @@ class Terminal:
         subprocess.run(["tmux", "-S", self.socket, "-f", "/dev/null", "new-session", "-d", "-x", str(WIDTH),
                         "-y", str(HEIGHT), line], check=True, env=environment)
         case.addCleanup(self.close)
-        wait_for(lambda: any(words in "\n".join(self.lines()) for words in (begins, "Link:")), begins)
+        try:
+            wait_for(lambda: any(words in "\n".join(self.lines()) for words in (begins, "Link:")), begins)
+        except AssertionError as why:
+            raise AssertionError(f"{why}: {self.lines()}") from why
         if "Link:" in "\n".join(self.lines()):
             # A note that isn't here yet is made.
             self.press("Enter")

@@ -20,6 +20,7 @@ from dataclasses import dataclass
 from functools import partial
 
 from share.tests.forms import is_second_form
+from share.tests.relays import RelayProcess
 from share.tests.said import STATES, Said, Sayings, Told, alike, as_plain, plainly
 from share.tests.servers import FileLog, RedisServer
 from share.tests.support import NOTE, Case, wait_for, written
@@ -33,7 +34,7 @@ ROUND = (5, 25) if SECONDS else (3, 4)
 EDITORS: list[type[Writer]] = [OwnEditor, Emacs, Neovim, PageInChromium]
 # Of so many things that each does one is said of the text.
 ONE_SAID_OF = 3 if SECONDS else 5
-WORD = re.compile(r"[tenp]\d{4}[abc]*\.|begin\.")
+WORD = re.compile(r"[tenpqf]\d{4}[abc]*\.|begin\.")
 
 
 @dataclass
@@ -76,8 +77,7 @@ class Author:
         # What can be taken back, the last edit last.
         self.steps: list[Step] = []
         self._typed = self._acts = 0
-        self.did = dict.fromkeys(
-            ("typed", "deleted", "rewritten", "in blocks", "taken back", "killed", "said", "accepted", "by scripts"), 0)
+        self.did = Counter[str]()
 
     def write(self, many: int, done: "Done") -> None:
         """Does some things, one after the other."""
@@ -342,41 +342,51 @@ class AllEditors(Case):
     def setUp(self) -> None:
         super().setUp()
         self.chance = random.Random(SEED)
-        self.log: RedisServer | FileLog = self.redis() if SEED % 3 else FileLog(self.folder)
+        self.log = self.log_of_all()
         link = begun(self, self.log.url, "begin.\n")
         self.words: list[Word] = []
         # The words that were being typed as something was killed: parts of them may be there.
         self.broken: set[str] = set()
-        deciding = threading.Lock()
-        people = ["ada", "ada", "bo", "bo"]
-        self.chance.shuffle(people)
+        self.deciding = threading.Lock()
 
         def opened(kind: type[Writer], person: str) -> Writer:
             return kind(self, person, link)
 
         with ThreadPoolExecutor() as threads:
-            writers = [*threads.map(opened, EDITORS, people)]
+            writers = [*threads.map(opened, *zip(*self.people()))]
         self.told = {person: Told(self.folder / person) for person in ("ada", "bo")}
         for told in self.told.values():
             self.addCleanup(told.close)
         self.sayings = Sayings() if is_second_form() else None
-        self.authors = [Author(writer, self.words, deciding, random.Random(self.chance.random()), self.sayings, self.told[writer.person])
-                        for writer in writers]
+        self.authors = [self.author(writer) for writer in writers]
+
+    def log_of_all(self) -> RedisServer | FileLog | RelayProcess:
+        """The log by which all have the note."""
+        return self.redis() if SEED % 3 else FileLog(self.folder)
+
+    def people(self) -> list[tuple[type[Writer], str]]:
+        """Which editors there are, and whose each is."""
+        people = ["ada", "ada", "bo", "bo"]
+        self.chance.shuffle(people)
+        return [*zip(EDITORS, people)]
+
+    def author(self, writer: Writer) -> Author:
+        """Who writes in an editor."""
+        return Author(writer, self.words, self.deciding, random.Random(self.chance.random()), self.sayings, self.told[writer.person])
 
     def test_what_nobody_deleted_stands_once(self) -> None:
-        began, rounds = time.monotonic(), 0
-        kinds: list[object] = []
-        while rounds <= len(EDITORS) or time.monotonic() < began + SECONDS:
+        began, rounds, turns = time.monotonic(), 0, self.turns()
+        kinds: list[Author | None] = []
+        while rounds < len(turns) or time.monotonic() < began + SECONDS:
             if not kinds:
-                kinds = [*self.authors, None]
-                self.chance.shuffle(kinds)
+                kinds = self.chance.sample(turns, len(turns))
             self.round(kinds.pop())
             rounds += 1
             self.meet()
             self.take_back_what_another_deleted()
             text = self.meet()
         for author in self.authors:
-            print(author.writer.tag, author.writer.person, author.did)
+            print(author.writer.tag, author.writer.person, dict(author.did))
         print(f"{rounds} rounds in {time.monotonic() - began:.0f} s, {len(self.words)} words, {len(text)} bytes")
         threads = self.told["ada"].threads() if self.sayings else []
         for told in self.told.values():
@@ -389,7 +399,11 @@ class AllEditors(Case):
                 plain = plainly(self.opened(self.person(person)).session)
                 self.assertEqual(as_plain(threads, plain), plain)
 
-    def round(self, killed: object) -> None:
+    def turns(self) -> list[Author | None]:
+        """Whose editor is killed in a round, and in the next ones; in one of them somebody's engine."""
+        return [*self.authors, None]
+
+    def round(self, killed: Author | None) -> None:
         """Has all write, while an author's editor is killed, or somebody's engine; and the log is away, perhaps."""
         many, done = self.chance.randint(*ROUND), Done()
         first, last, when = (partial(done.wait_for, number, self.chance.random() * 0.2)
@@ -406,10 +420,10 @@ class AllEditors(Case):
             if author.writer.is_cut:
                 author.recover()
 
-    def kill(self, killed: object, when: Callable[[], None]) -> None:
+    def kill(self, killed: Author | None, when: Callable[[], None]) -> None:
         """Kills an author's editor, or somebody's engine, at a moment of a round."""
         when()
-        if isinstance(killed, Author):
+        if killed:
             kill_editor(killed.writer)
         else:
             person = self.chance.choice(["ada", "bo"])

@@ -523,6 +523,14 @@ class Modules(Front):
         self.assertEqual(number_of_rank(rank, 8), site)
         self.assert_right(window)
 
+    def test_entries_are_kept_at_once_and_each_once(self) -> None:
+        window = self.at(self.url, "typeof answered === 'function'")
+        some = [[f"{number:03}", True] for number in range(100)]
+        calls = [some, [["a", False], ["b", True], ["a", False], ["b", False], ["099", False]], [["a", True], ["c", False], ["c", True]]]
+        found = self.asked(window, "kept", calls=calls)
+        self.assertEqual(found, {"many": [100, 2, 1], "atOnce": 100, "entries": [*some, ["a", True], ["b", True], ["c", True]]})
+        self.assert_right(window)
+
 
 if __name__ == "__main__":
     unittest.main()

@@ -16,8 +16,10 @@ from share.format.link import OF_SECOND_FORM_ALONE
 from share.log.base import START, Log, LogLost, PresenceChannel, Unreachable
 from share.log.bell import Bell
 from share.log.opening import opener_of
+from share.log.redis import RedisLog
 from share.log.relay import Following, RelayLogs
 from share.log.relay_line import RelayLine
+from share.log.sqlite import SqliteLog
 from share.relay.kept import NoteIsFull
 from share.relay.limits import Allowance, Limits, NewNotes, Paces
 from share.relay.member import Member
@@ -80,12 +82,31 @@ class AsEachLog(AtRelay, test_logs.Shared.Both):
     def opened(self, note: bytes = test_logs.NOTE) -> Log:
         return self.opened_of(KEY if note == test_logs.NOTE else OTHER_KEY)
 
+    def kept(self) -> Log:
+        """The log that the relay keeps, without the relay."""
+        return SqliteLog(self.file, form_of().note)
+
     def is_watched(self) -> bool:
         return any(call.args[1] > PATIENCE for call in self.pauses.call_args_list)
 
     def test_those_who_are_on_are_told(self) -> None:
         # There is no table, but a channel.
         self.assertEqual(self.log().meet(b"one", b"1"), [])
+
+    def test_what_was_taken_out_there_is_counted_no_more(self) -> None:
+        with closing(self.kept()) as kept:
+            kept.append([record(number) for number in range(10)])
+            kept.take_out(record(9), [record(number) for number in range(3)])
+            log = self.log()
+            self.assertEqual((raws(log), log.size()), ([record(number) for number in range(3, 10)], 7))
+            place = log.read(START)[-1].place
+            kept.take_out(record(9), [record(3)])
+            log.watch(place, PATIENCE)
+            # Who counted it reads from the front.
+            with self.assertRaisesRegex(LogLost, "has lost entries"):
+                log.read(place)
+            log.append([record(10)])
+            self.assertEqual((raws(log), log.size()), ([record(number) for number in range(4, 11)], 7))
 
     def test_too_long_a_presence_is_left_out(self) -> None:
         log = self.log()
@@ -105,6 +126,9 @@ class BeforeRedis(AsEachLog):
         self.server = RedisServer(self.folder / "redis")
         self.addCleanup(self.server.close)
         return RelayHere(self.folder / "kept", log=self.server.url)
+
+    def kept(self) -> Log:
+        return RedisLog(self.server.url, form_of().note)
 
     def test_what_others_write_there_is_told(self) -> None:
         log = self.log()

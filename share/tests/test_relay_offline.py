@@ -109,7 +109,7 @@ class Offline(Front):
     def test_another_version_is_taken_as_the_user_says(self) -> None:
         window, other = self.kept(), self.kept()
         before = listed(PageFiles())
-        after = listed(self.versions.offer("Other", front_css=("16px", "17px"), searching_js=("The worker", "A worker")))
+        after = listed(self.versions.offer("Other", front_css=("16px", "17px"), searching_js=("postMessage", "self.postMessage")))
         for _ in range(3):
             window.driver.refresh()
             window.wait_for(IS_OFFERED)

@@ -138,9 +138,9 @@ class Ahead(AtPage):
             "target.result.transaction('notes').objectStore('notes').getAll().onsuccess = ({ target: found }) => { " \
             "target.result.close(); done(found.result.map(({ id, spare }) => spare && [id, String(spare.counter), spare.site, " \
             "[...spare.secret]])); }; }; })"
-    # What the thread of the page does meanwhile: the longest time between two of its turns.
-    STANDS_STILL = "void (globalThis.longest = 0, (function turn(last) { const now = performance.now(); " \
-                   "globalThis.longest = Math.max(globalThis.longest, now - last); setTimeout(turn, 0, now); })(performance.now()))"
+    # Counts the workers that the page begins.
+    COUNTS_WORKERS = "void (globalThis.workers = 0, globalThis.Worker = class extends Worker { " \
+                     "constructor(...words) { super(...words); globalThis.workers += 1; } })"
 
     def spare(self, window: Any) -> tuple[bytes, int, int, bytes]:
         """The spare number that the browser keeps: of which note, by which counter, which, and its author's secret."""
@@ -151,9 +151,10 @@ class Ahead(AtPage):
 
     def test_one_is_kept_by_a_worker_of_its_own_and_is_what_all_take(self) -> None:
         window = self.at()
-        window.run(self.STANDS_STILL)
+        window.run(self.COUNTS_WORKERS)
         link = self.made(window, "picnic")
         window.wait_for("document.getElementById('facts').textContent.includes('found and kept here')")
+        self.assertEqual(window.run("globalThis.workers"), 1)
         note, counter, site, secret = self.spare(window)
         form = SealedRecords(link_of(link).secret)
         author = Author(public_of(secret), secret)

@@ -2,9 +2,11 @@
 import base64
 import contextlib
 import http.server
+import itertools
 import os
 import pathlib
 import signal
+import struct
 import tempfile
 import threading
 import unittest
@@ -16,15 +18,18 @@ from unittest import mock
 
 from share.format.chunk import packed
 from share.format.entry import NO_HASH
+from share.format.second.claim import rank_of
 from share.format.second.form import SealedRecords
-from share.format.second.key_link import link_of, read_key_link
+from share.format.second.key_link import KeyLink, link_of, read_key_link
+from share.format.second.keys import new_founding
 from share.format.second.record import RecordKind
+from share.format.second.signature import public_of
 from share.log.opening import opener_of
 from share.relay.page_files import core_path, missing_for_texts
 from share.tests.pages import FAULTS_OF_LOOKS, LOOKS_SO, Server
 from share.tests.processes import children
 from share.tests.naive import inserting
-from share.tests.relays import RelayHere, RelayProcess
+from share.tests.relays import RelayHere, RelayProcess, page_of_free_claims
 from share.tests.support import alive, raws_of
 from share.tests.test_relay_front import ALL_SENT, IS_HERE, NO_ROOM, Silent
 from share.tests.test_relay_offline import REFUSED
@@ -32,7 +37,7 @@ from share.tests.test_relay_page import headers_in
 from share.tests.test_relay_people import AtPage
 from share.tests.test_relay_security import TappedLines, messages_of
 from share.tests.waiting import wait_for
-from share.tests.writers import IS_KEPT_OFFLINE
+from share.tests.writers_at_relay import IS_KEPT_OFFLINE
 
 if TYPE_CHECKING:
     from share.tests.browser import Window
@@ -51,6 +56,13 @@ MESSAGES_KEPT = """new Promise((done) => { indexedDB.open("vialshoal").onsuccess
     done(found.result.filter(({ raw }) => raw[1] === 4).reduce((sum, { raw }) => sum + raw[57] * 256 + raw[58], 0));
   };
 }; })"""
+# The numbers that the browser has taken, with their claims' counters and their secrets.
+NUMBERS = """new Promise((done) => { indexedDB.open("vialshoal").onsuccess = ({ target }) => {
+  target.result.transaction("notes").objectStore("notes").getAll().onsuccess = ({ target: found }) => {
+    target.result.close();
+    done((found.result[0].numbers ?? []).map(({ site, counter, secret }) => [site, String(counter), [...secret]]));
+  };
+}; })"""
 HEADINGS = "[...document.querySelectorAll('#formatted h1, #formatted h2')].map((one) => one.textContent).join()"
 PAST = "document.querySelector('#past-text .CodeMirror').CodeMirror.getValue()"
 STEP, SINCE = (f"document.getElementById('{name}').textContent" for name in ("step", "since-words"))
@@ -63,12 +75,27 @@ READING_IS_HELD = """void ((decrypt) => {
     return decrypt.apply(this, given);
   };
 })(SubtleCrypto.prototype.decrypt)"""
+# What is typed isn't kept any more until `keeps` is called.
+KEEPING_IS_HELD = """void ((sign) => {
+  const held = new Promise((done) => { window.keeps = done; });
+  SubtleCrypto.prototype.sign = async function (...given) {
+    await held;
+    return sign.apply(this, given);
+  };
+})(SubtleCrypto.prototype.sign)"""
+# How often all entries are read of what the browser has kept.
+READS_ALL = """void ((getAll) => {
+  window.readsAll = 0;
+  IDBIndex.prototype.getAll = function (...given) {
+    window.readsAll += Number(this.name === 'of');
+    return getAll.apply(this, given);
+  };
+})(IDBIndex.prototype.getAll)"""
 NEVER_ANSWERED = "StorageManager.prototype.persist = () => new Promise(() => {});"
 ON = "[...document.querySelectorAll('#people li')].map((one) => one.textContent).sort().join()"
 CARETS = "[...document.querySelectorAll('.caret b')].map((one) => one.textContent)"
-# What a page has for its user to do, and what of that a page of a local engine has alone.
+# What a page has for its user to do.
 CONTROLS = "button", "textbox", "combobox", "searchbox", "checkbox"
-LOCAL_ALONE = {"Remark", "Suggest", "Suggesting", "Remarks"}
 # What would do something if a page, or a program of it, read it as more than text.
 HOSTILE = ("<img src=x onerror=\"document.title='obeyed'\"><script>document.title='obeyed'</script>\u202e\0\x1b[31m\r\n"
            "${document.title='obeyed'} javascript:alert(1) \U0001f44d\U0001f3fd \u00e9 \ufffe\n")
@@ -167,6 +194,30 @@ class Typed(AtText):
         """What an engine shows that reads all from the relay."""
         return self.in_terminal("cat", "picnic", link=link).stdout
 
+    def test_what_is_undone_while_something_is_kept_is_kept_too(self) -> None:
+        window, link = self.made_text()
+        window.paste("kept")
+        window.state("all sent")
+        window.run(KEEPING_IS_HELD)
+        window.to(0)
+        window.paste("more ")
+        window.state("to be sent")
+        window.run(f"{MIRROR}.execCommand('undo')")
+        window.shows("kept")
+        window.run("void window.keeps()")
+        window.state("all sent")
+        self.assertEqual(self.engine_text(link), "kept")
+        # So are looks.
+        window.run(KEEPING_IS_HELD)
+        self.at_end(window)
+        window.paste(".")
+        window.select(0, 4)
+        window.press("bold")
+        window.run("void window.keeps()")
+        window.state("all sent")
+        other = self.at(link, "document.querySelectorAll('#text [style*=bold]').length === 1")
+        self.assert_right(window, other)
+
     def test_a_renewed_note_shows_what_was_copied(self) -> None:
         window, link = self.made_text()
         window.paste("copied")
@@ -175,7 +226,13 @@ class Typed(AtText):
         window.shows("copied, too\n")
         renewed = self.in_terminal("renew", "picnic", "--yes", "--form", "2", "--log", self.relay.url)
         self.assertEqual(renewed.returncode, 0, renewed.stderr)
-        other = self.text_of(read_key_link(self.in_terminal("link", "picnic").stdout.strip()).page())
+        key_link = read_key_link(self.in_terminal("link", "picnic").stdout.strip())
+        # Whoever has the link can make what looks like more of it.
+        form, stray = SealedRecords(key_link.secret), packed([inserting(9, 1, 1, None, 0, b"stray")])
+        assert stray
+        with closing(opener_of(self.relay.url, form)()) as log:
+            log.append([form.base(stray, os.urandom(32)).raw])
+        other = self.text_of(key_link.page())
         other.shows("copied, too\n")
         self.at_end(other)
         other.paste("and more")
@@ -183,6 +240,15 @@ class Typed(AtText):
         self.assertEqual(self.in_terminal("cat", "picnic").stdout, "copied, too\nand more")
         # The page of before is told of it.
         window.state("renewed by")
+
+    def test_what_a_note_begins_with_and_is_not_here_is_told(self) -> None:
+        founding = new_founding(SealedRecords.author_of_any_note().name, 1, os.urandom(32))
+        form = SealedRecords(founding.key())
+        with closing(opener_of(self.relay.url, form)()) as log:
+            log.append([form.opening(founding).raw])
+        window = self.at(KeyLink("sealed", founding.key(), self.relay.url).page(),
+                         "document.getElementById('words')?.textContent.includes('lacks some of what this note begins with')")
+        self.assert_right(window)
 
     def test_in_another_browser_the_text_is_typed_into(self) -> None:
         """Of which nothing is here but the link, and whose number is searched for as all have to."""
@@ -299,10 +365,17 @@ class Before(AtText):
             opened = (form.open(raw) for raw in raws_of(log) if raw)
             site = next(one.site for one in opened if one.kind is RecordKind.MESSAGES)
             # Somebody types under the founder's number.
-            part = packed([inserting(site, 1, 1, None, 0, b"not his\r")])
-            assert part
-            log.append([form.messages(part, NO_HASH, form.new_author()).raw])
+            author, parts = form.new_author(), [packed([inserting(site, 1, 1, None, 0, b"not ")]),
+                                                packed([inserting(site, 2, 2, (site, 3), 4, b"his\r")], 4)]
+            assert parts[0] and parts[1]
+            first = form.messages(parts[0], NO_HASH, author)
+            log.append([first.raw])
+            window.state(f"left out: 4 of site {site}")
+            window.run(READS_ALL)
+            log.append([form.messages(parts[1], first.name, author).raw])
         window.state(f"left out: 8 of site {site}")
+        # What was read before isn't read again.
+        self.assertEqual(window.run("window.readsAll"), 0)
         window.shows("counts")
         window.press("history")
         window.gives(STEP, "step 1 of 1: you, 6 typed")
@@ -473,6 +546,57 @@ class Kept(AtText):
         window = self.at(address + "0" * 32, "document.getElementById('state').textContent.includes('Its link opens it again')")
 
 
+class Claimed(AtText):
+    """Numbers of pages that somebody else claims, where a claim costs nothing."""
+
+    def setUp(self) -> None:
+        super().setUp()
+        self.free = RelayProcess(self.folder / "free", page=page_of_free_claims(self.folder / "page"))
+        self.addCleanup(self.free.close)
+
+    def test_who_types_under_anothers_number_is_told_and_types_on_under_the_next(self) -> None:
+        window = self.at(self.free.url)
+        link = self.made(window, "picnic")
+        other = self.browser.window_apart()
+        self.addCleanup(self.leave, other)
+        other.driver.get(link)
+        other.wait_for(READY)
+        other.run(f"{MIRROR}.focus()")
+        # Nothing was typed under it yet.
+        first = self.claimed(link, other, 0)
+        wait_for(lambda: other.run(NUMBERS)[1:], "another number")
+        other.wait_for(READY)
+        other.type("lost")
+        other.state("all sent")
+        second = self.claimed(link, other, 1)
+        other.state("left out: 4 of you")
+        other.shows("")
+        other.wait_for(f"!{MIRROR}.getOption('readOnly')")
+        other.type("kept")
+        other.state("all sent")
+        self.assertEqual(len({first, second, *(site for site, *_ in other.run(NUMBERS))}), 3)
+        window.press("text")
+        window.wait_for(READY)
+        window.shows("kept")
+        other.press("history")
+        other.press("later")
+        other.gives(PAST, "lost\n")
+        self.assert_right(window, other)
+
+    def claimed(self, link: str, window: "Window", index: int) -> int:
+        """Has somebody claim a number of a browser's, by a lower rank; which it is."""
+        form = SealedRecords(link_of(link).secret, 0)
+        author = form.new_author()
+        wait_for(lambda: window.run(NUMBERS)[index:], "a number")
+        site, counter, secret = window.run(NUMBERS)[index]
+        rank = rank_of(form.note, public_of(bytes(secret)), int(counter))
+        lower = next(one for one in itertools.count() if rank_of(form.note, author.name, one)[:2] == rank[:2]
+                     and rank_of(form.note, author.name, one) < rank)
+        with closing(opener_of(self.free.url, form)()) as log:
+            log.append([form.claim(site, author, lower).raw])
+        return int(site)
+
+
 class BySaid(Silent):
     """Serves files as a page's list of headers says."""
 
@@ -523,7 +647,7 @@ class Elsewhere(AtText):
 class Seen(AtText):
     """What others see of it."""
 
-    def test_the_operator_gets_nothing_of_text_or_names(self) -> None:
+    def test_the_operator_gets_nothing_of_text_names_or_cursors(self) -> None:
         relay = RelayHere(self.folder / "tapped")
         self.addCleanup(relay.close)
         tapped = TappedLines(relay.port)
@@ -536,18 +660,28 @@ class Seen(AtText):
         link = self.made(window, "gooseberry")
         window.wait_for(ALL_SENT)
         other = self.text_of(link)
-        other.type("strawberry jam")
+        # (pasted, so that words go as wholes)
+        other.paste("strawberry jam")
         other.state("all sent")
         other.rename("frangipane")
-        other.type(", raspberry")
+        other.paste(", raspberry")
         other.state("all sent")
+        ann = self.engine_of("Ann", link)
+        ann.shows("strawberry jam, raspberry")
+        other.to(7)
+        ann.wait_for(lambda: [(one["name"], one["at"]) for one in ann.mirror.cursors] == [("frangipane", 7)], "the page's cursor")
+        ann.close()
         lines = [bytes(line) for line in tapped.lines]
         messages = [message for line in lines for message in (messages_of(line) if b"Upgrade: websocket" in line else [line])]
         kept = [path.read_bytes() for path in (self.folder / "tapped").rglob("*") if path.is_file()]
         key = link_of(link).secret
-        self.assertTrue(any(SealedRecords(key).note in one for one in messages) and len(kept) > 1)
+        form = SealedRecords(key)
+        with closing(opener_of(relay.url, form)()) as log:
+            [site] = {one.site for raw in raws_of(log) if raw and (one := form.open(raw)).kind is RecordKind.MESSAGES}
+        cursor = struct.pack(">HI", site, 6)
+        self.assertTrue(any(form.note in one for one in messages) and len(kept) > 1)
         for unseen in (key, key.hex().encode(), base64.urlsafe_b64encode(key)[:20], b"vialshoal:2:", b"gooseberry", b"marzipan",
-                       b"frangipane", b"strawberry", b"raspberry"):
+                       b"frangipane", b"strawberry", b"raspberry", cursor):
             for data in [*messages, *kept, *map(str.encode, relay.said)]:
                 self.assertNotIn(unseen, data)
 
@@ -572,10 +706,9 @@ class Seen(AtText):
         here, there = self.said_aloud(window), self.said_aloud(other)
         self.assertEqual([words for role, words in here if role == "StaticText" and words.startswith("line ")], lines)
         self.assertEqual([role for role, name in here if role in (*CONTROLS, "heading") and not name], [])
-        # What a page has to do is called the same; it does less.
+        # What a page has to do is called the same.
         called, elsewhere = ({one for one in said if one[0] in CONTROLS} for said in (here, there))
-        self.assertEqual(called - elsewhere, set())
-        self.assertEqual({name for _, name in elsewhere - called}, LOCAL_ALONE)
+        self.assertEqual(called, elsewhere)
 
     @staticmethod
     def said_aloud(window: "Window") -> list[tuple[str, str]]:

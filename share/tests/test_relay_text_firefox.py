@@ -10,11 +10,8 @@ from share.tests.editors import Engines
 from share.tests.firefox import CONTROL, FIREFOX, FirefoxHere
 from share.tests.relays import RelayProcess
 from share.tests.test_relay_text import CORE, MISSING, MESSAGES_KEPT, READY
-from share.tests.writers import IS_KEPT_OFFLINE, Emacs
-
-# What can be seen of an error that nothing has caught.
-HEARS_ERRORS = "void (window.errors = [], ['error', 'unhandledrejection'].forEach((kind) => " \
-               "addEventListener(kind, (one) => window.errors.push(String(one.reason ?? one.message)))))"
+from share.tests.writers import Emacs
+from share.tests.writers_at_relay import HEARS_ERRORS, IS_KEPT_OFFLINE
 
 
 @unittest.skipIf(MISSING, f"texts aren't shown here: {MISSING} is missing")

@@ -231,7 +231,8 @@ class Unplaced(OfSecondForm):
         for note in ann, bob:
             wait_for(lambda one=note: (one.take_in(), word.hash in one.session._holdings.judge)[1], "the word")
             type_at_the_end(note, "two ")
-        self.assertEqual(self.assert_meet(ann, bob).count(b"two "), 2)
+            shown = self.assert_meet(ann, bob)
+        self.assertEqual(shown.count(b"two "), 2)
         for note in ann, bob:
             note.session.close()
         self.assertEqual(self.run_as(self.ann, "cat", "note").count("two "), 2)

@@ -1,6 +1,7 @@
 """The modules of a relay's page, in Node: keys, links, entries, claims and messages, byte by byte as docs/NOTES.md and docs/RELAY.md have
 them, beside the vectors and beside Python."""
 import json
+import os
 import pathlib
 import random
 import shutil
@@ -30,7 +31,7 @@ from share.log.relay_messages import AppendRequest, ReadRequest, Refusal, RelayP
 from share.program.replay import as_line, steps
 from share.program.site import Rewrite, Site
 from share.relay.page_files import PAGE_FOLDER
-from share.tests.naive import inserting
+from share.tests.naive import about, inserting
 from share.tests.relays import RelayProcess, form_of, record
 from share.tests.support import Case, raws_of
 from share.tests.waiting import PATIENCE
@@ -138,6 +139,37 @@ class Vectors(Modules):
         python = next(found_among(range(10**9), bytes.fromhex(note), bytes.fromhex(VECTORS["authors"]["bob"]["name"]), taken, 8))
         self.assertEqual((int(found["counter"]), found["site"]), python)
 
+    def test_what_was_said_under_a_number_that_is_lost_is_kept_under_it(self) -> None:
+        note, claims = VECTORS["sealed"], VECTORS["claims"]
+        numbers = [{**claims[who], "secret": VECTORS["authors"][who]["secret"]} for who in ("bob", "cy")]
+        # The first of each is being kept as the others are said.
+        said = [[{"site": one["site"], "text": 1, "first": first, "count": 1, "before": bytes(32).hex() if first == 1 else note["key"],
+                  "body": "0000"} for first in range(1, many)] for one, many in zip(numbers, (4, 3))]
+        found = self.asked("own", key=note["key"], numbers=numbers, said=said)
+        names, heads = ("kind", "site", "author", "first"), list[tuple[Any, ...]]()
+        for who, one, places in zip(("bob", "cy"), numbers, said):
+            author = VECTORS["authors"][who]["name"]
+            heads += [(KINDS["claim"], one["site"], author, 0)]
+            heads += [(KINDS["messages"], one["site"], author, each["first"]) for each in places]
+        opened = self.asked("opened", key=note["key"], raws=found["raws"], bits=VECTORS["bits"])
+        self.assertEqual([tuple(one[name] for name in names) for one in opened], heads)
+        # Nobody else has them until all is kept; and without a number nothing is said.
+        self.assertEqual((found["claimed"], found["locked"]), (2, [2, 0]))
+        self.assertEqual(found["why"], f"This is said under {numbers[0]['site']}, and this tab has no number.")
+
+    def test_what_is_kept_as_a_page_closes_is_told_to_other_tabs(self) -> None:
+        self.assertEqual(self.asked("keptAsItCloses", key=VECTORS["sealed"]["key"]), 1)
+
+    def test_what_somebody_typed_is_put_together_where_it_stood(self) -> None:
+        some = packed([
+            *(inserting(9, at + 1, at + 1, cause, at, b"tea"[at:at + 1]) for at, cause in enumerate(((5, 2), (9, 0), (9, 1)))),
+            inserting(9, 4, 4, (9, 0), 3, b"X"), about(DELETE, 9, 5, 5, [(9, 1, 1)]), inserting(9, 6, 6, None, 4, b"hi"),
+            inserting(9, 7, 7, (5, 2), 6, b"!"), about(DELETE, 9, 8, 8, [(5, 0, 1), (9, 3, 1)]), about(RESTORE, 9, 9, 9, [(9, 3, 1)])])
+        assert some
+        for hides, word in (True, b"tXa"), (False, b"tXea"):
+            self.assertEqual(self.asked("passages", chunk=some.chunk.hex(), hides=hides), [
+                {"cause": [5, 2], "bytes": word.hex()}, {"cause": None, "bytes": b"hi".hex()}, {"cause": [5, 2], "bytes": b"!".hex()}])
+
     def test_presence(self) -> None:
         one = VECTORS["presence"]
         key, form = VECTORS["sealed"]["key"], SealedRecords(bytes.fromhex(VECTORS["sealed"]["key"]))
@@ -171,6 +203,14 @@ class Vectors(Modules):
         form = SealedRecords(bytes.fromhex(note["key"]))
         raws = [form.renewed(name, 7, AUTHOR).raw.hex() for name in ("\U0001f44d" * 41, " \u202eAnn\0 ", "")]
         self.assertEqual(self.asked("facts", key=note["key"], raws=raws)["renewedBy"], ["\U0001f44d" * 40, "Ann", "somebody"])
+
+    def test_what_a_value_has_no_memory_for_is_handed_on_once_more(self) -> None:
+        note = VECTORS["sealed"]
+        raws = [one["raw"] for one in note["entries"]]
+        heads = [RECORD_HEAD.unpack_from(bytes.fromhex(one["raw"])) for one in note["entries"] if one["what"] == "messages"]
+        said = [[author.hex(), first] for _, _, _, author, _, _, first, _, _ in heads]
+        found = self.asked("handed", key=note["key"], raws=raws, refused=2)
+        self.assertEqual(found, {"why": {"why": "There is no memory."}, "handed": said[:2] + said[1:], "said": said})
 
 
 class BesidePython(Modules):
@@ -285,6 +325,17 @@ class BesidePython(Modules):
             found = self.asked("isSigned", data=data.hex(), signature=signature.hex(), name=of.hex())
             self.assertEqual(found, is_signed(data, signature, of))
         self.assertTrue(is_signed(data, right, name))
+
+    def test_who_signed_much_is_imported_once_and_of_many_few_are_kept(self) -> None:
+        secrets = [os.urandom(32) for _ in range(3)]
+        some = [{"signature": signed(b"signed", one).hex(), "name": public_of(one).hex()} for one in secrets]
+        wrong = {**some[0], "signature": some[1]["signature"]}
+        found = self.asked("imported", data=b"signed".hex(), signed=[*some, *some, wrong])
+        self.assertEqual(found, {"are": [True] * 6 + [False], "many": 3})
+        # Whoever has the link may make up authors.
+        points = [{**some[0], "name": (number + 10**6).to_bytes(32, "little").hex()} for number in range(2_000)]
+        found = self.asked("imported", data=b"signed".hex(), signed=[*points, some[0]])
+        self.assertEqual((found["are"].count(True), found["are"][-1], found["many"]), (1, True, 2_001))
 
     def test_what_is_said_of_who_is_on(self) -> None:
         names = ["", "Ann", "J\u00f6rg \u6f22\u5b57", "\U0001f44d" * 40, "x" * 40, "a\0b\u202ec ", "\u00e9" * 100]

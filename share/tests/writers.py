@@ -19,11 +19,9 @@ from selenium.common.exceptions import WebDriverException
 from selenium.webdriver.common.keys import Keys
 from urllib3.exceptions import HTTPError
 
-from share.format.second.key_link import read_key_link
-from share.tests.browser import CLOCK_STANDS, MIRROR, Browser
-from share.tests.firefox import FirefoxHere
+from share.tests.browser import MIRROR, Browser
 from share.tests.pages import Server
-from share.tests.processes import children, descendants
+from share.tests.processes import children
 from share.tests.support import NOTE, TOP, Case, alive, engine_of, wait_for
 from share.tests.terminals import EMACS, Terminal
 from share.tests.waiting import PATIENCE as PATIENCE
@@ -79,8 +77,6 @@ NORMAL = "C-\\", "C-n"
 # The page asks whoever leaves it where an edit is unanswered.
 PAGE = """{ text: MIRROR.getValue(), types: !MIRROR.getOption("readOnly"), session: document.title,
   quiet: window.dispatchEvent(new Event("beforeunload", { cancelable: true })) }""".replace("MIRROR", MIRROR)
-TYPES_AT_RELAY = f"document.title !== 'Note' && !{MIRROR}.getOption('readOnly')"
-IS_KEPT_OFFLINE = "navigator.serviceWorker.controller !== null"
 SELECTING = """((word) => {
   const at = MIRROR.getValue().indexOf(word);
   MIRROR.setSelection(MIRROR.posFromIndex(at), MIRROR.posFromIndex(at + word.length));
@@ -648,48 +644,3 @@ class PageInChromium(Writer):
             if self.is_cut:
                 raise Cut from why
             raise Silent(str(why)) from why
-
-
-class PageAtRelay(PageInChromium):
-    """The page of the note's relay in a Chromium that has the same disk whenever it begins, and whose own clock ends no edit."""
-
-    tag = "q"
-
-    def start(self) -> None:
-        self.begin_browser(self.data)
-        # A relay that is away keeps nobody from the page, once that is kept.
-        self._window.goes_to(read_key_link(self.link).page())
-        self._window.wait_for(TYPES_AT_RELAY)
-        self._window.wait_for(IS_KEPT_OFFLINE)
-        self._window.run(f"void {CLOCK_STANDS}")
-        self._window.run(f"{MIRROR}.focus()")
-
-    def begin_browser(self, profile: pathlib.Path) -> None:
-        """Begins it, with the profile of before."""
-        self._browser = Browser(1100, 700, profile)
-        self.case.addCleanup(self.close)
-        self._window = self._browser.window()
-
-
-class FirefoxAtRelay(PageAtRelay):
-    """The same in Firefox."""
-
-    tag = "f"
-    _firefox: FirefoxHere | None = None
-
-    def begin_browser(self, profile: pathlib.Path) -> None:
-        self._window = self._firefox = FirefoxHere(profile)
-        self.case.addCleanup(self.close)
-
-    def processes(self) -> list[int]:
-        assert self._firefox
-        return [self._firefox.process, *descendants(self._firefox.process)]
-
-    def goes_on(self) -> bool:
-        assert self._firefox
-        return alive(self._firefox.process)
-
-    def close(self) -> None:
-        if browser := self._firefox:
-            self._firefox = None
-            browser.close()

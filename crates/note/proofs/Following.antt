@@ -9,7 +9,7 @@ use Rattle.note_laws.specs.Note.{Saying}
 use Rattle.note_hashes.specs.Hashes.{digest_of}
 use Rattle.note_admission.specs.Growing.{AdmissionGrows, AreAdmitted, FollowsEntries, LogGoesOn, StaysAdmitted, TextSeen}
 use Rattle.note_admission.specs.Standing.{AreChainsOf, ChainsSeen}
-use Rattle.note_replicas.specs.Following.{GoesOn, HasTakenBeginning, HasTakenJust, IsOfPlace}
+use Rattle.note_replicas.specs.Following.{Advances, HasTakenBeginning, HasTakenJust, IsOfPlace}
 use Rattle.note_replicas.proofs.Counting.{one_more}
 use Rattle.note_replicas.proofs.Ready.{on_itself, on_then}
 use Rattle.note.specs.Texts.{HasAdmittedMore, IsFollowing, IsSameText, KeepsNoting, NoteText}
@@ -74,7 +74,7 @@ grown key chains t new mid grows text same place noting = (
 )
 
 -- noting goes on where the replica does, unless it was begun anew
-pub noting_on : (t new : NoteText) → new.anew ≡ t.anew → GoesOn t.replica new.replica → KeepsNoting t new
+pub noting_on : (t new : NoteText) → new.anew ≡ t.anew → Advances t.replica new.replica → KeepsNoting t new
 noting_on t new same on kept = (sym same ∙ kept, on)
 
 pub noting_then : (t u v : NoteText) → KeepsNoting t u → KeepsNoting u v → KeepsNoting t v

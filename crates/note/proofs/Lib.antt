@@ -3,6 +3,7 @@ pub mod Each
 pub mod Editing
 pub mod Following
 pub mod Lists
+pub mod OwnBodies
 pub mod OwnEntries
 pub mod OwnLeft
 pub mod OwnSteps

@@ -1,7 +1,7 @@
 -- How a site's own messages are put into entries, one after the other.
-use Rattle.std.proofs.Common.{◌≡◌, ◌≢◌, ◌⊎◌, ℕ, zero, suc, ◌+◌, ◌-◌, ◌^◌, ◌<◌, ◌≤◌, inl, inr, min, Bool, true, false, List, [], ◌∷◌, ◌++◌, length, take, filter, Option, Some, Contains, All, refl, sym, ap, subst, ◌∙◌, arith, length-append}
-use Rattle.std.specs.Prelude.{AllPairs, ◌&&◌, ◌==◌, nat_lt, slice_get}
-use Rattle.std.proofs.lemmas.Bool.{eqb-true}
+use Rattle.std.proofs.Common.{◌≡◌, ◌≢◌, ◌⊎◌, ℕ, zero, suc, ◌+◌, ◌-◌, ◌^◌, ◌<◌, ◌≤◌, inl, inr, min, true, false, List, [], ◌∷◌, ◌++◌, length, take, filter, Option, Some, Contains, All, refl, sym, ap, subst, ◌∙◌, arith, length-append}
+use Rattle.std.specs.Prelude.{AllPairs, slice_get}
+use Rattle.std.proofs.lemmas.Bool.{false≢true}
 use Rattle.std.proofs.lemmas.List.{append-nil, append_assoc, length-map, length_push, map-append, take-append-le, take_all}
 use Rattle.std.proofs.lemmas.List.Elements.{All-contains}
 use Rattle.std.proofs.lemmas.Option.{get_or_from_slice_get, slice_get_within}
@@ -12,7 +12,7 @@ use Rattle.tree_order.specs.Good.{file_before}
 use Rattle.set_laws.specs.Fronts.{front_of}
 use Rattle.set_laws.proofs.Preceding.{first_part_within}
 use Rattle.packed.specs.Laws.{CanFollow, IsHistory}
-use Rattle.packed.specs.Told.{Told, expected, nothing_begun, nothing_told, told, told_after, told_on}
+use Rattle.packed.specs.Told.{Told, expected, has_begun, nothing_begun, nothing_told, told, told_after, told_on}
 use Rattle.chunks.specs.Chunks.{CanCome}
 use Rattle.chunks.specs.Parts.{LensAreInFiles}
 use Rattle.chunks.proofs.Agreeing.{Goes, comes_so}
@@ -24,15 +24,18 @@ use Rattle.note_laws.specs.Note.{Saying}
 use Rattle.note_laws.specs.Admission.{BuildsOn}
 use Rattle.note_laws.specs.Chains.{operations}
 use Rattle.note_hashes.specs.Hashes.{said_by}
-use Rattle.note_bodies.specs.Writing.{Begun, CanBeAdded, nothing_said}
+use Rattle.note_bodies.specs.Bodies.{AreMessagesOf, AreOfHead, AreSaidInTurn, CanHaveMessages}
+use Rattle.note_bodies.specs.Writing.{AreAddedInTurn, Begun, CanBeAdded, nothing_said}
+use Rattle.note_bodies.proofs.ReadBack.{one_added}
 use Rattle.note_admission.specs.Continuing.{AreMentionedIn}
 use Rattle.note_admission.specs.Kept.{Offsets}
 use Rattle.note_admission.proofs.Between.{none_between}
 use Rattle.note.specs.Texts.{IsFollowing, NoteText}
-use Rattle.note.specs.Editing.{AreEntriesOf, AreSaidInTurn, IsOwnEntryOf, IsLastOfText, IsOwnEntry, SayAllLeft, is_own_left, last_hash, own_left}
-use Rattle.note.specs.Own.{HasNoRoom, HasPut, HaveSaid, IsNextEntry, PutsSaying, placed_in}
+use Rattle.note.specs.Editing.{AreEntriesOf, IsOwnEntryOf, IsLastOfText, IsOwnEntry, SayAllLeft, is_own_left, last_hash, own_left}
+use Rattle.note.specs.Own.{HasNoRoom, HasPut, HaveSaid, IsNextEntry, PutsSaying, len_in, placed_in}
 use Rattle.note.specs.declared.own_entry.OwnEntry.{OwnEntry}
 use Rattle.note.specs.declared.own_entry.Turn.{Turn}
+use Rattle.note.proofs.OwnBodies.{TellsLen, can_come, of_head, own_site, tells_on}
 use Rattle.note.proofs.OwnLeft.{filtered_none, filtered_one, next_beyond, none_beyond}
 
 add-zero' : (n : ℕ) → n ≡ n + 0
@@ -135,14 +138,6 @@ module _ (key : List ℕ) (author : ℕ) (t : NoteText) (last : ℕ) (turn after
         (front_of t.admission.ops t.replica.site) turn.place op at own in
         omega (arith, many)
 
-    site_is : op.site ≡ t.replica.site
-    site_is = of_own (op.site == t.replica.site) (nat_lt (front_of t.admission.ops t.replica.site) op.seq) own
-        (eqb-true op.site t.replica.site)
-      where
-        of_own : (a b : Bool) → (a && b) ≡ true → (a ≡ true → op.site ≡ t.replica.site) → op.site ≡ t.replica.site
-        of_own true b h here = here refl
-        of_own false b h here = absurd cc
-
     -- one that is, and was put into a body
     pub put : after.seq ≡ new.seq → after.before ≡ new.before → after.between ≡ new.between
         → HaveSaid key author t last after (said ++ s ∷ [])
@@ -170,8 +165,8 @@ module _ (key : List ℕ) (author : ℕ) (t : NoteText) (last : ℕ) (turn after
           (ap (λ (b : ℕ). said_by key author b op puts.on) have.before);
       between =
           subst (λ (o : Offsets). AreMentionedIn t.replica.site (said ++ s ∷ []) o) (sym between)
-          (subst (λ (site : ℕ). AreMentionedIn site (said ++ s ∷ []) new.between) site_is
-          (puts.between said s refl (subst (λ (site : ℕ). AreMentionedIn site said turn.between) (sym site_is) have.between)));
+          (subst (λ (site : ℕ). AreMentionedIn site (said ++ s ∷ []) new.between) (own_site t op own)
+          (puts.between said s refl (subst (λ (site : ℕ). AreMentionedIn site said turn.between) (sym (own_site t op own)) have.between)));
       build = λ note entries admitted digest taken n x here. elim (push_at said s n x here) [
         | inl earlier ↦
             subst (λ (l : List Saying). BuildsOn note (admitted ++ l) x)
@@ -183,7 +178,7 @@ module _ (key : List ℕ) (author : ℕ) (t : NoteText) (last : ℕ) (turn after
             (subst (λ (l : List Saying). BuildsOn note (admitted ++ l) x) (sym (take-append_seam said (s ∷ [])))
             (subst (λ (y : Saying). BuildsOn note (admitted ++ said) y) (sym same)
             (puts.builds note entries admitted said digest taken
-            (subst (λ (site : ℕ). AreMentionedIn site said turn.between) (sym site_is) have.between) s refl refl)))
+            (subst (λ (site : ℕ). AreMentionedIn site said turn.between) (sym (own_site t op own)) have.between) s refl refl)))
       ];
     }
 
@@ -248,6 +243,8 @@ pub record HasPutSoFar (key : List ℕ) (author : ℕ) (t : NoteText) (last : �
   pub more : List Saying
   pub have : HaveSaid key author t last now (said ++ more)
   pub many : body.count ≡ length more
+  pub added : AreAddedInTurn t.replica.text (λ op. len_in t op) (nothing_said t.replica.text) more body
+  pub tells : TellsLen t (front_of t.admission.ops t.replica.site + length (said ++ more) + 1) body.chunk.told
   pub on : turn.place + length more ≤ now.place
   pub first : length more ≡ 0 → body ≡ nothing_said t.replica.text
 
@@ -258,6 +255,8 @@ nothing_put key author t last said turn body have empty = record {
   more = [];
   have = subst (HaveSaid key author t last turn) (sym (append-nil said)) have;
   many = ap (λ (b : Begun). b.count) empty;
+  added = empty;
+  tells = λ begun. absurd (false≢true (sym (ap (λ (b : Begun). has_begun b.chunk.told t.replica.site) empty) ∙ begun));
   on = omega arith;
   first = λ none. empty;
 }
@@ -266,7 +265,14 @@ module _ (key : List ℕ) (author : ℕ) (t : NoteText) (last : ℕ) (said : Lis
     (so : HasPutSoFar key author t last said start turn body) where
   -- all were passed
   pub all_passed : length t.replica.operations ≤ turn.place → HasPut key author t last said start turn body
-  all_passed past = record { more = so.more; have = so.have; many = so.many; on = so.on; none = λ none. past }
+  all_passed past = record {
+    more = so.more;
+    have = so.have;
+    many = so.many;
+    added = so.added;
+    on = so.on;
+    none = λ none. past;
+  }
 
   module _ (op : Operation) (at : slice_get t.replica.operations turn.place ≡ Some op) where
     pub passed_on : is_own_left t op ≡ false → after.place ≡ turn.place + 1 → after.seq ≡ turn.seq → after.before ≡ turn.before
@@ -275,6 +281,8 @@ module _ (key : List ℕ) (author : ℕ) (t : NoteText) (last : ℕ) (said : Lis
       more = so.more;
       have = passed key author t last turn after (said ++ so.more) so.have op at place other seq before between;
       many = so.many;
+      added = so.added;
+      tells = so.tells;
       on = let was = so.on in omega arith;
       first = so.first;
     }
@@ -286,6 +294,14 @@ module _ (key : List ℕ) (author : ℕ) (t : NoteText) (last : ℕ) (said : Lis
           → HasPutSoFar key author t last said start after grown
       put_on own new grown puts place seq before between =
           let one = s key author t last turn after (said ++ so.more) so.have op at place is once spelled own new body grown puts in
+          let number : ℕ = front_of t.admission.ops t.replica.site + length (said ++ so.more) + 1 in
+          let number_of : op.seq ≡ number =
+          seq_is key author t last turn after (said ++ so.more) so.have op at place is once spelled own new body grown puts in
+          let goes_on = goes t is once spelled turn.place op at in
+          let come = can_come t op number (own_site t op own) number_of body.chunk.told goes_on.spelled goes_on.on_text goes_on.in_file
+          so.tells puts.room.next in
+          let next : number + 1 ≡ front_of t.admission.ops t.replica.site + length (said ++ (so.more ++ one ∷ [])) + 1 =
+          omega (arith, length_push (said ++ so.more) one, ap length (append_assoc said so.more (one ∷ []))) in
           record {
             more = so.more ++ one ∷ [];
             have = subst (HaveSaid key author t last after) (append_assoc said so.more (one ∷ []))
@@ -293,6 +309,13 @@ module _ (key : List ℕ) (author : ℕ) (t : NoteText) (last : ℕ) (said : Lis
                 seq before between);
             many = ap (λ (b : Begun). b.count) puts.body_is
                 ∙ (let was = so.many in let sum : body.count + 1 ≡ length (so.more ++ one ∷ []) = omega (arith, length_push so.more one) in sum);
+            added = one_added t.replica.text (λ o. len_in t o) (nothing_said t.replica.text) so.more body grown one so.added
+                puts.room come puts.body_is;
+            tells =
+                let held = held_at t is once spelled turn.place op at in
+                subst (λ (n : ℕ). TellsLen t n grown.chunk.told) next
+                (subst (λ (b : Begun). TellsLen t (number + 1) b.chunk.told) (sym puts.body_is)
+                (tells_on t op number (own_site t op own) number_of body.chunk.told is.identified held come));
             on = let was = so.on in omega (arith, length_push so.more one);
             first = λ none. absurd (omega (arith, length_push so.more one));
           }
@@ -304,6 +327,8 @@ module _ (key : List ℕ) (author : ℕ) (t : NoteText) (last : ℕ) (said : Lis
         more = so.more;
         have = subst (λ (x : Turn). HaveSaid key author t last x (said ++ so.more)) (sym none.same_turn) so.have;
         many = ap (λ (b : Begun). b.count) none.same_body ∙ so.many;
+        added = subst (λ (b : Begun). AreAddedInTurn t.replica.text (λ o. len_in t o) (nothing_said t.replica.text) so.more b)
+            (sym none.same_body) so.added;
         on = let was = so.on in let same = ap (λ (x : Turn). x.place) none.same_turn in omega arith;
         none = λ empty. absurd (none.full (subst (λ (b : Begun). CanBeAdded b (placed_in t op) none.on) (sym (so.first empty))
             (has_room t is once spelled turn.place op at none.on)));
@@ -311,19 +336,19 @@ module _ (key : List ℕ) (author : ℕ) (t : NoteText) (last : ℕ) (said : Lis
 
 -- ---- entries
 
-module _ (author : ℕ) (t : NoteText) where
+module _ (key : List ℕ) (author : ℕ) (t : NoteText) where
   -- with an entry more
-  entries_more : (seq before : ℕ) (entries : List OwnEntry) (said : List Saying) → AreEntriesOf author t seq before entries said
-      → (entry : OwnEntry) (more : List Saying) → IsOwnEntryOf author t (seq + length said) (last_hash before said) entry more
-      → AreEntriesOf author t seq before (entries ++ entry ∷ []) (said ++ more)
+  entries_more : (seq before : ℕ) (entries : List OwnEntry) (said : List Saying) → AreEntriesOf key author t seq before entries said
+      → (entry : OwnEntry) (more : List Saying) → IsOwnEntryOf key author t (seq + length said) (last_hash before said) entry more
+      → AreEntriesOf key author t seq before (entries ++ entry ∷ []) (said ++ more)
   entries_more seq before [] said none entry more one =
       let same : seq + length said ≡ seq = let many = ap length none in omega arith in
       let hash : last_hash before said ≡ before = ap (last_hash before) none in (
         more,
         [],
         ap (λ (l : List Saying). l ++ more) none ∙ sym (append-nil more),
-        subst (λ (n : ℕ). IsOwnEntryOf author t n before entry more) same
-            (subst (λ (h : ℕ). IsOwnEntryOf author t (seq + length said) h entry more) hash one),
+        subst (λ (n : ℕ). IsOwnEntryOf key author t n before entry more) same
+            (subst (λ (h : ℕ). IsOwnEntryOf key author t (seq + length said) h entry more) hash one),
         refl,
       )
   entries_more seq before (e ∷ entries) said (own, rest, split, is, others) entry more one =
@@ -336,28 +361,38 @@ module _ (author : ℕ) (t : NoteText) where
         ap (λ (l : List Saying). l ++ more) split ∙ append_assoc own rest more,
         is,
         entries_more (seq + length own) (last_hash before own) entries rest others entry more
-            (subst (λ (n : ℕ). IsOwnEntryOf author t n (last_hash (last_hash before own) rest) entry more) many
-            (subst (λ (h : ℕ). IsOwnEntryOf author t (seq + length said) h entry more) hash one)),
+            (subst (λ (n : ℕ). IsOwnEntryOf key author t n (last_hash (last_hash before own) rest) entry more) many
+            (subst (λ (h : ℕ). IsOwnEntryOf key author t (seq + length said) h entry more) hash one)),
       )
 
 -- the entry of what was put into a body
 pub next_entry : (key : List ℕ) (author : ℕ) (t : NoteText) (last : ℕ) (said : List Saying) (turn new : Turn) (body : Begun)
     (entry : OwnEntry) → HaveSaid key author t last turn said → HasPut key author t last said turn new body
     → IsOwnEntry author t entry → entry.head.first ≡ turn.seq → entry.head.before ≡ turn.before
-    → entry.head.count ≡ body.count → IsNextEntry key author t last said turn entry new
-next_entry key author t last said turn new body entry was puts own first before count =
+    → entry.head.count ≡ body.count
+    → ((more : List Saying) → CanHaveMessages entry.head → AreOfHead key entry.head more
+    → AreAddedInTurn entry.head.text (λ op. len_in t op) (nothing_said entry.head.text) more body
+    → AreMessagesOf key entry.head entry.body.items more)
+    → IsNextEntry key author t last said turn entry new
+next_entry key author t last said turn new body entry was puts own first before count reads =
     let some : 0 < length puts.more = let there = own.some in let many = puts.many in omega arith in
     let few = puts.have.few in
     let next = was.next in
+    let at : entry.head.first ≡ front_of t.admission.ops t.replica.site + length said + 1 =
+    omega (arith, length-append said puts.more) in
     record {
       more = puts.more;
       have = puts.have;
       made = record {
         own = own;
-        first = let at : entry.head.first ≡ front_of t.admission.ops t.replica.site + length said + 1 =
-            omega (arith, length-append said puts.more) in at;
+        first = at;
         after = before ∙ was.before;
         many = count ∙ puts.many;
+        says = λ can. reads puts.more can
+            (of_head key author t last new said puts.more puts.have entry.head own.author_is own.site_is at (before ∙ was.before)
+            (count ∙ puts.many))
+            (subst (λ (text : ℕ). AreAddedInTurn text (λ op. len_in t op) (nothing_said text) puts.more body) (sym own.text_is)
+            puts.added);
       };
       on = let past = puts.on in omega arith;
     }
@@ -380,7 +415,7 @@ pub record AreEntriesSoFar (key : List ℕ) (author : ℕ) (t : NoteText) (turn 
   pub counts : IsLastOfText t t.replica.site last
   pub said : List Saying
   pub have : HaveSaid key author t last turn said
-  pub parts : AreEntriesOf author t (front_of t.admission.ops t.replica.site + 1) last entries said
+  pub parts : AreEntriesOf key author t (front_of t.admission.ops t.replica.site + 1) last entries said
 
 pub entry_made : (key : List ℕ) (author : ℕ) (t : NoteText) (turn new : Turn) (entries : List OwnEntry) (entry : OwnEntry)
     (so : AreEntriesSoFar key author t turn entries) → IsNextEntry key author t so.last so.said turn entry new
@@ -393,8 +428,8 @@ entry_made key author t turn new entries entry so next =
       counts = so.counts;
       said = so.said ++ next.more;
       have = next.have;
-      parts = entries_more author t (front + 1) so.last entries so.said so.parts entry next.more
-          (subst (λ (n : ℕ). IsOwnEntryOf author t n (last_hash so.last so.said) entry next.more) same next.made);
+      parts = entries_more key author t (front + 1) so.last entries so.said so.parts entry next.more
+          (subst (λ (n : ℕ). IsOwnEntryOf key author t n (last_hash so.last so.said) entry next.more) same next.made);
     }
 
 pub all_made : (key : List ℕ) (author : ℕ) (t : NoteText) (turn : Turn) (entries : List OwnEntry)

@@ -12,6 +12,7 @@ use Rattle.note_laws.specs.Admission.{BuildsOn}
 use Rattle.note_laws.specs.Chains.{operations}
 use Rattle.note_admission.specs.Growing.{AreTaken, IsLastHash}
 use Rattle.note_hashes.specs.Hashes.{digest_of, said_by}
+use Rattle.note_bodies.specs.Bodies.{AreMessagesOf, AreSaidInTurn, CanHaveMessages}
 use Rattle.note.specs.Notes.{NoteSeen}
 use Rattle.note.specs.Texts.{NoteText}
 use Rattle.note.specs.declared.own_edit.OwnEdit.{OwnEdit}
@@ -88,12 +89,6 @@ abbrev pub last_hash : (before : ℕ) → List Saying → ℕ
 last_hash before [] = before
 last_hash before (s ∷ said) = last_hash s.hash said
 
--- an author says these messages, each after the one before it, the first after the message of this hash
-abbrev pub AreSaidInTurn : (key : List ℕ) → (author before : ℕ) → List Saying → Type 0
-AreSaidInTurn key author before [] = Unit {0}
-AreSaidInTurn key author before (s ∷ said) =
-    (s ≡ said_by key author before s.op s.on) × AreSaidInTurn key author s.hash said
-
 -- each says what it builds on, behind what is admitted and those before it
 abbrev pub BuildInTurn : (key : List ℕ) → NoteText → List Saying → Type 0
 BuildInTurn key t said =
@@ -101,19 +96,22 @@ BuildInTurn key t said =
     → AreTaken note entries t.admission admitted → (n : ℕ) (s : Saying) → slice_get said n ≡ Some s
     → BuildsOn note (admitted ++ take n said) s
 
--- an entry of these messages, of which the first has this seq, and comes after the message of this hash
-pub record IsOwnEntryOf (author : ℕ) (t : NoteText) (seq before : ℕ) (entry : OwnEntry) (said : List Saying) : Type 0 where
+-- an entry of these messages, of which the first has this seq, and comes after the message of this hash; if entries may have its
+-- head, its body is read as them
+pub record IsOwnEntryOf (key : List ℕ) (author : ℕ) (t : NoteText) (seq before : ℕ) (entry : OwnEntry) (said : List Saying)
+    : Type 0 where
   pub own : IsOwnEntry author t entry
   pub first : entry.head.first ≡ seq
   pub after : entry.head.before ≡ before
   pub many : entry.head.count ≡ length said
+  pub says : CanHaveMessages entry.head → AreMessagesOf key entry.head entry.body.items said
 
 -- entries of these messages, each of which begins where the one before it ends; the first begins with this seq, after this hash
-abbrev pub AreEntriesOf : (author : ℕ) → NoteText → (seq before : ℕ) → List OwnEntry → List Saying → Type 0
-AreEntriesOf author t seq before [] said = said ≡ []
-AreEntriesOf author t seq before (entry ∷ entries) said =
-    (own : List Saying) × (rest : List Saying) × (said ≡ own ++ rest) × IsOwnEntryOf author t seq before entry own
-    × AreEntriesOf author t (seq + length own) (last_hash before own) entries rest
+abbrev pub AreEntriesOf : (key : List ℕ) → (author : ℕ) → NoteText → (seq before : ℕ) → List OwnEntry → List Saying → Type 0
+AreEntriesOf key author t seq before [] said = said ≡ []
+AreEntriesOf key author t seq before (entry ∷ entries) said =
+    (own : List Saying) × (rest : List Saying) × (said ≡ own ++ rest) × IsOwnEntryOf key author t seq before entry own
+    × AreEntriesOf key author t (seq + length own) (last_hash before own) entries rest
 
 -- The entries say all of the site's own messages of a text that don't count yet, and nothing else: an author says them in turn,
 -- after the last one that counts.
@@ -125,4 +123,4 @@ pub record SayAllLeft (key : List ℕ) (author : ℕ) (t : NoteText) (entries : 
   pub counts : IsLastOfText t t.replica.site last
   pub in_turn : AreSaidInTurn key author last said
   pub build : BuildInTurn key t said
-  pub parts : AreEntriesOf author t (front_of t.admission.ops t.replica.site + 1) last entries said
+  pub parts : AreEntriesOf key author t (front_of t.admission.ops t.replica.site + 1) last entries said

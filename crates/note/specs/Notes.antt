@@ -31,6 +31,11 @@ pub record IsOfEntries (n : NoteSeen) (note : Note) (entries : Entries) : Type 0
 abbrev pub ShowsWhatCounts : NoteSeen → Type 0
 ShowsWhatCounts n = EachText (λ k t. IsUpToDate t) n.texts
 
+-- it is of these entries, and shows what counts of them
+pub record ShowsEntries (n : NoteSeen) (note : Note) (entries : Entries) : Type 0 where
+  pub of : IsOfEntries n note entries
+  pub shows : ShowsWhatCounts n
+
 -- no more entries came
 abbrev pub KeepsEntries : (old new : NoteSeen) → Type 0
 KeepsEntries old new = (note : Note) (entries : Entries) → IsOfEntries old note entries → IsOfEntries new note entries

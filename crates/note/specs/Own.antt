@@ -9,17 +9,22 @@ use Rattle.note_laws.specs.Note.{Note, Entries, Saying}
 use Rattle.note_laws.specs.Admission.{BuildsOn}
 use Rattle.note_laws.specs.Chains.{operations}
 use Rattle.note_hashes.specs.Hashes.{digest_of, said_by}
-use Rattle.note_bodies.specs.Writing.{Begun, CanBeAdded, added_on}
+use Rattle.note_bodies.specs.Bodies.{AreSaidInTurn}
+use Rattle.note_bodies.specs.Writing.{AreAddedInTurn, Begun, CanBeAdded, added_on, nothing_said}
 use Rattle.note_admission.specs.Continuing.{AreMentionedIn}
 use Rattle.note_admission.specs.Growing.{AreTaken}
 use Rattle.note.specs.Texts.{NoteText}
-use Rattle.note.specs.Editing.{AreNumberedOn, AreSaidInTurn, BuildInTurn, IsOwnEntryOf, is_own_left, last_hash}
+use Rattle.note.specs.Editing.{AreNumberedOn, BuildInTurn, IsOwnEntryOf, is_own_left, last_hash}
 use Rattle.note.specs.declared.own_entry.OwnEntry.{OwnEntry}
 use Rattle.note.specs.declared.own_entry.Turn.{Turn}
 
--- an operation that was taken in, with the length of its site's file before it
+-- how long the site's file is before an operation that was taken in
+abbrev pub len_in : NoteText → Operation → ℕ
+len_in t op = file_before t.replica.operations op.site op.seq
+
+-- an operation that was taken in, with that length
 abbrev pub placed_in : NoteText → Operation → Placed
-placed_in t op = placed op (file_before t.replica.operations op.site op.seq)
+placed_in t op = placed op (len_in t op)
 
 -- the messages that were put into entries so far: those of the own operations before this place
 pub record HaveSaid (key : List ℕ) (author : ℕ) (t : NoteText) (last : ℕ) (turn : Turn) (said : List Saying) : Type 0 where
@@ -45,6 +50,7 @@ pub record PutsSaying (key : List ℕ) (author : ℕ) (t : NoteText) (op : Opera
   pub place : new.place ≡ turn.place
   pub seq : new.seq ≡ min (op.seq + 1) (2 ^ 32 - 1)
   pub before : new.before ≡ (said_by key author turn.before op on).hash
+  pub room : CanBeAdded body (placed_in t op) on
   pub body_is : grown ≡ added_on body (placed_in t op) on
 
 -- it had no room there
@@ -60,6 +66,7 @@ pub record HasPut (key : List ℕ) (author : ℕ) (t : NoteText) (last : ℕ) (s
   pub more : List Saying
   pub have : HaveSaid key author t last new (said ++ more)
   pub many : body.count ≡ length more
+  pub added : AreAddedInTurn t.replica.text (λ op. len_in t op) (nothing_said t.replica.text) more body
   pub on : turn.place + length more ≤ new.place
   pub none : length more ≡ 0 → length t.replica.operations ≤ new.place
 
@@ -68,5 +75,5 @@ pub record IsNextEntry (key : List ℕ) (author : ℕ) (t : NoteText) (last : �
     (entry : OwnEntry) (new : Turn) : Type 0 where
   pub more : List Saying
   pub have : HaveSaid key author t last new (said ++ more)
-  pub made : IsOwnEntryOf author t (front_of t.admission.ops t.replica.site + length said + 1) (last_hash last said) entry more
+  pub made : IsOwnEntryOf key author t (front_of t.admission.ops t.replica.site + length said + 1) (last_hash last said) entry more
   pub on : turn.place < new.place

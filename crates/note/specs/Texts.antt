@@ -8,7 +8,7 @@ use Rattle.note_admission.specs.declared.text_admission.Unsettled.TheVariants.{N
 use Rattle.note_hashes.specs.Hashes.{digest_of}
 use Rattle.note_admission.specs.Growing.{AdmissionGrows, AreAdmitted, FollowsEntries, TextSeen}
 use Rattle.note_admission.specs.Standing.{AreChainsOf, ChainsSeen}
-use Rattle.note_replicas.specs.Following.{GoesOn, HasTakenJust, IsOfPlace}
+use Rattle.note_replicas.specs.Following.{Advances, HasTakenJust, IsOfPlace}
 
 -- What is seen of a text of a note: what is admitted of it, its replica, how many operations are known to be alike, and whether
 -- the replica was begun anew since its changes were asked for.
@@ -41,11 +41,11 @@ IsSameText old new = (new.admission.text ≡ old.admission.text) × IsOfPlace ol
 
 -- where its replica wasn't begun anew, that only took in more, and no change was told
 abbrev pub KeepsNoting : (old new : NoteText) → Type 0
-KeepsNoting old new = new.anew ≡ false → (old.anew ≡ false) × GoesOn old.replica new.replica
+KeepsNoting old new = new.anew ≡ false → (old.anew ≡ false) × Advances old.replica new.replica
 
 -- What changed since that was asked for, of a replica that wasn't begun anew since; all was told then.
-abbrev pub TellsChanges : (old : NoteText) → Option (List Change) → (new : NoteText) → Type 0
-TellsChanges old told new =
+abbrev pub ReportsChanges : (old : NoteText) → Option (List Change) → (new : NoteText) → Type 0
+ReportsChanges old told new =
     (new ≡ record old { replica = all_told old.replica; anew = false })
     × MatchOption told (old.anew ≡ true) (λ changes. (old.anew ≡ false) × TellsOfChanges old.replica changes)
 

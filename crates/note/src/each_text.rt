@@ -6,7 +6,7 @@ ghost use Rattle.looks.specs.Refusal.{RefusedForMemoryAlone};
 ghost use Rattle.note_laws.specs.Note.{Note, Entries, IsOfBase};
 ghost use Rattle.note_admission.specs.Growing.{AreAdmitted, IsOfLost, IsReplaced, StaysAdmitted};
 ghost use Rattle.note.specs.Notes.{AreNumberedTexts};
-ghost use Rattle.note.specs.Texts.{ArePairs, EachText, HasFollowed, HasAdmittedMore, IsSameText, IsUpToDate, NoteText as Seen, TellsChanges};
+ghost use Rattle.note.specs.Texts.{ArePairs, EachText, HasFollowed, HasAdmittedMore, IsSameText, IsUpToDate, NoteText as Seen, ReportsChanges};
 ghost use Rattle.note.specs.Editing.{FitsText, HasEditedText};
 
 use crate::note_text::NoteText;
@@ -61,7 +61,7 @@ pub(crate) fn changes(texts: &mut [NoteText], at: usize) -> Option<Vec<Change>>
     requires at { at < length texts.old }
     ensures len { length texts.new ≡ length texts.old }
     ensures others { (k : ℕ) (d : Seen) → k ≢ at → slice_index_or texts.new k d ≡ slice_index_or texts.old k d }
-    ensures own { (d : Seen) → TellsChanges (slice_index_or texts.old at d) (option_map (λ changes. changes.items) result)
+    ensures own { (d : Seen) → ReportsChanges (slice_index_or texts.old at d) (option_map (λ changes. changes.items) result)
         (slice_index_or texts.new at d) }
 {
     texts[at].changes()

@@ -3,15 +3,20 @@ ghost use Rattle.std.specs.Option.{option_map};
 ghost use Rattle.looks.specs.declared.refusal.Refusal.TheVariants as refusal;
 ghost use Rattle.looks.specs.Refusal.{RefusedForMemoryAlone};
 ghost use Rattle.note_laws.specs.Note.{Note as Definition, Entries, Saying as Said};
-ghost use Rattle.note_laws.specs.Laws.{IsBaseIdentified};
-ghost use Rattle.note_convergence.specs.Replicas.{TookWhatCounts};
+ghost use Rattle.note_laws.specs.Admission.{IsAdmission};
+ghost use Rattle.note_laws.specs.Chains.{operations};
+ghost use Rattle.note_laws.specs.Laws.{AddsNoLesser, AreSameEntries, IsBaseIdentified};
+ghost use Rattle.texts.specs.Laws.{AreTextsAlike};
+ghost use Rattle.texts.specs.TextState.{TextState, shown_of};
+ghost use Rattle.tree_order.specs.Shown.{IsShown};
+ghost use Rattle.note_convergence.specs.Replicas.{HasOnlyGained, TookWhatCounts};
 ghost use Rattle.note_entries.specs.Kept.{no_entries};
 ghost use Rattle.note_hashes.specs.Hashes.{digest_of};
 ghost use Rattle.note_admission.specs.Standing.{BeginsNote};
 ghost use Rattle.note_bodies.specs.Bodies.{AreMessagesOf};
 ghost use Rattle.note_bodies.specs.declared.messages.TheConstants.{TEXTS};
-ghost use Rattle.note.specs.Texts.{ArePairs, EachText, IsSameText, KeepsNoting, TellsChanges};
-ghost use Rattle.note.specs.Notes.{IsOfEntries, KeepsEntries, ShowsWhatCounts, TakesClaim, TakesEntry, TakesSaying, TakesSomeOf};
+ghost use Rattle.note.specs.Texts.{ArePairs, EachText, IsSameText, KeepsNoting, ReportsChanges};
+ghost use Rattle.note.specs.Notes.{IsOfEntries, KeepsEntries, ShowsEntries, ShowsWhatCounts, TakesClaim, TakesEntry, TakesSaying, TakesSomeOf};
 ghost use Rattle.note.specs.Texts.{NoteText as NoteTextSeen};
 ghost use Rattle.note.specs.Editing.{FitsText, HasEditedText, IsLastOfText, IsOtherwiseAsBefore, IsOwnEntry, IsSaidWell, SayAllLeft, numbered_text};
 
@@ -24,6 +29,9 @@ use list_changes::Change;
 use looks::Refusal;
 use note_admission::{NoteChains, Opening};
 use note_bodies::{Head, TEXTS, messages_of};
+use note_convergence::replicas::{
+    lemma_more_entries_only_add, lemma_the_same_entries_show_the_same, lemma_what_counts_is_shown,
+};
 use note_entries::{Claim, Hash, Saying};
 use note_hashes::NoteKey;
 use note_replicas::laws::lemma_what_was_admitted_was_taken;
@@ -42,7 +50,7 @@ pub struct Note {
 }
 
 impl Model for Note {
-    ghost use Rattle.note.specs.Texts.{ArePairs, EachText, IsSameText, KeepsNoting, TellsChanges};
+    ghost use Rattle.note.specs.Texts.{ArePairs, EachText, IsSameText, KeepsNoting, ReportsChanges};
     ghost use Rattle.note.specs.Notes.{AreNumberedTexts, NoteSeen};
 
     ghost Value = { NoteSeen };
@@ -64,6 +72,7 @@ impl Note {
     ) -> Result<Note, Refusal>
         ensures ok { IfOk result (λ n. (note : Definition) → note.digest ≡ digest_of key → BeginsNote opening note
             → note.base ≡ base.items → IsBaseIdentified note → IsOfEntries n note no_entries) }
+        ensures key { IfOk result (λ n. n.key ≡ key) }
         ensures shows { IfOk result (λ n. ShowsWhatCounts n) }
         ensures site { IfOk result (λ n. EachText (λ k t. t.replica.site ≡ site) n.texts) }
         ensures errors { RefusedForMemoryAlone result }
@@ -79,6 +88,7 @@ impl Note {
     /// it whole.
     pub fn update(&mut self) -> Result<(), Refusal>
         ensures keeps { KeepsEntries self.old self.new }
+        ensures key { self.new.key ≡ self.old.key }
         ensures place { ArePairs (λ was t. IsSameText was t) self.old.texts self.new.texts }
         ensures noting { ArePairs (λ was t. KeepsNoting was t) self.old.texts self.new.texts }
         ensures ok { OnOk result (ShowsWhatCounts self.new) }
@@ -176,7 +186,7 @@ impl Note {
     /// where a lesser hash came: then all that it showed gives way to what it shows. Own edits are among the changes.
     pub fn changes(&mut self, text: TextNo) -> Option<Vec<Change>>
         requires has { text ≤ TEXTS }
-        ensures own { (d : NoteTextSeen) → TellsChanges (numbered_text self.old text d) (option_map (λ changes. changes.items) result)
+        ensures own { (d : NoteTextSeen) → ReportsChanges (numbered_text self.old text d) (option_map (λ changes. changes.items) result)
             (numbered_text self.new text d) }
         ensures rest { IsOtherwiseAsBefore text self.old self.new }
         ensures keeps { KeepsEntries self.old self.new }
@@ -237,12 +247,24 @@ impl Note {
     pub fn text(&self, text: TextNo) -> Option<&Replica>
         ensures some { IfSome result (λ r. (note : Definition) (entries : Entries) → IsOfEntries self.now note entries
             → ShowsWhatCounts self.now → TookWhatCounts note entries r.now) }
+        ensures alike { IfSome result (λ r. (note : Definition) (entries others : Entries) (other : TextState)
+            → ShowsEntries self.now note entries → AreSameEntries entries others → r.now.text ≡ other.text
+            → TookWhatCounts note others other → AreTextsAlike r.now other) }
+        ensures defined { IfSome result (λ r. (note : Definition) (entries : Entries) (admitted : List Said)
+            → ShowsEntries self.now note entries → IsAdmission note entries r.now.text admitted
+            → IsShown (operations admitted) (shown_of r.now)) }
+        ensures gains { IfSome result (λ r. (note : Definition) (fewer entries : Entries) (was : TextState)
+            → ShowsEntries self.now note entries → AddsNoLesser fewer entries → was.text ≡ r.now.text
+            → TookWhatCounts note fewer was → HasOnlyGained was r.now) }
         ensures value { IfSome result (λ r. (d : NoteTextSeen) → (numbered_text self.now text d).replica ≡ r.now) }
         ensures here { IfSome result (λ r. option_map (λ t. t.replica) (slice_get self.now.texts (text - 1)) ≡ Just r.now) }
         ensures number { IfSome result (λ r. r.now.text ≡ text) }
         ensures none { IfNone result (TEXTS < text) }
     {
         lemma_what_was_admitted_was_taken();
+        lemma_the_same_entries_show_the_same();
+        lemma_what_counts_is_shown();
+        lemma_more_entries_only_add();
         let replica = self.texts[self.place(text)?].replica();
         replica.lemma_is_text();
         Some(replica)

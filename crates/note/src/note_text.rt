@@ -6,8 +6,8 @@ ghost use Rattle.looks.specs.declared.refusal.Refusal.TheVariants as refusal;
 ghost use Rattle.looks.specs.Refusal.{RefusedForMemoryAlone};
 ghost use Rattle.note_laws.specs.Note.{Note, Entries, IsOfBase};
 ghost use Rattle.note_admission.specs.Growing.{AreAdmitted, IsOfLost, IsReplaced, StaysAdmitted};
-ghost use Rattle.note_replicas.specs.Following.{GoesOn, HasTakenJust};
-ghost use Rattle.note.specs.Texts.{HasFollowed, HasAdmittedMore, IsSameText, IsUpToDate, TellsChanges};
+ghost use Rattle.note_replicas.specs.Following.{Advances, HasTakenJust};
+ghost use Rattle.note.specs.Texts.{HasFollowed, HasAdmittedMore, IsSameText, IsUpToDate, ReportsChanges};
 ghost use Rattle.note.specs.Editing.{FitsText, HasEditedText, IsLastOfText, IsSaidWell};
 
 use crate::own_edit::OwnEdit;
@@ -98,7 +98,7 @@ impl NoteText {
 
     // What changed of what the replica shows since this was asked for, or `None` where the replica was begun anew.
     pub(crate) fn changes(&mut self) -> Option<Vec<Change>>
-        ensures { TellsChanges self.old (option_map (λ changes. changes.items) result) self.new }
+        ensures { ReportsChanges self.old (option_map (λ changes. changes.items) result) self.new }
     {
         let changes = self.replica.changes();
         if replace(&mut self.anew, false) {
@@ -215,7 +215,7 @@ impl NoteText {
         ensures admission { self.new.admission ≡ self.old.admission }
         ensures same { IsSameText self.old self.new }
         ensures anew { self.new.anew ≡ self.old.anew }
-        ensures on { GoesOn self.old.replica self.new.replica }
+        ensures on { Advances self.old.replica self.new.replica }
         ensures errors { RefusedForMemoryAlone result }
     {
         let taken = take_rest(&mut self.replica, self.admission.log());

@@ -8,7 +8,7 @@ use Rattle.set_laws.specs.Verdict.{FollowsOn, IsNew}
 use Rattle.note_laws.specs.Note.{Note, Entries, Saying}
 use Rattle.note_laws.specs.Chains.{operations, ComesNext, HoldsItsPlace}
 use Rattle.note_laws.specs.Admission.{CountInTurn, Fate, IsAdmissible, MeetsFate}
-use Rattle.note_laws.specs.Laws.{AreReadyInTurn, AreToldApart, IsBaseIdentified}
+use Rattle.note_laws.specs.Laws.{AreAmong, AreReadyInTurn, AreToldApart, IsBaseIdentified, KeepsItsFate}
 use Rattle.note_admission.specs.declared.text_admission.Unsettled.{Unsettled}
 use Rattle.note_admission.specs.declared.text_admission.Unsettled.TheVariants.{Nothing, One, Any}
 use Rattle.note_admission.specs.Kept.{IsKeptOf, Kept}
@@ -66,6 +66,18 @@ abbrev pub IsHeadOfChain : Note → Entries → (text : ℕ) → List Saying →
 IsHeadOfChain note entries text admitted site hash fate =
     (s : Saying) × ComesNext note entries text admitted s × (s.op.site ≡ site) × (s.hash ≡ hash)
     × MeetsFate note admitted s fate
+
+-- whichever message of the number comes next has this hash, and this fate alone
+abbrev pub IsOnlyHead : Note → Entries → (text : ℕ) → List Saying → (site hash : ℕ) → Fate → Type 0
+IsOnlyHead note entries text admitted site hash fate =
+    (s : Saying) (other : Fate) → ComesNext note entries text admitted s → s.op.site ≡ site → MeetsFate note admitted s other
+    → (s.hash ≡ hash) × (other ≡ fate)
+
+-- what comes next and has this fate has it over each greater admission in which it keeps its place
+abbrev pub LastsWhereItKeepsItsPlace : Note → Entries → (text : ℕ) → List Saying → Fate → Type 0
+LastsWhereItKeepsItsPlace note entries text admitted fate =
+    (more : Entries) (greater : List Saying) (s : Saying) → AreToldApart more → CountInTurn note more text greater
+    → AreAmong admitted greater → KeepsItsFate note entries more text admitted greater s fate
 
 -- no message of this number is next
 abbrev pub HasNoNext : Note → Entries → (text : ℕ) → List Saying → (site : ℕ) → Type 0

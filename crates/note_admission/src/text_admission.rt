@@ -7,13 +7,13 @@ ghost use Rattle.operations.specs.Operation.{Operation};
 ghost use Rattle.set_laws.specs.Fronts.{IsHeld, front_of};
 ghost use Rattle.set_laws.specs.Verdict as verdict;
 ghost use Rattle.note_laws.specs.Note.{Note, Entries, IsOfBase, Saying as Said};
-ghost use Rattle.note_laws.specs.Admission.{BuildsOn, IsAdmission};
+ghost use Rattle.note_laws.specs.Admission.{BuildsOn, CountInTurn, IsAdmission, on_others, wrong};
 ghost use Rattle.note_laws.specs.Chains.{ComesNext};
-ghost use Rattle.note_laws.specs.Laws.{AreReadyInTurn};
+ghost use Rattle.note_laws.specs.Laws.{AreAmong, AreEqualAdmissions, AreReadyInTurn, AreToldApart, EndsOrWaits, IsBaseIdentified, KeepTheirPlaces};
 ghost use Rattle.note_admission.specs.Kept.{IsKeptOf};
 ghost use Rattle.note_admission.specs.Continuing.{AreMentionedIn};
 ghost use Rattle.note_admission.specs.Fates.{fate_of};
-ghost use Rattle.note_admission.specs.Growing.{AreAdmitted, AreOfNote, AreTaken, FollowsEntries, LogGoesOn, GoesOnOrAnew, HasNoNext, IsHashOf, IsHeadOfChain, IsLastHash, IsOfLost, IsReplaced, AdmissionGrows, IsNextOfNumber, MayCount, StaysAdmitted, TakesAllOfNumber, TakesNone, TakesOn};
+ghost use Rattle.note_admission.specs.Growing.{AreAdmitted, AreOfNote, AreTaken, FollowsEntries, LogGoesOn, GoesOnOrAnew, HasNoNext, IsHashOf, IsHeadOfChain, IsLastHash, IsOfLost, IsOnlyHead, IsReplaced, LastsWhereItKeepsItsPlace, AdmissionGrows, IsNextOfNumber, MayCount, StaysAdmitted, TakesAllOfNumber, TakesNone, TakesOn};
 ghost use Rattle.note_admission.specs.declared.text_admission.Unsettled.TheVariants.{Any, Nothing, One};
 
 use crate::admitted::Admitted;
@@ -23,6 +23,11 @@ use crate::fate::Fate;
 use char_files::{SiteNo, TextNo};
 use looks::Refusal;
 use note_entries::{Digest, Hash, Saying};
+use note_laws::admissions::{
+    lemma_a_chain_ends_or_waits, lemma_building_on_others_lasts, lemma_one_message_comes_next,
+    lemma_the_next_has_one_fate, lemma_there_is_one_admission, lemma_what_keeps_its_place_stays,
+    lemma_wrong_is_for_good,
+};
 use op_log::Log;
 use operations::Op;
 use std::alloc::Global;
@@ -186,11 +191,22 @@ impl TextAdmission {
         ensures some { IfOk result (λ head. IfSome head (λ h. (note : Note) (entries : Entries) (admitted : List Said)
             → AreOfNote note entries (D.digest digest.now) (C.are_of chains.now) → AreTaken note entries self.now admitted
             → IsHeadOfChain note entries self.now.text admitted site h.0 (fate_of h.1))) }
+        ensures only { IfOk result (λ head. IfSome head (λ h. (note : Note) (entries : Entries) (admitted : List Said)
+            → AreOfNote note entries (D.digest digest.now) (C.are_of chains.now) → AreTaken note entries self.now admitted
+            → IsOnlyHead note entries self.now.text admitted site h.0 (fate_of h.1))) }
+        ensures lasts { IfOk result (λ head. IfSome head (λ h. (fate_of h.1 ≡ wrong) ⊎ (fate_of h.1 ≡ on_others)
+            → (note : Note) (entries : Entries) (admitted : List Said)
+            → AreOfNote note entries (D.digest digest.now) (C.are_of chains.now) → AreTaken note entries self.now admitted
+            → LastsWhereItKeepsItsPlace note entries self.now.text admitted (fate_of h.1))) }
         ensures none { IfOk result (λ head. IfNone head ((note : Note) (entries : Entries) (admitted : List Said)
             → C.are_of chains.now note entries → AreTaken note entries self.now admitted
             → HasNoNext note entries self.now.text admitted site)) }
         ensures errors { RefusedForMemoryAlone result }
     {
+        lemma_one_message_comes_next();
+        lemma_the_next_has_one_fate();
+        lemma_wrong_is_for_good();
+        lemma_building_on_others_lasts();
         match self.next(chains, site)? {
             Some(saying) => {
                 let fate = self.admitted.fate(&self.log, digest, saying)?;
@@ -350,6 +366,15 @@ impl TextAdmission {
         ensures settled { OnOk result (self.new.unsettled ≡ Nothing) }
         ensures whole { OnOk result ((note : Note) (entries : Entries) (admitted : List Said)
             → AreAdmitted note entries self.new admitted → IsAdmission note entries self.new.text admitted) }
+        ensures only { OnOk result ((note : Note) (entries : Entries) (admitted other : List Said) → IsBaseIdentified note
+            → AreToldApart entries → AreAdmitted note entries self.new admitted
+            → IsAdmission note entries self.new.text other → AreEqualAdmissions other admitted) }
+        ensures stays { OnOk result ((note : Note) (fewer entries : Entries) (was admitted : List Said) → IsBaseIdentified note
+            → AreToldApart entries → CountInTurn note fewer self.new.text was → KeepTheirPlaces note entries was
+            → AreAdmitted note entries self.new admitted → AreAmong was admitted) }
+        ensures ends { OnOk result ((note : Note) (entries : Entries) (admitted : List Said) (s : Said)
+            → AreAdmitted note entries self.new admitted → ComesNext note entries self.new.text admitted s
+            → EndsOrWaits note admitted s) }
         ensures errors { RefusedForMemoryAlone result }
     {
         if let Unsettled::One(site) = &self.unsettled {
@@ -359,6 +384,9 @@ impl TextAdmission {
         while !self.is_settled() {
             self.ask_all(chains, digest)?;
         }
+        lemma_there_is_one_admission();
+        lemma_what_keeps_its_place_stays();
+        lemma_a_chain_ends_or_waits();
         Ok(())
     }
 

@@ -1,5 +1,5 @@
 -- The body of an entry of messages: what they build on, and the chunk of their operations.
-use Rattle.std.specs.Prelude.{◌≡◌, ℕ, Bool, zero, suc, ◌+◌, ◌<◌, ◌≤◌, ◌↔◌, nat_lt, nat_le, ◌&&◌, ◌==◌, if◌then◌else◌, List, [], ◌∷◌, length}
+use Rattle.std.specs.Prelude.{◌≡◌, ℕ, Bool, true, zero, suc, ◌+◌, ◌<◌, ◌≤◌, ◌↔◌, nat_lt, nat_le, ◌&&◌, ◌==◌, if◌then◌else◌, List, [], ◌∷◌, length, slice_get}
 use Rattle.std.specs.Prelude.{Option, Some, None, option_map}
 use Rattle.std.specs.Int.{w16}
 use Rattle.byte_fields.specs.Fields.{◌>>=◌, number_at, stretch_at}
@@ -74,3 +74,15 @@ pub record AreMessagesOf (key : List ℕ) (head : Head) (body : List ℕ) (sayin
   pub read : IsChunkOf head.text ps chunk
   pub many : length (operations_of ps) ≡ head.count
   pub said : said_in_turn key head ons 0 head.before (operations_of ps) ≡ Some sayings
+
+-- an author says these messages, each after the one before it, the first after the message of this hash
+abbrev pub AreSaidInTurn : (key : List ℕ) → (author before : ℕ) → List Saying → Type 0
+AreSaidInTurn key author before [] = Unit {0}
+AreSaidInTurn key author before (s ∷ said) =
+    (s ≡ said_by key author before s.op s.on) × AreSaidInTurn key author s.hash said
+
+-- the messages that an entry with this head has: its author says them in turn, each with its site and the seq of its index
+pub record AreOfHead (key : List ℕ) (head : Head) (said : List Saying) : Type 0 where
+  pub in_turn : AreSaidInTurn key head.author head.before said
+  pub numbered : (n : ℕ) (s : Saying) → slice_get said n ≡ Some s → is_of_head head n s.op ≡ true
+  pub many : length said ≡ head.count

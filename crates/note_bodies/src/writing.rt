@@ -1,11 +1,16 @@
 //! The body of an entry that is being written.
 
-ghost use Rattle.std.specs.Prelude.{◌≡◌, ◌++◌, IfOk, OnErr, OnOk, IsTrue, ◌↔◌, false, true};
+ghost use Rattle.std.specs.Prelude.{◌≡◌, ◌++◌, ℕ, All, IfOk, OnErr, OnOk, IsTrue, ◌↔◌, List, false, true};
 ghost use Rattle.std.specs.List.{flat_map};
 ghost use Rattle.looks.specs.Refusal.{RefusedForMemoryAlone};
 ghost use Rattle.byte_fields.specs.Fields.{Appends};
+ghost use Rattle.operations.specs.Operation.{Operation};
 ghost use Rattle.chunks.specs.Parts.{placed};
-ghost use Rattle.note_bodies.specs.Writing.{CanBeAdded, HasRoom, body_spelling, added_on, nothing_said, on_spelling};
+ghost use Rattle.note_laws.specs.Note.{Saying};
+ghost use Rattle.note_entries.specs.Bytes.{IsHash};
+ghost use Rattle.note_bodies.specs.declared.messages.Head.{Head};
+ghost use Rattle.note_bodies.specs.Bodies.{AreMessagesOf, AreOfHead, CanHaveMessages};
+ghost use Rattle.note_bodies.specs.Writing.{AreAddedInTurn, CanBeAdded, BodyHasRoom, body_spelling, added_on, nothing_said, on_spelling};
 
 use crate::ons::On;
 use byte_fields::put_u16;
@@ -42,7 +47,8 @@ impl Model for BodyWriter {
 
 // Puts what a message builds on, with its index.
 fn put_on(out: &mut Vec<u8>, on: &On) -> Result<(), AllocError>
-    ensures { Appends result out.old.items out.new.items (on_spelling on.now) }
+    ensures put { Appends result out.old.items out.new.items (on_spelling on.now) }
+    ensures hash { OnOk result (IsHash on.now.hash) }
 {
     put_u16(out, on.index)?;
     out.extend_from_slice(&on.hash.bytes())
@@ -50,7 +56,8 @@ fn put_on(out: &mut Vec<u8>, on: &On) -> Result<(), AllocError>
 
 // Puts all of these.
 fn put_ons(out: &mut Vec<u8>, ons: &[On]) -> Result<(), AllocError>
-    ensures { OnOk result (out.new.items ≡ out.old.items ++ flat_map on_spelling ons.now) }
+    ensures put { OnOk result (out.new.items ≡ out.old.items ++ flat_map on_spelling ons.now) }
+    ensures hashes { OnOk result (All (λ on. IsHash on.hash) ons.now) }
 {
     for on in ons {
         put_on(out, on)?;
@@ -80,7 +87,7 @@ impl BodyWriter {
 
     // Whether a message that says this, or nothing, has room beside those that are there, but for its chunk's.
     fn has_room(&self, on: &Option<Hash>) -> bool
-        ensures { IsTrue result ↔ HasRoom self.now on.now }
+        ensures { IsTrue result ↔ BodyHasRoom self.now on.now }
     {
         self.count < u16::MAX && (on.is_none() || self.ons.len() < MAX_ONS)
     }
@@ -113,9 +120,12 @@ impl BodyWriter {
         Ok(true)
     }
 
-    /// The body. Refused `OutOfMemory` alone.
+    /// The body, which is read as the messages that were added. Refused `OutOfMemory` alone.
     pub fn finish(&self, alloc: Global) -> Result<Vec<u8>, Refusal>
         ensures ok { IfOk result (λ body. body.items ≡ body_spelling self.now.ons self.now.chunk.bytes) }
+        ensures messages { IfOk result (λ body. (key : List ℕ) (head : Head) (len : Operation → ℕ) (said : List Saying)
+            → CanHaveMessages head → AreOfHead key head said
+            → AreAddedInTurn head.text len (nothing_said head.text) said self.now → AreMessagesOf key head body.items said) }
         ensures errors { RefusedForMemoryAlone result }
     {
         let mut body = Vec::new(alloc);

@@ -28,7 +28,7 @@ use tree_order::laws::lemma_only_the_set_counts;
 
 /// A law: two who have the same entries show the same text, the same characters with the same looks at each position;
 /// in whatever order the entries came, and in whatever order what counts was taken in.
-pub fn the_same_entries_show_the_same()
+pub fn lemma_the_same_entries_show_the_same()
     ensures { (note : Note) (entries others : Entries) (t u : TextState) → IsBaseIdentified note
         → AreToldApart entries → AreSameEntries entries others → t.text ≡ u.text → TookWhatCounts note entries t
         → TookWhatCounts note others u → AreTextsAlike t u }
@@ -38,7 +38,7 @@ pub fn the_same_entries_show_the_same()
 }
 
 /// A law: what such a text shows is what the definition gives of what is admitted.
-pub fn what_counts_is_shown()
+pub fn lemma_what_counts_is_shown()
     ensures { (note : Note) (entries : Entries) (t : TextState) (admitted : List Saying) → IsBaseIdentified note
         → AreToldApart entries → TookWhatCounts note entries t → IsAdmission note entries t.text admitted
         → IsShown (operations admitted) (shown_of t) }
@@ -50,7 +50,7 @@ pub fn what_counts_is_shown()
 
 /// A law: with more entries, of which none has a lesser rank or hash, such a text only grows: it keeps its operations,
 /// and its characters keep their order.
-pub fn more_entries_only_add()
+pub fn lemma_more_entries_only_add()
     ensures { (note : Note) (entries more : Entries) (t u : TextState) → IsBaseIdentified note → AreToldApart more
         → AddsNoLesser entries more → t.text ≡ u.text → TookWhatCounts note entries t → TookWhatCounts note more u
         → HasOnlyGained t u }

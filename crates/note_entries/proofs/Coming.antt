@@ -1,5 +1,5 @@
 -- One entry more, and what is kept of them all.
-use Rattle.std.proofs.Common.{◌≡◌, ℕ, ◌<◌, ◌≤◌, ◌↔◌, inl, inr, List, [], ◌∷◌, ◌++◌, Contains, refl, sym, ap, subst, ◌∙◌, arith}
+use Rattle.std.proofs.Common.{◌≡◌, ℕ, ◌<◌, ◌≤◌, ◌↔◌, inl, inr, List, [], ◌∷◌, ◌++◌, Contains, refl, sym, subst, ◌∙◌, arith}
 use Rattle.std.specs.Prelude.{Result, Ok, Err, IfOk, OnOk}
 use Rattle.std.proofs.lemmas.Bool.{cases_eq}
 use Rattle.std.proofs.lemmas.List.Elements.{Contains-append_left, Contains-push}
@@ -14,7 +14,7 @@ use Rattle.note_entries.specs.declared.holders.Claimed.TheVariants as claimed
 use Rattle.note_entries.specs.Branches.{Says, IsPutSaying}
 use Rattle.note_entries.specs.Claims.{Claims, IsPutClaim}
 use Rattle.note_entries.specs.Kept.{AreKeptOf, no_entries, with_claim, with_saying}
-use Rattle.note_entries.proofs.Least.{AreLeast, IsLeast, Ranked, least_with, of_none, still_least}
+use Rattle.note_entries.proofs.Least.{AreLeast, Ranked, least_with, of_none, still_least}
 
 -- claims of one number
 abbrev pub AreOfOne : Claim → Claim → Type 0

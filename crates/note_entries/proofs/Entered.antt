@@ -1,5 +1,5 @@
 -- A map whose values stand under keys of their own: what a look-up finds, and one value more.
-use Rattle.std.proofs.Common.{◌≡◌, ◌≢◌, ℕ, ◌<◌, ◌⊎◌, ◌↔◌, inl, inr, Bool, true, false, cond, List, length, Contains, get_or}
+use Rattle.std.proofs.Common.{◌≡◌, ◌≢◌, ◌<◌, ◌⊎◌, ◌↔◌, inl, inr, Bool, true, false, cond, List, length, Contains, get_or}
 use Rattle.std.proofs.Common.{Option, Some, None, Bor, refl, sym, ap, subst, ◌∙◌, arith}
 use Rattle.std.specs.Prelude.{IfSome, IfNone}
 use Rattle.std.specs.Option.{option_copied}
@@ -75,10 +75,9 @@ module _ {K X : Type 0} (eq : K → K → Bool) (laws : IsEquivalence eq) (exact
     | inr none ↦ none
   ]
 
-  module _ (old new : List (K × X)) (s : X) (are : StandUnderKeys eq key_of old) (distinct : IsDistinct eq (keys_of new))
-      (put : IsPutIn old s new) where
+  module _ (old new : List (K × X)) (s : X) (put : IsPutIn old s new) where
     -- an entry is the new one, or was there, under another key
-    which : (k : K) (x : X) → lookup (eq k) new ≡ Some x
+    pub which : (k : K) (x : X) → lookup (eq k) new ≡ Some x
         → ((key_of s ≡ k) × (x ≡ s)) ⊎ ((key_of s ≢ k) × (lookup (eq k) old ≡ Some x))
     which k x at = elim (cases_Bool (eq (key_of s) k)) [
       | inl is ↦
@@ -90,9 +89,18 @@ module _ {K X : Type 0} (eq : K → K → Bool) (laws : IsEquivalence eq) (exact
       )
     ]
 
+    -- the new one is found, and so is each other
+    pub finds_new : lookup (eq (key_of s)) new ≡ Some s
+    finds_new = put (key_of s) ∙ cond-true _ _ _ (laws.refl (key_of s))
+
+    pub finds_old : (k : K) → key_of s ≢ k → lookup (eq k) new ≡ lookup (eq k) old
+    finds_old k apart = put k ∙ cond-false _ _ _ (not_same (key_of s) k apart)
+
+  module _ (old new : List (K × X)) (s : X) (are : StandUnderKeys eq key_of old) (distinct : IsDistinct eq (keys_of new))
+      (put : IsPutIn old s new) where
     pub keyed_with : StandUnderKeys eq key_of new
     keyed_with = record {
-      keyed = λ k x held. elim (which k x (lookup-from_Contains laws k x new distinct held)) [
+      keyed = λ k x held. elim (which old new s put k x (lookup-from_Contains laws k x new distinct held)) [
         | inl is ↦ sym is.0 ∙ ap key_of (sym is.1)
         | inr was ↦ (found old are k x was.1).1
       ];
@@ -102,17 +110,16 @@ module _ {K X : Type 0} (eq : K → K → Bool) (laws : IsEquivalence eq) (exact
     pub values_with : (x : X) → Contains (values_of new) x
         ↔ (Contains (values_of old) x × (key_of s ≢ key_of x)) ⊎ (x ≡ s)
     values_with x = (
-      λ held. elim (which (key_of x) x (finds new keyed_with x held)) [
+      λ held. elim (which old new s put (key_of x) x (finds new keyed_with x held)) [
         | inl is ↦ inr is.1
         | inr was ↦ inl ((found old are (key_of x) x was.1).0, was.0)
       ],
       λ h. elim h [
         | inl was ↦
             let at : lookup (eq (key_of x)) new ≡ Some x =
-            put (key_of x) ∙ (cond-false _ _ _ (not_same _ _ was.1) ∙ finds old are x was.0) in
+            finds_old old new s put (key_of x) was.1 ∙ finds old are x was.0 in
             (found new keyed_with (key_of x) x at).0
         | inr is ↦
-            let at : lookup (eq (key_of s)) new ≡ Some s = put (key_of s) ∙ cond-true _ _ _ (laws.refl (key_of s)) in
-            subst (Contains (values_of new)) (sym is) (found new keyed_with (key_of s) s at).0
+            subst (Contains (values_of new)) (sym is) (found new keyed_with (key_of s) s (finds_new old new s put)).0
       ],
     )

@@ -1,9 +1,9 @@
 -- One entry more, and who holds his place still.
-use Rattle.std.proofs.Common.{◌≡◌, ℕ, ◌<◌, ◌≤◌, inl, inr, List, [], ◌∷◌, ◌++◌, Contains, sym, ap, subst, ◌∙◌, arith}
+use Rattle.std.proofs.Common.{◌≡◌, ◌<◌, ◌≤◌, inl, inr, List, [], ◌∷◌, ◌++◌, Contains, sym, ap, subst, ◌∙◌, arith}
 use Rattle.std.specs.Prelude.{Result, Ok, Err, IfOk}
 use Rattle.std.proofs.lemmas.Bool.{cases_eq}
 use Rattle.std.proofs.lemmas.List.Elements.{Contains-append_left, Contains-push, Contains-push_cases}
-use Rattle.note_laws.specs.Note.{Note, Entries, Saying, Claim, IsHolder, IsLeastClaim}
+use Rattle.note_laws.specs.Note.{Note, Entries, Saying, Claim, IsLeastClaim}
 use Rattle.note_laws.specs.Chains.{AreBranches, HoldsItsPlace, IsLeastBranch}
 use Rattle.note_laws.specs.Laws.{AreToldApart}
 use Rattle.note_entries.specs.declared.branches.Said.{Said}

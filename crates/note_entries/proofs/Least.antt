@@ -8,7 +8,7 @@ pub of_none : {X : Type 0} (x : X) → Contains [] x → ⊥
 of_none x (k, lt, at) = omega arith
 
 -- the first, or one after it
-of_more : {X : Type 0} (y : X) (ys : List X) (x : X) → Contains (y ∷ ys) x → (y ≡ x) ⊎ Contains ys x
+pub of_more : {X : Type 0} (y : X) (ys : List X) (x : X) → Contains (y ∷ ys) x → (y ≡ x) ⊎ Contains ys x
 of_more y ys x held = elim (Contains-append_cases (y ∷ []) ys x held) [
   | inl first ↦ elim (Contains-push_cases [] y x first) [
     | inl none ↦ absurd (of_none x none)

@@ -1,5 +1,7 @@
 pub mod Coming
 pub mod Entered
+pub mod HashBytes
 pub mod Holding
 pub mod Least
 pub mod Places
+pub mod Standing

@@ -1,5 +1,5 @@
 -- Places in a chain, and when two are one.
-use Rattle.std.proofs.Common.{◌≡◌, ◌≢◌, ◌⊎◌, ◌↔◌, inl, inr, List, Contains, ℕ, ◌/◌, ◌%◌, ◌^◌, ◌&&◌, nat_eq, true, sym, ap, arith, eqb-true}
+use Rattle.std.proofs.Common.{◌≡◌, ◌≢◌, ◌⊎◌, ◌↔◌, inl, inr, List, Contains, ℕ, ◌/◌, ◌%◌, ◌^◌, ◌&&◌, nat_eq, true, ap, arith, eqb-true}
 use Rattle.std.specs.Cmp.{IsEquivalence, nat_eq_equiv}
 use Rattle.std.proofs.lemmas.Bool.{and_from, and_parts}
 use Rattle.note_laws.specs.Note.{Saying}

@@ -1,5 +1,5 @@
 -- A note's entries as they come, and those that are kept of them.
-use Rattle.std.specs.Prelude.{ℕ, ◌↔◌, List, [], ◌∷◌, ◌++◌, Contains}
+use Rattle.std.specs.Prelude.{◌↔◌, [], ◌∷◌, ◌++◌, Contains}
 use Rattle.note_laws.specs.Note.{Entries, Saying, Claim, IsLeastClaim}
 use Rattle.note_laws.specs.Chains.{IsLeastBranch}
 

@@ -3,3 +3,4 @@ pub mod Bytes
 pub mod Claims
 pub mod Keyed
 pub mod Kept
+pub mod Rows

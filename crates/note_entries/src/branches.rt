@@ -3,11 +3,13 @@
 ghost use Rattle.std.specs.Prelude.{◌≡◌, [], Contains, IfNone, IfOk, IfSome, OnErr, OnOk};
 ghost use Rattle.looks.specs.Refusal.{RefusedForMemoryAlone};
 ghost use Rattle.note_laws.specs.Note.{Saying as Message};
-ghost use Rattle.note_entries.specs.Branches.{IsPutSaying, Says, StandsBeside, StandsInPlace, place_in_chain};
+ghost use Rattle.std.specs.Map.{values_of};
+ghost use Rattle.note_entries.specs.Branches.{IsPutSaying, Says, StandsBeside, StandsInPlace, is_same_place, place_in_chain};
+ghost use Rattle.note_entries.specs.Keyed.{StandUnderKeys};
 
-use crate::hash::Hash;
+use crate::place::Place;
+use crate::rows::Rows;
 use crate::saying::Saying;
-use char_files::{SiteNo, TextNo};
 use indexmap::IndexMap;
 use looks::Refusal;
 use std::alloc::Global;
@@ -26,54 +28,6 @@ pub enum Said {
     Lesser,
 }
 
-/// Where in a chain a message stands: messages of one place follow the same one.
-#[derive(Clone, Copy, Debug, PartialEq, Eq, Hash)]
-pub struct Place {
-    pub author: Hash,
-    pub text: TextNo,
-    pub site: SiteNo,
-    pub seq: u32,
-    /// The hash of the message before it, zeros for the first.
-    pub before: Hash,
-}
-
-impl Model for Place {
-    ghost use Rattle.note_entries.specs.Branches.{Place as InChain};
-
-    ghost Value = { InChain };
-
-    ghost view = { λ p. record {
-      author = p.author;
-      text = p.text;
-      site = p.site;
-      seq = p.seq;
-      before = p.before;
-    } };
-
-    ghost inverse = { λ p. record {
-      author = p.author;
-      text = p.text;
-      site = p.site;
-      seq = p.seq;
-      before = p.before;
-    } };
-}
-
-impl Place {
-    /// Where a message stands.
-    pub fn of(saying: &Saying) -> Place
-        ensures { result ≡ place_in_chain saying.now }
-    {
-        Place {
-            author: saying.author,
-            text: saying.op.text(),
-            site: saying.op.site(),
-            seq: saying.op.seq(),
-            before: saying.before,
-        }
-    }
-}
-
 // How a message stands to the one that is kept in its place.
 fn stand(kept: &Saying, saying: &Saying) -> Said
     ensures { StandsBeside kept.now saying.now result }
@@ -87,24 +41,37 @@ fn stand(kept: &Saying, saying: &Saying) -> Said
     Said::Lesser
 }
 
+// Puts a message in its place, by which it is found. Refused `OutOfMemory` alone, and then all is as before.
+fn put_aside(aside: &mut IndexMap<Place, Saying>, saying: Saying) -> Result<(), Refusal>
+    requires { StandUnderKeys is_same_place place_in_chain aside.old.entries }
+    ensures keyed { StandUnderKeys is_same_place place_in_chain aside.new.entries }
+    ensures ok { OnOk result (IsPutSaying (values_of aside.old.entries) saying (values_of aside.new.entries)) }
+    ensures errors { RefusedForMemoryAlone result }
+    ensures err { OnErr result (aside.new.entries ≡ aside.old.entries) }
+{
+    aside.insert(Place::of(&saying), saying)?;
+    Ok(())
+}
+
 // Of each place the message of least hash.
 #[derive(Drop)]
 pub(crate) struct Branches {
-    said: IndexMap<Place, Saying>,
+    rows: Rows,
+    // Those that stand in no row.
+    aside: IndexMap<Place, Saying>,
 }
 
 impl Model for Branches {
-    ghost use Rattle.std.specs.Prelude.{List};
+    ghost use Rattle.std.specs.Prelude.{◌++◌, List};
     ghost use Rattle.std.specs.Map.{values_of};
     ghost use Rattle.note_laws.specs.Note.{Saying as Message};
-    ghost use Rattle.note_entries.specs.Branches.{is_same_place, place_in_chain};
-    ghost use Rattle.note_entries.specs.Keyed.{StandUnderKeys};
+    ghost use Rattle.note_entries.specs.Rows.{StandApart};
 
     ghost Value = { List Message };
 
-    ghost view = { λ b. values_of b.said.entries };
+    ghost view = { λ b. b.rows ++ values_of b.aside.entries };
 
-    ghost invariant = { λ b. StandUnderKeys is_same_place place_in_chain b.said.entries };
+    ghost invariant = { λ b. StandApart b.rows b.aside.entries };
 }
 
 impl Branches {
@@ -113,7 +80,8 @@ impl Branches {
         ensures { result ≡ [] }
     {
         Branches {
-            said: IndexMap::new(alloc),
+            rows: Rows::new(alloc),
+            aside: IndexMap::new(alloc),
         }
     }
 
@@ -122,7 +90,10 @@ impl Branches {
         ensures some { IfSome result (λ s. Contains self.now s.now × (place_in_chain s.now ≡ place)) }
         ensures none { IfNone result ((s : Message) → Contains self.now s → ¬ (place_in_chain s ≡ place)) }
     {
-        self.said.get(&place)
+        match self.rows.at(place) {
+            Some(kept) => Some(kept),
+            None => self.aside.get(&place),
+        }
     }
 
     // The message is its place's. Refused `OutOfMemory` alone, and then all is as before.
@@ -131,8 +102,14 @@ impl Branches {
         ensures errors { RefusedForMemoryAlone result }
         ensures err { OnErr result (self.new ≡ self.old) }
     {
-        self.said.insert(Place::of(&saying), saying)?;
-        Ok(())
+        let place = Place::of(&saying);
+        if self.aside.contains_key(&place) {
+            return put_aside(&mut self.aside, saying);
+        }
+        match self.rows.put(saying)? {
+            Some(saying) => put_aside(&mut self.aside, saying),
+            None => Ok(()),
+        }
     }
 
     // How the message stands to the one that is kept in its place.

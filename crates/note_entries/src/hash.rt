@@ -1,5 +1,5 @@
 ghost use Rattle.std.specs.Prelude.{◌≡◌, ℕ, ◌+◌, ◌*◌, ◌^◌, ◌<◌};
-ghost use Rattle.note_entries.specs.Bytes.{hash_bytes, hash_of};
+ghost use Rattle.note_entries.specs.Bytes.{IsHash, hash_bytes, hash_of};
 
 use std::marker::Model;
 
@@ -17,7 +17,7 @@ impl Model for Hash {
 
     ghost view = { λ h. h.high * 2 ^ 128 + h.low };
 
-    ghost invariant = { λ h. h.low < 2 ^ 128 };
+    ghost invariant = { λ h. (h.high < 2 ^ 128) × (h.low < 2 ^ 128) };
 
     ghost inverse = { λ n. record { high = n / 2 ^ 128; low = n % 2 ^ 128 } };
 }
@@ -45,7 +45,8 @@ impl Hash {
 
     /// Its bytes.
     pub fn bytes(self) -> [u8; 32]
-        ensures { result ≡ hash_bytes self }
+        ensures value { result ≡ hash_bytes self }
+        ensures back { IsHash self }
     {
         let mut bytes = [0; 32];
         bytes[..16].copy_from_slice(&self.high.to_be_bytes());

@@ -7,10 +7,11 @@ ghost use Rattle.note_entries.specs.Branches.{Says, TakesPlaceOf, place_in_chain
 ghost use Rattle.note_entries.specs.Claims.{Claims, IsClaimant, IsUnclaimed, TakesNumberOf};
 ghost use Rattle.note_entries.specs.Kept.{AreKeptOf, no_entries, with_claim, with_saying};
 
-use crate::branches::{Branches, Place, Said};
+use crate::branches::{Branches, Said};
 use crate::claim::Claim;
 use crate::hash::Hash;
 use crate::holders::{Claimed, Holders};
+use crate::place::Place;
 use crate::saying::Saying;
 use char_files::{SiteNo, TextNo};
 use looks::Refusal;

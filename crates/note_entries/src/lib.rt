@@ -8,6 +8,8 @@ mod digest;
 mod hash;
 mod holders;
 mod kept_entries;
+mod place;
+mod rows;
 mod saying;
 
 pub use branches::Said;

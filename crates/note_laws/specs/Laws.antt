@@ -78,11 +78,11 @@ pub record HasOneFate (note : Note) (admitted : List Saying) (s : Saying) : Type
   pub is : MeetsFate note admitted s fate
   pub only : (other : Fate) → MeetsFate note admitted s other → other ≡ fate
 
--- there is an admission, and all others are alike
+-- there is an admission, and any two are alike
 pub record HasOneAdmission (note : Note) (entries : Entries) (text : ℕ) : Type 0 where
   pub admission : List Saying
   pub is : IsAdmission note entries text admission
-  pub only : (other : List Saying) → IsAdmission note entries text other → AreEqualAdmissions other admission
+  pub only : (a b : List Saying) → IsAdmission note entries text a → IsAdmission note entries text b → AreEqualAdmissions a b
 
 -- what comes next over the first, and keeps its place, comes next over the second, and has that fate there too
 abbrev pub KeepsItsFate : Note → Entries → Entries → ℕ → List Saying → List Saying → Saying → Fate → Type 0

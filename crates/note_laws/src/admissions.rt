@@ -1,7 +1,7 @@
-ghost use Rattle.std.specs.Prelude.{ℕ, List, [], ◌∷◌, ◌++◌};
+ghost use Rattle.std.specs.Prelude.{ℕ, List};
 ghost use Rattle.note_laws.specs.Note.{Note, Entries, Saying};
 ghost use Rattle.note_laws.specs.Chains.{ComesNext};
-ghost use Rattle.note_laws.specs.Admission.{CountInTurn, IsAdmissible, IsAdmission, on_others, wrong};
+ghost use Rattle.note_laws.specs.Admission.{CountInTurn, IsAdmission, on_others, wrong};
 ghost use Rattle.note_laws.specs.Laws.{AddsNoLesser, AreEqualAdmissions, AreAmong, AreSameEntries, AreToldApart};
 ghost use Rattle.note_laws.specs.Laws.{CountAsGoodSet, EndsOrWaits, HasOneAdmission, HasOneFate, HasOneNext};
 ghost use Rattle.note_laws.specs.Laws.{IsBaseIdentified, KeepTheirPlaces, KeepsItsFate};
@@ -18,8 +18,8 @@ pub fn the_entries_determine_the_admission()
     lemma_only_the_set_counts();
 }
 
-/// A law: there is an admission of each text, and all others are of the same messages and show the same.
-pub fn there_is_one_admission()
+/// A law: there is an admission of each text, and any two are of the same messages and show the same.
+pub fn lemma_there_is_one_admission()
     ensures { (note : Note) (entries : Entries) (text : ℕ) → IsBaseIdentified note → AreToldApart entries
         → HasOneAdmission note entries text }
 {
@@ -32,22 +32,8 @@ pub fn lemma_what_counts_is_good()
         → CountInTurn note entries text admitted → CountAsGoodSet admitted }
 {}
 
-/// A law: with each message that counts over them, messages that count in turn go on doing so.
-pub fn messages_that_count_come_in()
-    ensures { (note : Note) (entries : Entries) (text : ℕ) (admitted : List Saying) (s : Saying)
-        → CountInTurn note entries text admitted → IsAdmissible note entries text admitted s
-        → CountInTurn note entries text (admitted ++ s ∷ []) }
-{}
-
-/// A law: messages that count in turn do so with other entries, too, in which each of them keeps its place.
-pub fn what_keeps_its_place_counts()
-    ensures { (note : Note) (entries more : Entries) (text : ℕ) (admitted : List Saying)
-        → CountInTurn note entries text admitted → KeepTheirPlaces note more admitted
-        → CountInTurn note more text admitted }
-{}
-
 /// A law: what was admitted is admitted of other entries, too, in which each message of it keeps its place.
-pub fn what_keeps_its_place_stays()
+pub fn lemma_what_keeps_its_place_stays()
     ensures { (note : Note) (entries more : Entries) (text : ℕ) (a b : List Saying) → IsBaseIdentified note
         → AreToldApart more → CountInTurn note entries text a → KeepTheirPlaces note more a
         → IsAdmission note more text b → AreAmong a b }
@@ -61,13 +47,13 @@ pub fn more_entries_take_nothing_away()
 {}
 
 /// A law: over messages that count in turn one message of each number comes next.
-pub fn one_message_comes_next()
+pub fn lemma_one_message_comes_next()
     ensures { (note : Note) (entries : Entries) (text : ℕ) (admitted : List Saying) → IsBaseIdentified note
         → AreToldApart entries → CountInTurn note entries text admitted → HasOneNext note entries text admitted }
 {}
 
 /// A law: over messages that count in turn the next message of a chain has one fate.
-pub fn the_next_has_one_fate()
+pub fn lemma_the_next_has_one_fate()
     ensures { (note : Note) (entries : Entries) (text : ℕ) (admitted : List Saying) (s : Saying)
         → CountInTurn note entries text admitted → ComesNext note entries text admitted s
         → HasOneFate note admitted s }
@@ -75,21 +61,21 @@ pub fn the_next_has_one_fate()
 
 /// A law: a chain that keeps its places is admitted, where what it builds on is, up to its first message that is wrong
 /// or whose stamp is held back.
-pub fn a_chain_ends_or_waits()
+pub fn lemma_a_chain_ends_or_waits()
     ensures { (note : Note) (entries : Entries) (text : ℕ) (admitted : List Saying) (s : Saying)
         → IsAdmission note entries text admitted → ComesNext note entries text admitted s
         → EndsOrWaits note admitted s }
 {}
 
 /// A law: a message that is wrong where it comes next is so over each greater admission in which it keeps its place.
-pub fn wrong_is_for_good()
+pub fn lemma_wrong_is_for_good()
     ensures { (note : Note) (entries more : Entries) (text : ℕ) (a b : List Saying) (s : Saying)
         → IsBaseIdentified note → AreToldApart more → CountInTurn note entries text a
         → CountInTurn note more text b → AreAmong a b → KeepsItsFate note entries more text a b s wrong }
 {}
 
 /// A law: so does one that builds on others.
-pub fn building_on_others_lasts()
+pub fn lemma_building_on_others_lasts()
     ensures { (note : Note) (entries more : Entries) (text : ℕ) (a b : List Saying) (s : Saying)
         → IsBaseIdentified note → AreToldApart more → CountInTurn note entries text a
         → CountInTurn note more text b → AreAmong a b → KeepsItsFate note entries more text a b s on_others }

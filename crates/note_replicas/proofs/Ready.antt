@@ -15,7 +15,7 @@ use Rattle.texts.specs.declared.fate.Fate.{Fate}
 use Rattle.texts.specs.declared.fate.Fate.TheVariants.{Wait, Ready}
 use Rattle.texts.specs.declared.took.Took.{Took}
 use Rattle.convergence.proofs.Fates.{same_fate}
-use Rattle.note_replicas.specs.Following.{GoesOn, HasTakenJust, IsOfPlace}
+use Rattle.note_replicas.specs.Following.{Advances, HasTakenJust, IsOfPlace}
 
 -- a list with an element in it isn't empty
 not_empty : (before after : List Operation) (op : Operation) → [] ≢ before ++ op ∷ after
@@ -37,7 +37,7 @@ same_err : (a b : Refusal) → ◌≡◌ {A = Result Took Refusal} (Err a) (Err 
 same_err a b e = cc
 
 -- what stays as it is goes on
-pub on_itself : (t new : TextState) → new ≡ t → GoesOn t new
+pub on_itself : (t new : TextState) → new ≡ t → Advances t new
 on_itself t new same = record {
   more = [];
   taken = ap (λ (u : TextState). u.operations) same ∙ sym (append-nil t.operations);
@@ -45,7 +45,7 @@ on_itself t new same = record {
 }
 
 -- what goes on twice goes on
-pub on_then : (t u v : TextState) → GoesOn t u → GoesOn u v → GoesOn t v
+pub on_then : (t u v : TextState) → Advances t u → Advances u v → Advances t v
 on_then t u v first next = record {
   more = first.more ++ next.more;
   taken = next.taken ∙ ap (λ (ops : List Operation). ops ++ next.more) first.taken
@@ -63,7 +63,7 @@ module _ (t new : TextState) (op : Operation) (is : IsText t) (judged : IsJudged
 
   -- it was taken in
   taken : (stopped : Bool) (result : Result Took Refusal) → TakesIn t op stopped result new
-      → HasTakenJust new (t.operations ++ op ∷ []) × IsOfPlace t new × GoesOn t new
+      → HasTakenJust new (t.operations ++ op ∷ []) × IsOfPlace t new × Advances t new
   taken stopped result (with_op, drained, dropped, has, drains, answer) =
       let grown = has.grown in
       let same : new ≡ with_op = drains_nothing (ap (λ (u : TextState). u.waiting_room) grown ∙ none) drains in
@@ -75,7 +75,7 @@ module _ (t new : TextState) (op : Operation) (is : IsText t) (judged : IsJudged
 
   -- an answer says that it was taken in
   pub taken_in : (took : Took) → (TakesOp t op (Ok took) new ⊎ TakesOpShort t op (Ok took) new)
-      → HasTakenJust new (t.operations ++ op ∷ []) × IsOfPlace t new × GoesOn t new
+      → HasTakenJust new (t.operations ++ op ∷ []) × IsOfPlace t new × Advances t new
   taken_in took (inl (fate, has, becomes)) =
       let same : fate ≡ Ready = same_fate t op is fate Ready has its_fate in
       taken false (Ok took) (subst (λ (f : Fate). Becomes t op f (Ok took) new) same becomes)

@@ -13,7 +13,7 @@ abbrev pub HasTakenBeginning : TextState → List Operation → Type 0
 HasTakenBeginning t ops = HasTakenJust t (take (length t.operations) ops)
 
 -- it took in more at most, and its changes were asked for when they were
-pub record GoesOn (t new : TextState) : Type 0 where
+pub record Advances (t new : TextState) : Type 0 where
   pub more : List Operation
   pub taken : new.operations ≡ t.operations ++ more
   pub asked : new.asked ≡ t.asked

@@ -5,7 +5,7 @@ ghost use Rattle.looks.specs.Refusal.{RefusedForMemoryAlone};
 ghost use Rattle.set_laws.specs.Verdict.{ready};
 ghost use Rattle.texts.specs.Taking.{IsJudged};
 ghost use Rattle.note_laws.specs.Laws.{AreReadyInTurn};
-ghost use Rattle.note_replicas.specs.Following.{GoesOn, HasTakenBeginning, HasTakenJust, IsOfPlace};
+ghost use Rattle.note_replicas.specs.Following.{Advances, HasTakenBeginning, HasTakenJust, IsOfPlace};
 
 use looks::Refusal;
 use op_log::Log;
@@ -18,7 +18,7 @@ fn take_ready(replica: &mut Replica, op: Op) -> Result<(), Refusal>
     requires room { replica.old.waiting_room ≡ [] }
     ensures ok { OnOk result (HasTakenJust replica.new (replica.old.operations ++ op ∷ [])) }
     ensures place { IsOfPlace replica.old replica.new }
-    ensures on { GoesOn replica.old replica.new }
+    ensures on { Advances replica.old replica.new }
     ensures err { OnErr result (replica.new ≡ replica.old) }
     ensures errors { RefusedForMemoryAlone result }
 {
@@ -36,7 +36,7 @@ pub fn take_rest(replica: &mut Replica, log: &Log) -> Result<(), Refusal>
     requires begun { HasTakenBeginning replica.old log.now.ops }
     ensures ok { OnOk result (HasTakenJust replica.new log.now.ops) }
     ensures place { IsOfPlace replica.old replica.new }
-    ensures on { GoesOn replica.old replica.new }
+    ensures on { Advances replica.old replica.new }
     ensures err { OnErr result (HasTakenBeginning replica.new log.now.ops) }
     ensures errors { RefusedForMemoryAlone result }
 {

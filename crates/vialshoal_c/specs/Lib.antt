@@ -4,6 +4,8 @@ pub mod Feeding
 pub mod History
 pub mod Keeping
 pub mod Naming
+pub mod NoteAsking
+pub mod NoteBeginning
 pub mod NoteEditing
 pub mod NoteFeeding
 pub mod NoteState

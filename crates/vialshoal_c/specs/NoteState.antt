@@ -21,9 +21,9 @@ abbrev pub note_text : ℕ → Option ℕ
 note_text text = if is_note_text text then Some text else None
 
 -- the replica of a text, if the note has it
-abbrev pub text_in : NoteSeen → (text : ℕ) → Option TextState
-text_in n text = if is_note_text text then option_map (λ t. t.replica) (slice_get n.texts (text - 1)) else None
+abbrev pub note_text_in : NoteSeen → (text : ℕ) → Option TextState
+note_text_in n text = if is_note_text text then option_map (λ t. t.replica) (slice_get n.texts (text - 1)) else None
 
 -- this of the text of this number, if the note has it; elsewhere the number says that there is none, and this holds
 abbrev pub OfText : NoteState → (text number : ℕ) → (idle : Type 0) → (TextState → Type 0) → Type 0
-OfText s text number idle says = MatchOption (text_in s.note text) ((number ≡ NO_NUMBER) × idle) says
+OfText s text number idle says = MatchOption (note_text_in s.note text) ((number ≡ NO_NUMBER) × idle) says

@@ -1,10 +1,16 @@
 //! What C calls of a note. Each call takes the note out of its handle, does one thing to it, and puts it back.
 
-ghost use Rattle.std.specs.Prelude.{◌≡◌, None, MatchOption, length, ⊤};
+ghost use Rattle.std.specs.Prelude.{◌≡◌, ◌⊎◌, false, None, MatchOption, List, Err, IfErr, IfOk, length, ⊤};
+ghost use Rattle.looks.specs.declared.refusal.Refusal.TheVariants as refusal;
+ghost use Rattle.note_laws.specs.Note.{Saying as Said};
 ghost use Rattle.char_files.specs.Chars.{char_bytes};
+ghost use Rattle.note_entries.specs.Bytes.{hash_of};
 ghost use Rattle.texts.specs.TextState.{shown_of};
 ghost use Rattle.vialshoal_c.specs.Asking.{FindsName, PutsShown, PutsSites, TellsFront, TellsRun, c_names};
 ghost use Rattle.vialshoal_c.specs.History.{OpensPast};
+ghost use Rattle.vialshoal_c.specs.NoteAsking.{PutsOwn, TellsChangesIn};
+ghost use Rattle.vialshoal_c.specs.NoteBeginning.{BeginsNoteIn, BeginsNoteSo, HasBegun, IsBaseOf, beginning_of};
+ghost use Rattle.vialshoal_c.specs.NoteEditing.{DeletesRange, DressesRange, EditsNoteNames, InsertsInto};
 ghost use Rattle.vialshoal_c.specs.NoteFeeding.{AddsEntry, ClaimsNumber, Updates};
 ghost use Rattle.vialshoal_c.specs.NoteState.{OfText};
 ghost use Rattle.vialshoal_c.specs.Opened.{OnOpen, Reads};
@@ -27,7 +33,9 @@ use std::alloc::Global;
 use texts::ByNames;
 
 // A note whose base is in these chunks.
-fn begin(
+//
+// Refused `Malformed` where they are none of such a base, and `OutOfMemory`.
+fn made(
     alloc: Global,
     site: SiteNo,
     key: &NoteHash,
@@ -35,9 +43,45 @@ fn begin(
     base_key: &NoteHash,
     root: &NoteHash,
     base: &[u8],
-) -> Result<Box<NoteSession>, Refusal> {
+) -> Result<Box<NoteSession>, Refusal>
+    ensures ok { IfOk result (λ note. (copied : List Said)
+        × IsBaseOf base_key.now.bytes (hash_of root.now.bytes) base.now copied
+        × HasBegun site key.now.bytes opening copied note.value) }
+    ensures malformed { result ≡ Err refusal.Malformed
+        → (copied : List Said) → ¬ IsBaseOf base_key.now.bytes (hash_of root.now.bytes) base.now copied }
+    ensures errors { IfErr result (λ why. (why ≡ refusal.Malformed) ⊎ (why ≡ refusal.OutOfMemory)) }
+{
     let copied = read_base(alloc, base_key, root, base)?;
     NoteSession::begin(alloc, NoteKey::new(key.bytes), opening, copied, site)
+}
+
+// Begins a note in an empty handle.
+fn begin(
+    alloc: Global,
+    handle: &mut NoteHandle,
+    site: SiteNo,
+    key: &NoteHash,
+    opening: Opening,
+    base_key: &NoteHash,
+    root: &NoteHash,
+    base: &[u8],
+) -> u32
+    requires { handle.old.value ≡ None }
+    ensures { BeginsNoteSo site (record {
+      key = key.now.bytes;
+      opening = opening;
+      base_key = base_key.now.bytes;
+      root = hash_of root.now.bytes;
+      chunks = base.now;
+    }) result handle.new.value }
+{
+    match made(alloc, site, key, opening, base_key, root, base) {
+        Ok(note) => {
+            handle.close(alloc, note);
+            0
+        }
+        Err(why) => u32::from(why.number()),
+    }
 }
 
 /// Begins a note in an empty handle, of its opening and its base alone.
@@ -52,7 +96,10 @@ pub extern "C" fn vialshoal_note_new(
     base_key: &NoteHash,
     root: &NoteHash,
     base: &[u8],
-) -> u32 {
+) -> u32
+    ensures { BeginsNoteIn handle.old.value site (beginning_of key.now founder.now number base_key.now root.now base.now) result
+        handle.new.value }
+{
     if let Some(note) = handle.open(alloc) {
         handle.close(alloc, note);
         return ALREADY_OPEN;
@@ -64,13 +111,7 @@ pub extern "C" fn vialshoal_note_new(
         founder: founder.hash(),
         number: SiteNo::new(number),
     };
-    match begin(alloc, site, key, opening, base_key, root, base) {
-        Ok(note) => {
-            handle.close(alloc, note);
-            0
-        }
-        Err(why) => u32::from(why.number()),
-    }
+    begin(alloc, handle, site, key, opening, base_key, root, base)
 }
 
 /// Frees what a note's handle holds.
@@ -150,12 +191,15 @@ pub extern "C" fn vialshoal_note_insert(
     pos: u64,
     bytes: &[u8],
     sent: &mut u32,
-) -> u32 {
+) -> u32
+    ensures { OnOpen handle.old.value handle.new.value result (sent.new ≡ 0)
+        (λ s new. InsertsInto s text pos bytes.now result sent.new new) }
+{
     *sent = 0;
     let Some(mut note) = handle.open(alloc) else {
         return NOT_OPEN;
     };
-    let edited = note.insert(text, pos, bytes);
+    let edited = note.insert(alloc, text, pos, bytes);
     handle.close(alloc, note);
     *sent = edited.sent;
     edited.number
@@ -170,7 +214,10 @@ pub extern "C" fn vialshoal_note_delete(
     beg: u64,
     end: u64,
     sent: &mut u32,
-) -> u32 {
+) -> u32
+    ensures { OnOpen handle.old.value handle.new.value result (sent.new ≡ 0)
+        (λ s new. DeletesRange s text beg end result sent.new new) }
+{
     *sent = 0;
     let Some(mut note) = handle.open(alloc) else {
         return NOT_OPEN;
@@ -194,12 +241,37 @@ pub extern "C" fn vialshoal_note_change_looks(
     colour: u8,
     offset: i8,
     sent: &mut u32,
-) -> u32 {
+) -> u32
+    ensures { OnOpen handle.old.value handle.new.value result (sent.new ≡ 0)
+        (λ s new. DressesRange s text beg end bits font.now colour offset result sent.new new) }
+{
     *sent = 0;
     let Some(mut note) = handle.open(alloc) else {
         return NOT_OPEN;
     };
     let edited = note.change_looks(text, beg, end, bits, font, colour, offset);
+    handle.close(alloc, note);
+    *sent = edited.sent;
+    edited.number
+}
+
+// Edits a text by names.
+fn edit_names(
+    alloc: Global,
+    handle: &mut NoteHandle,
+    text: u16,
+    what: ByNames,
+    names: &[CharNames],
+    sent: &mut u32,
+) -> u32
+    ensures { OnOpen handle.old.value handle.new.value result (sent.new ≡ 0)
+        (λ s new. EditsNoteNames s text what names.now result sent.new new) }
+{
+    *sent = 0;
+    let Some(mut note) = handle.open(alloc) else {
+        return NOT_OPEN;
+    };
+    let edited = note.edit_by_names(alloc, text, what, names);
     handle.close(alloc, note);
     *sent = edited.sent;
     edited.number
@@ -213,15 +285,11 @@ pub extern "C" fn vialshoal_note_delete_names(
     text: u16,
     names: &[CharNames],
     sent: &mut u32,
-) -> u32 {
-    *sent = 0;
-    let Some(mut note) = handle.open(alloc) else {
-        return NOT_OPEN;
-    };
-    let edited = note.edit_by_names(text, ByNames::Delete, names);
-    handle.close(alloc, note);
-    *sent = edited.sent;
-    edited.number
+) -> u32
+    ensures { OnOpen handle.old.value handle.new.value result (sent.new ≡ 0)
+        (λ s new. EditsNoteNames s text ByNames.Delete names.now result sent.new new) }
+{
+    edit_names(alloc, handle, text, ByNames::Delete, names, sent)
 }
 
 /// Shows the characters of these names again, each at its own place.
@@ -232,15 +300,11 @@ pub extern "C" fn vialshoal_note_restore_names(
     text: u16,
     names: &[CharNames],
     sent: &mut u32,
-) -> u32 {
-    *sent = 0;
-    let Some(mut note) = handle.open(alloc) else {
-        return NOT_OPEN;
-    };
-    let edited = note.edit_by_names(text, ByNames::Restore, names);
-    handle.close(alloc, note);
-    *sent = edited.sent;
-    edited.number
+) -> u32
+    ensures { OnOpen handle.old.value handle.new.value result (sent.new ≡ 0)
+        (λ s new. EditsNoteNames s text ByNames.Restore names.now result sent.new new) }
+{
+    edit_names(alloc, handle, text, ByNames::Restore, names, sent)
 }
 
 /// The head and the body of one of the entries that say the own messages of a text which don't count yet.
@@ -254,7 +318,10 @@ pub extern "C" fn vialshoal_note_own(
     head: &mut EntryHead,
     room: &mut [u8],
     need: &mut u64,
-) -> u32 {
+) -> u32
+    ensures { Reads handle.old.value handle.new.value result ((need.new ≡ 0) × (room.new ≡ room.old) × (head.new ≡ head.old))
+        (λ s. PutsOwn s text (hash_of author.now.bytes) index head.old head.new room.old result need.new room.new) }
+{
     *need = 0;
     let Some(note) = handle.open(alloc) else {
         return NOT_OPEN;
@@ -274,7 +341,11 @@ pub extern "C" fn vialshoal_note_changes(
     is_anew: &mut bool,
     room: &mut [TextChange],
     need: &mut u64,
-) -> u32 {
+) -> u32
+    ensures { OnOpen handle.old.value handle.new.value result
+        ((need.new ≡ 0) × (is_anew.new ≡ false) × (room.new ≡ room.old))
+        (λ s new. TellsChangesIn s text false is_anew.new room.old result need.new room.new new) }
+{
     *need = 0;
     *is_anew = false;
     let Some(mut note) = handle.open(alloc) else {

@@ -109,11 +109,12 @@ fn end_of_run(replica: &Replica, pos: u64, looks: &Looks) -> u64
 {
     let len = replica.shown_len();
     let mut end = pos + 1;
-    for char in replica.shown_between(pos + 1, len) {
-        if !are_same(&char.looks, looks) {
+    for row in replica.rows_between(pos + 1, len) {
+        let bytes = row.bytes();
+        if !are_same(row.looks(), looks) {
             return end;
         }
-        end += 1;
+        end += bytes.len() as u64;
     }
     end
 }

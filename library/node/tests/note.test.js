@@ -1,8 +1,9 @@
 // Notes: what counts of entries is shown, whatever order they come in, and own edits are said by entries. In Node, pages and workers.
-import { assert, Buffer, rounds, vialshoal } from './here.js';
+import { assert, Buffer, part, rounds, vialshoal } from './here.js';
 import { drawn } from './random.js';
 
 const { Note, NoteText, Past, Refused, Shown, Text } = vialshoal;
+const { calls } = await part('host.js');
 
 const [KEY, ANN, BOB, RANK] = ['k', 'A', 'B', 'r'].map((letter) => Buffer.from(letter.repeat(32)));
 const AUTHORS = { 1: ANN, 2: BOB };
@@ -70,6 +71,49 @@ const others = ann.say(ANN);
 assert.deepStrictEqual(others.map((entry) => entry.head.text), [2, 16]);
 give(others.reverse(), bob);
 assert.deepStrictEqual([2, 3, 16].map((number) => `${bob.text(number)}`), ['2', '', '16']);
+
+// To the call of this name memory is refused at one turn, before it does anything, or once it has.
+function refusing(name, turn, isDone, work) {
+    const call = calls[name];
+    let turns = 0;
+    calls[name] = (...words) => {
+        turns += 1;
+        const isRefused = turns === turn, answer = isRefused && !isDone ? [] : call(...words);
+        return isRefused ? [7] : answer;
+    };
+    try {
+        work();
+    } finally {
+        calls[name] = call;
+    }
+}
+
+// What memory was refused to is said by the next call, whatever comes in between.
+for (const [name, turn] of [['noteAdd', 1], ['noteAdd', 2], ['noteUpdate', 1]]) {
+    for (const [isDone, isUpdated] of [[false, false], [false, true], [true, false], [true, true]]) {
+        const one = opened(1), other = opened(2);
+        one.text(1).insert(0, 'one');
+        one.text(2).insert(0, 'two');
+        refusing(name, turn, isDone, () => assert.throws(() => one.say(ANN), { code: 'OUT_OF_MEMORY' }));
+        if (isUpdated) one.update();
+        one.text(1).insert(3, '!');
+        give(one.say(ANN), other);
+        for (const note of [one, other]) assert.deepStrictEqual([1, 2].map((number) => `${note.text(number)}`), ['one!', 'two']);
+        assert.deepStrictEqual(one.say(ANN), []);
+        [one, other].forEach((note) => note.close());
+    }
+}
+
+// Changes are told to one, who may count units; what only reads bytes may be there, too.
+const alone = opened(1), units = alone.text(1, { units: 'utf-16' }), seen = alone.text();
+const isTold = (text) => (error) => error instanceof TypeError && error.message.startsWith(`another NoteText is told the changes of text ${text}`);
+for (const wrong of [() => alone.text(1, { units: 'utf-16' }), () => seen.changes()]) assert.throws(wrong, isTold(1));
+units.insert(0, '\u20acuro');
+units.insert(1, '!');
+assert.deepStrictEqual([`${units}`, `${seen}`], ['\u20ac!uro', '\u20ac!uro']);
+assert.deepStrictEqual(alone.text(2).changes(), []);
+assert.throws(() => alone.text(2, { units: 'utf-16' }), isTold(2));
+alone.close();
 
 // A number that was used twice: all who have both show the same one, and tell that all gave way.
 const here = opened(1), there = opened(1), texts = [here.text(), there.text(1, { units: 'utf-16' })];

@@ -9,10 +9,12 @@ import hashlib
 import hmac
 import random
 import unittest
-from collections.abc import Iterable
+from collections.abc import Callable, Iterable
 from dataclasses import replace
 from typing import Any, AnyStr
+from unittest import mock
 
+from vialshoal import _library
 from vialshoal import Change, ChangeKind, Entry, Looks, Misused, Name, NameRange, Note, NoteText, Refused, Text
 
 KEY, ANN, BOB = b"k" * 32, b"A" * 32, b"B" * 32
@@ -36,6 +38,17 @@ def give(entries: Iterable[Entry], *notes: Note) -> None:
         for entry in entries:
             note.add(entry)
         note.update()
+
+
+def refused(call: Callable[..., int], turn: int, is_done: bool) -> Callable[..., int]:
+    """This call of the library, to which memory is refused at one turn: before it does anything, or once it has."""
+    turns = iter(range(1, 100))
+
+    def called(*words: object) -> int:
+        is_refused = next(turns) == turn
+        number = 0 if is_refused and not is_done else call(*words)
+        return 7 if is_refused else number
+    return called
 
 
 class Followed:
@@ -133,6 +146,26 @@ class Notes(unittest.TestCase):
             ann.update()
             self.assertEqual(bytes(text), b"said")
 
+    def test_what_memory_was_refused_to_is_said_by_the_next_call(self) -> None:
+        for library, name, turn in ((_library.calls, "add", 1), (_library.calls, "add", 2), (_library.long_calls, "update", 1)):
+            for is_done in False, True:
+                for is_updated in False, True:
+                    with self.subTest(name, turn=turn, is_done=is_done, is_updated=is_updated), opened(1) as ann, opened(2) as bob:
+                        call = f"vialshoal_note_{name}"
+                        ann.text(1).insert(0, b"one")
+                        ann.text(2).insert(0, b"two")
+                        with mock.patch.object(library, call, refused(getattr(library, call), turn, is_done)):
+                            with self.assertRaises(Refused) as caught:
+                                ann.say(ANN)
+                        self.assertEqual(caught.exception.number, 7)
+                        if is_updated:
+                            ann.update()
+                        ann.text(1).insert(3, b"!")
+                        give(ann.say(ANN), bob)
+                        for one in ann, bob:
+                            self.assertEqual([bytes(one.text(number)) for number in (1, 2)], [b"one!", b"two"])
+                        self.assertEqual(ann.say(ANN), [])
+
     def test_others_wait_for_what_they_build_on(self) -> None:
         with opened(1) as ann, opened(2) as bob, opened(2) as other:
             ann.text().insert(0, b"a")
@@ -144,6 +177,21 @@ class Notes(unittest.TestCase):
             self.assertEqual(bytes(other.text()), b"")
             give(first, other)
             self.assertEqual(bytes(other.text()), b"ab")
+
+    def test_changes_are_told_to_one(self) -> None:
+        with opened(1) as ann:
+            points, seen = ann.text(units="code points"), ann.text()
+            for wrong in (lambda: ann.text(units="code points"), seen.changes):
+                self.assertRaisesRegex(ValueError, "another NoteText is told the changes of text 1", wrong)
+            points.insert(0, "\u20acuro")
+            points.insert(1, "!")
+            # What only reads bytes may be there, too.
+            self.assertEqual((str(points), bytes(seen)), ("\u20ac!uro", "\u20ac!uro".encode()))
+            other = ann.text(2)
+            self.assertEqual(other.changes(), [])
+            self.assertRaises(ValueError, ann.text, 2, units="code points")
+            other.insert(0, b"x")
+            self.assertEqual(other.changes(), [Change(INSERT, 0, 1)])
 
     def test_forks(self) -> None:
         """A number that was used twice: all who have both show the same one, and say that the text was begun anew."""

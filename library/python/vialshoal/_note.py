@@ -78,6 +78,10 @@ class Note:
         self._lock = threading.RLock()
         self._handle = c.NoteHandle()
         self._site = given.number(site, given.MOST_SITE)
+        # Entries of own edits that `say` hasn't answered: where memory was refused they may count already, and are to be said yet.
+        self._made: list[Entry] = []
+        # Of which texts a `NoteText` is told the changes.
+        self._heard: set[int] = set()
         chunks = b"".join(len(chunk).to_bytes(2, "little") + chunk for chunk in map(given.data, base))
         done(c.long_calls.vialshoal_note_new(
             self._handle, site, _hash(key), _hash(founder), given.number(number, given.MOST_SITE), _hash(base_key), _hash(root),
@@ -124,17 +128,19 @@ class Note:
     def update(self) -> None:
         """Has the texts show what counts of all that came. Own edits that `say` didn't answer are taken back."""
         with self._lock:
+            for entry in self._made:
+                self.add(entry)
             done(c.long_calls.vialshoal_note_update(self._handle))
 
     def say(self, author: Buffer) -> list[Entry]:
         """Entries, by an author who holds the site's number, that say all own edits which weren't said. They count here from now on: seal,
-        sign, keep and send them."""
+        sign, keep and send them. Where memory is refused, the next call answers them."""
         with self._lock:
-            entries = [entry for text in range(1, TEXTS + 1) for entry in self._own(text, _hash(author))]
-            for entry in entries:
-                self.add(entry)
-            if entries:
+            own = [entry for text in range(1, TEXTS + 1) for entry in self._own(text, _hash(author))]
+            self._made += [entry for entry in own if entry not in self._made]
+            if self._made:
                 self.update()
+            entries, self._made = self._made, []
             return entries
 
     def _own(self, text: int, author: bytes) -> list[Entry]:
@@ -156,7 +162,8 @@ class Note:
     def text(self, number: int = 1, *, units: Literal["code points"]) -> NoteText[str]: ...
 
     def text(self, number: int = 1, *, units: Units = "bytes") -> NoteText[Any]:
-        """One of its texts, 1 to 16. Changes are told once, so one asks for each text once."""
+        """One of its texts, 1 to 16. Changes are told once, to the first that asks for them, as whatever counts code points does: ValueError
+        where another one does, too."""
         return NoteText(self, number, units)
 
 
@@ -171,8 +178,12 @@ class NoteText(Shown[AnyStr]):
         self._sent = c_uint32()
         # How many bytes were shown when changes were asked for last.
         self._told = 0
+        # Whether changes are told here.
+        self._hears = False
         with self._lock:
             self._length()
+            if units != "bytes":
+                self._hear()
 
     @property
     def number(self) -> int:
@@ -253,8 +264,18 @@ class NoteText(Shown[AnyStr]):
 
     # -- what changed of what is shown
 
+    def _hear(self) -> None:
+        """Has changes be told here, and nowhere else: each would miss what the other one was told."""
+        if self._hears:
+            return
+        if self._number in self._note._heard:
+            raise ValueError(f"another NoteText is told the changes of text {self._number}: use that one")
+        self._note._heard.add(self._number)
+        self._hears = True
+
     def _changes(self) -> list[Triple]:
         """The changes of bytes since this was called last: where the text was begun anew, all gives way to all."""
+        self._hear()
         room, is_anew = (c.CChange * 64)(), c_bool()
         found: list[Triple] = []
         while True:

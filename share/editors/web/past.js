@@ -38,6 +38,7 @@ export class Past {
   #steps = [];
   // What doesn't count, behind the last step.
   #leftOut = [];
+  #recovers = false;
   #stretches = [];
   #marks = [];
   // The sites' numbers, by when they came.
@@ -58,14 +59,20 @@ export class Past {
     element("earlier").addEventListener("click", () => this.#go(-1));
     element("later").addEventListener("click", () => this.#go(1));
     element("slide").addEventListener("submit", (event) => event.preventDefault());
-    for (const id of ["back", "since-here"]) {
-      element(id).addEventListener("click", () => {
-        element("past").hidden = true;
-        element("sheets").hidden = false;
-        left();
-        if (id === "since-here") since(this.#steps[Number(element("at").value) - 1]?.end ?? 0);
-      });
-    }
+    const goesBack = () => {
+      element("past").hidden = true;
+      element("sheets").hidden = false;
+      left();
+    };
+    element("back").addEventListener("click", goesBack);
+    element("since-here").addEventListener("click", () => {
+      goesBack();
+      since(this.#steps[Number(element("at").value) - 1]?.end ?? 0);
+    });
+    element("recover").addEventListener("click", async () => {
+      element("recover").hidden = true;
+      if (!(await ask({ do: "recover" })).error) goesBack();
+    });
   }
 
   /** Shows the history, from today on. */
@@ -78,7 +85,7 @@ export class Past {
       steps.push(...all.steps);
     } while (all.steps.length && steps.at(-1).end < all.length);
     this.#steps = steps;
-    this.#leftOut = all.left_out ?? [];
+    [this.#leftOut, this.#recovers] = [all.left_out ?? [], all.recovers === true];
     for (const { site } of [...steps, ...this.#leftOut]) {
       if (!this.#sites.has(site)) this.#sites.set(site, this.#sites.size);
     }
@@ -100,6 +107,7 @@ export class Past {
     element("past").hidden = false;
     element("sheets").hidden = true;
     for (const id of ["at", "earlier", "later", "since-here"]) element(id).hidden = !slides;
+    element("recover").hidden = true;
   }
 
   #go(by) {
@@ -111,6 +119,7 @@ export class Past {
   async #look() {
     const at = Number(element("at").value);
     element("since-here").disabled = at >= this.#steps.length;
+    element("recover").hidden = !this.#recovers || at <= this.#steps.length;
     if (at > this.#steps.length) {
       element("step").textContent = wordsOfLeftOut(this.#leftOut);
       this.#shows(asPast(this.#leftOut));

@@ -9,14 +9,16 @@ export class Asking {
   #people;
   #telling;
   #looked;
+  #suggested;
   /** The history as it was asked for last.
    * @type {import("./history.js").History | null} */
   #history = null;
 
   /** @param {import("./whole.js").Whole} whole @param {import("./peopled.js").People} people
-   * @param {import("./telling.js").Telling} telling @param {import("./looked.js").Looked} looked */
-  constructor(whole, people, telling, looked) {
-    [this.#whole, this.#people, this.#telling, this.#looked] = [whole, people, telling, looked];
+   * @param {import("./telling.js").Telling} telling @param {import("./looked.js").Looked} looked
+   * @param {() => Promise<import("./value.js").Names[]>} suggested what is suggested */
+  constructor(whole, people, telling, looked, suggested) {
+    [this.#whole, this.#people, this.#telling, this.#looked, this.#suggested] = [whole, people, telling, looked, suggested];
   }
 
   /** Who is on. */
@@ -31,9 +33,10 @@ export class Asking {
 
   /** @param {any} line */
   async history({ from = 0 }) {
-    const { length, steps } = this.#history = await this.#whole.history();
+    const { length, steps } = this.#history = await this.#whole.history(await this.#suggested());
     const { leftOut } = this.#whole;
-    return { length, steps: this.#named(steps.filter(({ begin }) => begin >= from)), ...(leftOut.length ? { left_out: leftOut } : {}) };
+    return { length, steps: this.#named(steps.filter(({ begin }) => begin >= from)),
+      ...(leftOut.length ? { left_out: leftOut, recovers: leftOut.some(({ own }) => own) } : {}) };
   }
 
   /** @param {SharedText} text @param {any} line */

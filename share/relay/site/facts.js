@@ -1,10 +1,12 @@
 // What is known of a note without its text: who founded it, whose the numbers are, how much there is.
-import { equal, hex, numberAt } from "./bytes.js";
-import { KIND, counterOf, headOf, opened } from "./entry.js";
+import { Base } from "./base.js";
+import { hex, numberAt } from "./bytes.js";
+import { KIND, counterOf, headOf, opened, openedKept } from "./entry.js";
+import { derived, digesting } from "./keys.js";
 import { clean } from "./presence.js";
-import { rankOf } from "./rank.js";
+import { isBelow, rankOf } from "./rank.js";
 
-const FOUNDER_AT = 64;
+const [SECRET_BYTES, FOUNDER_AT] = [32, 64];
 
 /** A number that somebody has, and how many messages stand under it.
  * @typedef {{ site: number, author: string, messages: number, isFounder: boolean }} Numbered */
@@ -17,22 +19,23 @@ export class Facts {
   renewedBy = [];
   /** @type {{ author: string, site: number } | null} */
   founder = null;
-  /** Whether it began as a copy. */
-  isCopy = false;
+  /** What was copied. */
+  base = new Base();
   #keys;
   /** @type {Map<number, { author: string, rank: Uint8Array }>} */
   #holders = new Map();
   /** The greatest seqs of each text, by author and number.
    * @type {Map<string, Map<number, number>>} */
   #lasts = new Map();
-  /** @type {Set<number>} */
-  #copied = new Set();
-  // Of which authors, numbers and texts what doesn't count was typed anew.
-  #anew = new Set();
 
   /** @param {import("./keys.js").NoteKeys} keys */
   constructor(keys) {
     this.#keys = keys;
+  }
+
+  /** Whether it began as a copy. */
+  get isCopy() {
+    return this.base.isSome;
   }
 
   /** Takes over an entry that was found right.
@@ -48,13 +51,11 @@ export class Facts {
     } else if (kind === KIND.messages) {
       const lasts = this.#lasts.get(`${author} ${site}`) ?? new Map();
       this.#lasts.set(`${author} ${site}`, lasts.set(text, Math.max(lasts.get(text) ?? 0, first + count - 1)));
-    } else if (kind === KIND.anew) {
-      this.#anew.add(`${author} ${site} ${text}`);
     } else if (kind === KIND.base) {
-      this.#copied.add(site);
-      this.isCopy = true;
+      this.base.add(await openedKept(this.#keys, raw));
     } else if (kind === KIND.opening) {
       const { body } = await opened(this.#keys, raw);
+      this.base.begin(body.slice(SECRET_BYTES, FOUNDER_AT), await digesting(await derived(body.slice(0, SECRET_BYTES), "base")));
       this.founder = { author: hex(body.subarray(FOUNDER_AT, FOUNDER_AT + 32)), site: numberAt(body, FOUNDER_AT + 32, 2) };
     } else if (kind === KIND.renewed) {
       this.#renewed((await opened(this.#keys, raw)).body);
@@ -69,21 +70,9 @@ export class Facts {
     return found.sort((one, other) => one.site - other.site);
   }
 
-  /** By whom messages of a text don't count, since the number is another's, and how many; but for what was typed anew.
-   * @param {number} text */
-  leftOut(text) {
-    const authors = this.#authors();
-    return [...this.#lasts].flatMap(([key, lasts]) => {
-      const [[author, number], messages] = [key.split(" "), lasts.get(text) ?? 0];
-      const holder = authors.get(Number(number));
-      const isLost = messages > 0 && holder !== undefined && holder !== author && !this.#anew.has(`${key} ${text}`);
-      return isLost ? [{ author, site: Number(number), messages }] : [];
-    });
-  }
-
   /** The numbers that somebody has, or that were copied. */
   taken() {
-    return new Set([...this.#holders.keys(), ...this.#copied, ...(this.founder?.site ? [this.founder.site] : [])]);
+    return new Set([...this.#holders.keys(), ...this.base.sites, ...(this.founder?.site ? [this.founder.site] : [])]);
   }
 
   /** By whom may be typed under each number that is taken; by nobody where that was copied.
@@ -91,7 +80,7 @@ export class Facts {
   #authors() {
     const found = new Map([...this.#holders].map(([site, { author }]) => [site, author]));
     if (this.founder?.site) found.set(this.founder.site, this.founder.author);
-    for (const site of this.#copied) found.set(site, "");
+    for (const site of this.base.sites) found.set(site, "");
     return found;
   }
 
@@ -111,10 +100,4 @@ export class Facts {
     const name = clean(new TextDecoder().decode(body)) || "somebody";
     if (!this.renewedBy.includes(name)) this.renewedBy.push(name);
   }
-}
-
-/** @param {Uint8Array} one @param {Uint8Array} other */
-function isBelow(one, other) {
-  const at = one.findIndex((byte, place) => byte !== other[place]);
-  return !equal(one, other) && one[at] < other[at];
 }

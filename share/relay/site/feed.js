@@ -1,22 +1,29 @@
 // Hands a note's entries, as this browser keeps them, to the note's value. They were found right as they came.
-import { hex, isZeros, join, numberAt } from "./bytes.js";
+import { join, numberAt } from "./bytes.js";
 import { RefusedByCore } from "./core.js";
 import { KIND, counterOf, openedKept } from "./entry.js";
 import { Facts } from "./facts.js";
-import { derived } from "./keys.js";
+import { derived, digesting } from "./keys.js";
 import { rankOf } from "./rank.js";
+import { Sayings } from "./sayings.js";
 import { Value } from "./value.js";
 
 /** @typedef {import("./entry.js").Entry} Entry */
 /** An entry, and of a claim its rank.
  * @typedef {{ one: Entry, rank: Uint8Array | null }} Came */
 
-const [AT_ONCE, SECRET_BYTES, ROOT_AT, FOUNDER_AT, NUMBER_AT, MALFORMED] = [500, 32, 32, 64, 96, 1];
+const [AT_ONCE, HASH_BYTES, ROOT_AT, FOUNDER_AT, NUMBER_AT, MALFORMED] = [500, 32, 32, 64, 96, 1];
+const LACKS = "The relay lacks some of what this note begins with, so nothing of it counts yet. Whoever has that brings it by opening the note.";
+const OUT_OF_ORDER = "What was copied into this note is out of order, so nothing of it counts. Ask whoever renewed it to do that again.";
+const NOTHING = new Uint8Array(HASH_BYTES);
 
 export class Feed {
   facts;
   /** @type {Value | null} */
   value = null;
+  /** Which messages count that were handed on.
+   * @type {Sayings | null} */
+  sayings = null;
   #core;
   #store;
   #keys;
@@ -27,8 +34,9 @@ export class Feed {
   #waiting = [];
   /** @type {Entry | null} */
   #opening = null;
-  /** @type {Map<string, Entry>} */
-  #base = new Map();
+  // The value that it begins with, if its base is in order.
+  /** @type {Value | null} */
+  #begun = null;
 
   /** @param {import("./core.js").Core} core @param {import("./store.js").Store} store @param {import("./keys.js").NoteKeys} keys
    * @param {string} id @param {number} site under which is typed here, or 0 */
@@ -41,6 +49,12 @@ export class Feed {
     this.facts = new Facts(keys);
   }
 
+  /** Why nothing counts of what was read, in words; none where something does. */
+  get why() {
+    if (this.value) return "";
+    return this.facts.base.isInOrder ? LACKS : OUT_OF_ORDER;
+  }
+
   /** Reads what was kept since; whether that was something. It is handed on by `hand`.
    * @param {(done: number, of: number) => void} reads is told how far it is */
   async next(reads) {
@@ -50,22 +64,48 @@ export class Feed {
       const some = entries.slice(begin, begin + AT_ONCE);
       const came = await Promise.all(some.map(({ raw }) => this.#opened(raw)));
       for (const { raw } of some) await this.facts.add(raw);
-      for (const { one } of came) this.#meets(one);
+      for (const { one } of came) if (one.kind === KIND.opening) this.#opening = one;
       this.#waiting.push(...came);
     }
     this.#last = last;
-    if (!this.value && this.#opening) await this.#begins(this.#opening);
+    if (!this.value && this.#opening && this.facts.base.isInOrder) await this.#begins(this.#opening);
     return entries.length > 0;
   }
 
-  /** Hands on to the value what was read. */
+  /** Hands on to the value what was read. What it has no memory for is handed on once more, with all after it. */
   hand() {
-    const { value } = this;
-    if (!value) return;
-    for (const { one, rank } of this.#waiting.splice(0)) {
-      if (rank) value.claim(one.author, one.site, rank);
-      else if (one.kind === KIND.messages) value.add(one);
+    const { value, sayings } = this;
+    if (!value || !sayings) return;
+    let many = 0;
+    try {
+      for (const { one, rank } of this.#waiting) {
+        if (rank) {
+          value.claim(one.author, one.site, rank);
+          sayings.claim(one.author, one.site, rank);
+        } else if (one.kind === KIND.messages && value.add(one)) {
+          sayings.add(one);
+        } else if (one.kind === KIND.anew) {
+          sayings.anew(one);
+        }
+        many += 1;
+      }
+    } finally {
+      this.#waiting.splice(0, many);
     }
+  }
+
+  /** Has own edits of texts become entries, by who has a number, which may be to be claimed.
+   * @param {number[]} texts @param {import("./own.js").Held} number */
+  say(texts, { author: { name }, site, claims }) {
+    const { value, sayings } = this;
+    if (!value || !sayings) return [];
+    if (claims) {
+      value.claim(name, site, claims.rank);
+      sayings.claim(name, site, claims.rank);
+    }
+    const found = value.say(texts, name);
+    for (const one of found) sayings.add(one);
+    return found;
   }
 
   /** Lets the value go. */
@@ -80,26 +120,43 @@ export class Feed {
     return { one, rank: one.kind === KIND.claim ? await rankOf(this.#keys.identity, one.author, counterOf(one)) : null };
   }
 
-  /** @param {Entry} one */
-  #meets(one) {
-    if (one.kind === KIND.opening) this.#opening = one;
-    else if (one.kind === KIND.base && !this.#base.has(hex(one.before))) this.#base.set(hex(one.before), one);
-  }
-
-  /** The note begins, once all of its base is here.
+  /** The note begins, once all of its base is here, and that is in order.
    * @param {Entry} opening */
   async #begins({ body }) {
-    const root = body.slice(ROOT_AT, FOUNDER_AT);
-    const chunks = isZeros(root) ? [] : [...this.#base.values()].flatMap((one) => [sized(one.body), one.body]);
-    const beginning = { founder: body.slice(FOUNDER_AT, NUMBER_AT), number: numberAt(body, NUMBER_AT, 2), root, base: join(...chunks),
-      baseKey: await derived(body.slice(0, SECRET_BYTES), "base") };
+    const [{ base }, hash] = [this.facts, await derived(this.#keys.key, "hash")];
+    const begins = { founder: body.slice(FOUNDER_AT, NUMBER_AT), number: numberAt(body, NUMBER_AT, 2), root: body.slice(ROOT_AT, FOUNDER_AT),
+      baseKey: await derived(body.slice(0, HASH_BYTES), "base") };
+    const isIt = (/** @type {Entry[]} */ entries) => {
+      this.#begun = this.#valueOf(hash, { ...begins, base: join(...entries.flatMap((one) => [sized(one.body), one.body])) });
+      return this.#begun !== null;
+    };
+    const spelling = new Value(this.#core, hash, { founder: NOTHING, number: 0, root: NOTHING, base: join(), baseKey: NOTHING }, 0);
+    await base.look(isIt, (one) => isRight(one, spelling));
+    spelling.close();
+    if (base.entries && !this.#begun) isIt(base.entries);
+    const { entries, isInOrder } = base;
+    if (!isInOrder) this.#begun?.close();
+    else if (entries && this.#begun) {
+      const sayings = new Sayings(await digesting(hash), { author: begins.founder, site: begins.number }, entries);
+      [this.value, this.sayings] = [this.#begun, sayings];
+    }
+  }
+
+  /** A value that begins so, if that leads to its root.
+   * @param {Uint8Array} hash @param {import("./value.js").Beginning} beginning */
+  #valueOf(hash, beginning) {
     try {
-      this.value = new Value(this.#core, await derived(this.#keys.key, "hash"), beginning, this.site);
+      return new Value(this.#core, hash, beginning, this.site);
     } catch (why) {
       if (!(why instanceof RefusedByCore) || why.number !== MALFORMED) throw why;
+      return null;
     }
   }
 }
+
+/** Whether an entry of the base has a chunk as a value takes them of messages, which begin after nothing.
+ * @param {Entry} one @param {Value} value */
+const isRight = (one, value) => value.add({ ...one, before: one.first === 1 ? NOTHING : one.author, body: join([0, 0], one.body) });
 
 /** How long bytes are, the low byte first.
  * @param {Uint8Array} bytes */

@@ -29,6 +29,7 @@ export class Followed {
   #read;
   #channel;
   #ends = new AbortController();
+  #isClosed = false;
   /** @type {RelayLine | null} */
   #line = null;
   // What the relay tells of the note, until something comes of it.
@@ -51,9 +52,9 @@ export class Followed {
     this.#channel.onmessage = ({ data }) => this.#heard(data);
     this.presence = new Presence(keys, (raw) => {
       this.#line?.say(raw);
-      this.#channel.postMessage({ said: raw });
+      this.#tell({ said: raw });
     }, () => this.#changed(false));
-    this.#channel.postMessage("who");
+    this.#tell("who");
     this.#next(() => this.#sayYou());
     const lock = { signal: this.#ends.signal };
     navigator.locks.request(`vialshoal ${this.#id}`, lock, () => this.#lead()).catch((why) => {
@@ -64,12 +65,12 @@ export class Followed {
   /** Has what was kept be sent, by whichever tab has the line. */
   send() {
     if (this.#line) this.#next(() => this.#give());
-    else this.#channel.postMessage("send");
+    else this.#tell("send");
   }
 
   /** Has all tabs show what was kept by this one, and it be sent. */
   kept() {
-    this.#channel.postMessage("kept");
+    this.#tell("kept");
     this.send();
   }
 
@@ -80,23 +81,31 @@ export class Followed {
 
   /** Has others see by which name and colour this browser's user goes. */
   isCalled() {
-    this.#channel.postMessage("you");
+    this.#tell("you");
     this.#next(() => this.#sayYou());
   }
 
-  close() {
+  /** @param {Promise<void>} settled ends once all is kept that is to be, of which other tabs hear until then */
+  close(settled = Promise.resolve()) {
     this.#ends.abort();
-    void this.presence.leave().then(() => {
-      this.#line?.close();
+    clearTimeout(this.#later);
+    const left = this.presence.leave().then(() => this.#line?.close());
+    void Promise.all([left, settled]).then(() => {
+      this.#isClosed = true;
       this.#channel.close();
     });
-    clearTimeout(this.#later);
+  }
+
+  /** Says something to other tabs, as long as there is a way.
+   * @param {unknown} what */
+  #tell(what) {
+    if (!this.#isClosed) this.#channel.postMessage(what);
   }
 
   /** @param {any} data what another tab of this browser says */
   #heard(data) {
     if (this.#ends.signal.aborted) return;
-    if (data === "who" && this.#line) this.#channel.postMessage({ standing: this.standing, hasEntries: false });
+    if (data === "who" && this.#line) this.#tell({ standing: this.standing, hasEntries: false });
     else if (data === "send" && this.#line) this.#next(() => this.#give());
     else if (data === "kept") this.#changed(true);
     else if (data === "you") this.#next(() => this.#sayYou());
@@ -136,7 +145,7 @@ export class Followed {
       came: (page) => this.#next(() => this.#took(page)),
       said: (raw) => {
         this.presence.heard(raw);
-        this.#channel.postMessage({ heard: raw });
+        this.#tell({ heard: raw });
       },
       told: (_, words) => {
         this.#told = words;
@@ -161,7 +170,7 @@ export class Followed {
   #stands(what, hasEntries = false) {
     this.standing = { ...this.standing, ...what };
     if (this.#ends.signal.aborted) return;
-    this.#channel.postMessage({ standing: this.standing, hasEntries });
+    this.#tell({ standing: this.standing, hasEntries });
     this.#changed(hasEntries);
   }
 

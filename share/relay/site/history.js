@@ -2,6 +2,8 @@
 import { Trouble, hex, numberAt } from "./bytes.js";
 import { operationsOf } from "./chunk.js";
 import { KIND, headOf, openedKept } from "./entry.js";
+import { hiddenAtOnce, keyOf } from "./hiding.js";
+import { messagesIn, partOf } from "./operation.js";
 
 /** @typedef {import("./chunk.js").Operation} Operation */
 /** Messages of a site in a row that go on with one another, what they did, and the number of bytes it was done to.
@@ -32,42 +34,86 @@ function replaces({ kind, site, cause }, one) {
  * @param {Operation | undefined} before @param {Operation} one */
 const hidesAgain = (before, one) => before?.kind === "restored" && before.site === one.site && String(before.names) === String(one.names);
 
-/** Some of the messages of letters that were typed one after the other.
- * @param {Operation} one @param {number} first @param {number} many @returns {Operation} */
-function partOf(one, first, many) {
-  if (one.size === 1) return one;
-  return { ...one, seq: one.seq + first, size: many, at: one.at + first, data: one.data.slice(first, first + many),
-    cause: first ? [one.site, one.at + first - 1] : one.cause };
-}
-
-export class History {
-  length = 0;
+/** Makes steps of messages. */
+class Steps {
   /** @type {Step[]} */
-  steps = [];
-  #counting;
-  /** @type {Stretch[]} */
-  #stretches = [];
-  // How many of each site's are here, and those that came before one of their site that they follow.
-  /** @type {Map<number, number>} */
-  #fronts = new Map();
-  /** @type {Map<number, Operation[]>} */
-  #waiting = new Map();
+  found = [];
   // The last messages, and the first ones of each step.
   /** @type {Operation | null} */
   #last = null;
   /** @type {Operation[]} */
   #firsts = [];
 
-  /** @param {Map<number, number>} counting how many of each site's messages count */
-  constructor(counting) {
-    this.#counting = counting;
+  /** @param {Operation} one @param {number} begin */
+  add(one, begin) {
+    const [step, first, end] = [this.found[this.found.length - 1], this.#firsts[this.#firsts.length - 1], begin + one.size];
+    if (this.#last && goesOn(this.#last, one)) {
+      step.end = end;
+      step[one.kind] += sizeOf(one);
+    } else if (this.#last?.kind === "typed" && this.#last.site === one.site && replaces(first, one)) {
+      [step.end, step.deleted] = [end, sizeOf(one)];
+      this.#joins(one);
+      return;
+    } else {
+      const did = { typed: 0, deleted: 0, restored: 0, looked: 0, [one.kind]: sizeOf(one) };
+      this.found.push({ begin, end, site: one.site, ...did });
+      this.#firsts.push(one);
+    }
+    this.#last = one;
   }
 
-  /** How many messages of each site are among the first ones.
-   * @param {number} at @returns {[number, number][]} */
-  frontsAt(at) {
+  /** What was typed behind a character that was shown meanwhile is a step with that.
+   * @param {Operation} one */
+  #joins(one) {
+    if (!hidesAgain(this.#firsts[this.#firsts.length - 2], one)) return;
+    const [before, step] = this.found.splice(-2);
+    this.found.push({ ...step, begin: before.begin, deleted: 0 });
+    this.#firsts.splice(-2, 1);
+  }
+}
+
+export class History {
+  length = 0;
+  #counting;
+  #suggested;
+  /** @type {Stretch[]} */
+  #stretches = [];
+  // All that count, in order; and which of them type what is suggested, and hide it.
+  /** @type {Operation[]} */
+  #taken = [];
+  /** @type {Set<string> | null} */
+  #hidden = null;
+  // How many of each site's are here, and those that came before one of their site that they follow.
+  /** @type {Map<number, number>} */
+  #fronts = new Map();
+  /** @type {Map<number, Operation[]>} */
+  #waiting = new Map();
+
+  /** @param {Map<number, number>} counting how many of each site's messages count @param {import("./value.js").Names[]} suggested */
+  constructor(counting, suggested = []) {
+    [this.#counting, this.#suggested] = [counting, suggested];
+  }
+
+  /** The steps, without what types a replacement that is suggested, and hides it at once. */
+  get steps() {
+    const [hidden, steps] = [this.#hiding(), new Steps()];
+    const sites = new Set([...hidden].map((key) => Number(key.split(" ")[0])));
+    let begin = 0;
+    for (const run of this.#taken) {
+      for (const one of sites.has(run.site) ? messagesIn([run]) : [run]) {
+        if (!hidden.has(keyOf(one.site, one.seq))) steps.add(one, begin);
+        begin += one.size;
+      }
+    }
+    return steps.found;
+  }
+
+  /** How many messages of each site are among the first ones; of what is suggested all, or nothing.
+   * @param {number} place @returns {[number, number][]} */
+  frontsAt(place) {
     /** @type {Map<number, number>} */
     const fronts = new Map();
+    const at = this.#beforeHidden(place);
     for (const { begin, site, seq, size } of this.#stretches) {
       if (begin >= at) break;
       fronts.set(site, seq + Math.min(size, at - begin) - 1);
@@ -82,6 +128,31 @@ export class History {
       else this.#take(one);
     }
     for (const { site } of operations.slice(0, 1)) this.#takeWaiting(site);
+  }
+
+  #hiding() {
+    return (this.#hidden ??= hiddenAtOnce(this.#suggested, this.#taken));
+  }
+
+  /** A place; where that is between what types such a replacement and what hides it, the one before both.
+   * @param {number} place */
+  #beforeHidden(place) {
+    const isInside = this.#suggested.length > 0 && place > 0 && place < this.length;
+    if (!isInside || this.#keyBefore(place + 1)[0] !== this.#keyBefore(place)[0]) return place;
+    let at = place;
+    for (; at > 0; at -= 1) {
+      const [site, seq, isTyped] = this.#keyBefore(at);
+      if (!isTyped || !this.#hiding().has(keyOf(site, seq))) break;
+    }
+    return at;
+  }
+
+  /** The site and the seq of the message before a place, and whether it types.
+   * @param {number} place @returns {[number, number, boolean]} */
+  #keyBefore(place) {
+    let left = place;
+    const one = this.#taken.find(({ size }) => (left -= size) <= 0) ?? this.#taken[0];
+    return [one.site, one.seq + one.size - 1 + left, one.data.length > 0];
   }
 
   /** @param {number} site */
@@ -106,8 +177,8 @@ export class History {
     if (many <= 0) return;
     this.#fronts.set(one.site, front + many);
     this.#lengthen(one.site, front + 1, many);
-    this.#step(partOf(one, front + 1 - one.seq, many), this.length);
-    this.length += many;
+    this.#taken.push(partOf(one, front + 1 - one.seq, many));
+    [this.#hidden, this.length] = [null, this.length + many];
   }
 
   /** @param {number} site @param {number} seq @param {number} size */
@@ -115,33 +186,6 @@ export class History {
     const last = this.#stretches[this.#stretches.length - 1];
     if (last?.site === site && last.seq + last.size === seq) last.size += size;
     else this.#stretches.push({ begin: this.length, site, seq, size });
-  }
-
-  /** @param {Operation} one @param {number} begin */
-  #step(one, begin) {
-    const [step, first, end] = [this.steps[this.steps.length - 1], this.#firsts[this.#firsts.length - 1], begin + one.size];
-    if (this.#last && goesOn(this.#last, one)) {
-      step.end = end;
-      step[one.kind] += sizeOf(one);
-    } else if (this.#last?.kind === "typed" && this.#last.site === one.site && replaces(first, one)) {
-      [step.end, step.deleted] = [end, sizeOf(one)];
-      this.#joins(one);
-      return;
-    } else {
-      const did = { typed: 0, deleted: 0, restored: 0, looked: 0, [one.kind]: sizeOf(one) };
-      this.steps.push({ begin, end, site: one.site, ...did });
-      this.#firsts.push(one);
-    }
-    this.#last = one;
-  }
-
-  /** What was typed behind a character that was shown meanwhile is a step with that.
-   * @param {Operation} one */
-  #joins(one) {
-    if (!hidesAgain(this.#firsts[this.#firsts.length - 2], one)) return;
-    const [before, step] = this.steps.splice(-2);
-    this.steps.push({ ...step, begin: before.begin, deleted: 0 });
-    this.#firsts.splice(-2, 1);
   }
 }
 
@@ -159,9 +203,9 @@ export function messagesOf({ kind, body, site, first, count }) {
 
 /** The history of a text of a note, of whose sites each is somebody's, and so many messages of it count.
  * @param {import("./store.js").Kept[]} entries @param {import("./keys.js").NoteKeys} keys @param {number} text
- * @param {Map<number, string>} holders @param {Map<number, number>} counting */
-export async function historyOf(entries, keys, text, holders, counting) {
-  const history = new History(counting);
+ * @param {Map<number, string>} holders @param {Map<number, number>} counting @param {import("./value.js").Names[]} suggested */
+export async function historyOf(entries, keys, text, holders, counting, suggested) {
+  const history = new History(counting, suggested);
   const some = entries.map(({ raw }) => ({ raw, head: headOf(raw) })).filter(({ head: { kind, site, author, text: of } }) => (
     of === text && (kind === KIND.base || (kind === KIND.messages && holders.get(site) === hex(author)))));
   for (let begin = 0; begin < some.length; begin += AT_ONCE) {

@@ -1,8 +1,12 @@
 // A note's key and what comes of it, and signatures, as docs/NOTES.md has them: by WebCrypto alone.
-import { join, ofBase64url } from "./bytes.js";
+import { hex, join, ofBase64url } from "./bytes.js";
 
 export const [KEY_BYTES, IDENTITY_BYTES, NONCE_BYTES, POINT_BYTES, SIGNED_BYTES] = [32, 16, 12, 32, 64];
 const { subtle } = globalThis.crypto ?? {};
+/** The public keys that were asked for, by their bytes; and how many are kept at most.
+ * @type {Map<string, Promise<CryptoKey>>} */
+const publicKeys = new Map();
+const MOST_KEYS = 1_000;
 // What is before a secret of Ed25519 where WebCrypto takes one.
 const OF_SECRET = [0x30, 0x2e, 2, 1, 0, 0x30, 5, 6, 3, 0x2b, 0x65, 0x70, 4, 0x22, 4, 0x20];
 const [TOP_BIT, FIELD, ORDER] = [2n ** 255n, 2n ** 255n - 19n, 2n ** 252n + 27742317777372353535851937790883648493n];
@@ -42,21 +46,39 @@ export async function isSigned(data, signature, name) {
   if (signature.length !== SIGNED_BYTES || !isPoint(name) || !isPoint(signature.subarray(0, POINT_BYTES))
       || littleEndian(signature.subarray(POINT_BYTES)) >= ORDER) return false;
   try {
-    return await subtle.verify("Ed25519", await subtle.importKey("raw", name, "Ed25519", false, ["verify"]), signature, data);
+    return await subtle.verify("Ed25519", await publicKey(name), signature, data);
   } catch {
     return false;
   }
 }
 
+/** The key with a public half.
+ * @param {Uint8Array} name */
+function publicKey(name) {
+  const spelled = hex(name);
+  let key = publicKeys.get(spelled);
+  if (key) return key;
+  key = subtle.importKey("raw", name, "Ed25519", false, ["verify"]);
+  // Entries are by few authors; who makes up many has others' keys be imported again.
+  if (publicKeys.size >= MOST_KEYS) publicKeys.clear();
+  publicKeys.set(spelled, key);
+  key.catch(() => publicKeys.delete(spelled));
+  return key;
+}
+
 /** Whether a public key, or the first half of a signature, is one that all libraries check alike.
  * @param {Uint8Array} bytes */
 export function isPoint(bytes) {
+  if (bytes.length !== POINT_BYTES) return false;
   const y = littleEndian(bytes) % TOP_BIT;
-  return bytes.length === POINT_BYTES && y < FIELD && !SMALL_ORDER.includes(y);
+  return y < FIELD && !SMALL_ORDER.includes(y);
 }
 
-/** @param {Uint8Array} bytes */
-const littleEndian = (bytes) => bytes.reduceRight((value, byte) => value * 256n + BigInt(byte), 0n);
+/** @param {Uint8Array} bytes 32 of them */
+function littleEndian({ buffer, byteOffset }) {
+  const words = new DataView(buffer, byteOffset, POINT_BYTES);
+  return [24, 16, 8, 0].reduce((value, at) => value << 64n | words.getBigUint64(at, true), 0n);
+}
 
 /** What comes of a key for a use.
  * @param {Uint8Array} key @param {string} use */
@@ -64,6 +86,13 @@ export async function derived(key, use) {
   const from = await subtle.importKey("raw", key, "HKDF", false, ["deriveBits"]);
   const how = { name: "HKDF", hash: "SHA-256", salt: new Uint8Array(0), info: join("vialshoal 2 ", use) };
   return new Uint8Array(await subtle.deriveBits(how, from, 8 * KEY_BYTES));
+}
+
+/** What names something by a key.
+ * @param {Uint8Array} key @returns {Promise<(data: Uint8Array) => Promise<Uint8Array>>} */
+export async function digesting(key) {
+  const signs = await subtle.importKey("raw", key, { name: "HMAC", hash: "SHA-256" }, false, ["sign"]);
+  return async (data) => new Uint8Array(await subtle.sign("HMAC", signs, data));
 }
 
 /** The key of the note that begins with this.

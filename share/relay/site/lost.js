@@ -1,36 +1,37 @@
-// Text of a note that doesn't count, since the number under which it was typed is another's.
-import { hex, join } from "./bytes.js";
-import { KIND, headOf, openedKept } from "./entry.js";
-import { messagesOf } from "./history.js";
+// Text of a note that doesn't count for good, as it is told, and typed again.
+import { join } from "./bytes.js";
+import { passagesOf } from "./passages.js";
 import { readable } from "./shared.js";
 
-/** Whose messages they are, by number and author, and how many.
- * @typedef {{ author: string, site: number, messages: number }} Whose */
 /** @typedef {{ site: number, own: boolean, characters: number, messages: number, text: string }} LeftOut */
 
-/** What was typed of it.
- * @param {import("./store.js").Kept[]} entries @param {import("./keys.js").NoteKeys} keys @param {number} text @param {Whose[]} whose
- * @param {(author: string) => boolean} isOwn @returns {Promise<LeftOut[]>} */
-export async function leftOutOf(entries, keys, text, whose, isOwn) {
-  const heads = entries.map(({ raw }) => ({ raw, ...headOf(raw) })).filter((one) => one.kind === KIND.messages && one.text === text);
-  const found = await Promise.all(whose.map(async ({ author, site, messages }) => {
-    const some = heads.filter((one) => one.site === site && hex(one.author) === author).sort((one, other) => one.first - other.first);
-    const shown = typedIn(await Promise.all(some.map(({ raw }) => openedKept(keys, raw))));
-    return { site, own: isOwn(author), characters: [...shown].length, messages, text: shown };
-  }));
-  return found.filter(({ characters }) => characters > 0);
+/** @param {import("./sayings.js").LeftOut} lost @param {boolean} isOwn */
+const passagesIn = ({ branches }, isOwn) => branches.flatMap((branch) => passagesOf(branch.map(({ one }) => one), isOwn));
+
+/** What this browser's user typed of it, where it can be typed again.
+ * @param {import("./sayings.js").Sayings} sayings @param {import("./sayings.js").LeftOut[]} lost */
+export const passagesOfOwn = (sayings, lost) => lost.flatMap((one) => passagesIn(one, true)).map(({ cause, bytes }) => (
+  { cause: cause && sayings.isLost(cause) ? undefined : cause, bytes }));
+
+/** What is told of it.
+ * @param {import("./sayings.js").LeftOut} lost @param {boolean} own whether this browser's user typed it
+ * @returns {LeftOut} */
+export function toldOfLost(lost, own) {
+  const text = readable(join(...passagesIn(lost, own).map(({ bytes }) => bytes)));
+  const messages = lost.branches.flat().reduce((sum, { one }) => sum + one.size, 0);
+  return { site: lost.line.site, own, characters: [...text].length, messages, text };
 }
 
-/** What entries of one author typed, one after the other.
- * @param {import("./entry.js").Entry[]} entries */
-function typedIn(entries) {
-  /** @type {Uint8Array[]} */
-  const parts = [];
-  let last = 0;
-  for (const one of entries.flatMap(messagesOf)) {
-    // What comes twice is folded.
-    if (one.seq > last) parts.push(one.data);
-    last = Math.max(last, one.seq + one.size - 1);
-  }
-  return readable(join(...parts));
+/** What this browser's user is told as more of his text is left out.
+ * @param {number} many how many characters */
+export const leftOutInWords = (many) => (
+  `Left out, since others hold its place: ${many.toLocaleString("en")} ${many === 1 ? "character" : "characters"} of you. `
+  + "History shows that at its end, and types it again.");
+
+/** What its author says who has made it anew, up to the last message of each branch.
+ * @param {import("./sayings.js").Sayings} sayings @param {import("./sayings.js").LeftOut[]} lost
+ * @returns {Promise<import("./own.js").Word[]>} */
+export function wordsOf(sayings, lost) {
+  return Promise.all(lost.flatMap(({ line, branches }) => branches.map(async (branch) => (
+    { author: line.author, site: line.site, text: line.text, before: await sayings.lastOf(line, branch) }))));
 }

@@ -4,11 +4,14 @@ import { Trouble, hex } from "./bytes.js";
 import { KIND, claim, sealed } from "./entry.js";
 import { authorOf, sha256 } from "./keys.js";
 import { rankOf } from "./rank.js";
-import { TEXT } from "./shared.js";
 
 /** @typedef {import("./value.js").Saying} Saying */
 /** A number, with what signs for it; and its claim where that is to be made.
  * @typedef {{ site: number, author: import("./keys.js").Author, claims: { counter: bigint, rank: Uint8Array } | null }} Held */
+/** That messages of an own number were made anew, up to one.
+ * @typedef {{ author: string, site: number, text: number, before: Uint8Array }} Word */
+/** What was said, under which number, up to which of the editor's edits that has all, and what was made anew by it.
+ * @typedef {{ saying: Saying, number: Held, edits: number, words: Word[] }} Said */
 
 // The most entries that are sealed and kept at once.
 const AT_ONCE = 100;
@@ -23,14 +26,14 @@ export class Own {
   /** @type {Held | null} */
   #number = null;
   #ends = new AbortController();
-  /** @type {{ saying: Saying, edits: number }[]} */
+  /** @type {Said[]} */
   #queue = [];
   #isBusy = false;
   #going = Promise.resolve();
   /** @type {Set<number>} */
   #sites = new Set();
-  /** @type {Set<string>} */
-  #authors = new Set();
+  /** @type {Map<string, import("./keys.js").Author>} */
+  #authors = new Map();
 
   /** @param {import("./store.js").Store} store @param {import("./keys.js").NoteKeys} keys @param {string} id
    * @param {{ kept: (edits: number) => void, failed: () => void }} told of edits up to a number that are on the disk */
@@ -57,9 +60,16 @@ export class Own {
     return this.#authors.has(author);
   }
 
-  /** Writes under this number no more. */
-  leave() {
+  /** Writes under this number no more. What was said under it is kept under it all the same, with its claim: it counts where that has the
+   * lower rank, and else everybody is shown that it is left out. Under the next number it would take the places of what is said there. */
+  async leave() {
+    const site = this.#number?.site;
     this.#number = null;
+    /** @template {{ site: number }} Of @param {Of} one */
+    const left = (one) => (one.site === site ? { ...one, isLeft: true } : one);
+    // Where that can't be kept it is left once more, as the note is opened the next time.
+    await this.#store.keep(this.#id, [], ({ author, numbers = [] }) => (
+      { author: author && left(author), numbers: numbers.map(left) })).catch(() => {});
   }
 
   /** How many entries aren't on the disk yet. */
@@ -74,20 +84,24 @@ export class Own {
     if (this.#number || !note) return this.#number?.site ?? 0;
     const own = [note.author, ...note.numbers ?? []].flatMap((one) => (one ? [one] : []));
     this.#sites = new Set(own.map(({ site }) => site));
-    this.#authors = new Set(await Promise.all(own.map(async ({ secret }) => hex((await authorOf(secret)).name))));
-    if (note.author?.site && await this.#holds(note.author.site)) return this.#has(note.author, null);
+    const authors = await Promise.all(own.map(({ secret }) => authorOf(secret)));
+    this.#authors = new Map(authors.map((author) => [hex(author.name), author]));
+    if (note.author?.site && !note.author.isLeft && await this.#holds(note.author.site)) return this.#has(note.author, null);
     for (const one of note.numbers ?? []) {
-      const isUsable = one.isClaimed || !taken.has(one.site);
+      const isUsable = !one.isLeft && (one.isClaimed || !taken.has(one.site));
       if (isUsable && await this.#holds(one.site)) return this.#has(one, one.isClaimed ? null : one.counter);
     }
     return this.#takeSpare(taken);
   }
 
   /** Has what was said be sealed and kept, after what was said before.
-   * @param {Saying} saying @param {number} edits up to which of the editor's edits this has all */
-  say(saying, edits) {
+   * @param {Saying} saying @param {number} edits up to which of the editor's edits this has all
+   * @param {Word[]} words what was made anew, which is kept with it or not at all */
+  say(saying, edits, words = []) {
     if (this.failure) return;
-    this.#queue.push({ saying, edits });
+    const number = this.#number;
+    if (number?.site !== saying.site) throw new Error(`This is said under ${saying.site}, and this tab has ${number?.site ?? "no number"}.`);
+    this.#queue.push({ saying, number, edits, words });
     if (!this.#isBusy) this.#going = this.#go();
   }
 
@@ -96,8 +110,9 @@ export class Own {
     return this.#going;
   }
 
+  /** Lets others have the numbers, once all is kept that was said: whoever goes on under one has to know of that. */
   close() {
-    this.#ends.abort();
+    void this.settled().then(() => this.#ends.abort());
   }
 
   /** @param {Set<number>} taken */
@@ -118,7 +133,7 @@ export class Own {
     const claims = counter === null ? null : { counter, rank: await rankOf(this.#keys.identity, author.name, counter) };
     this.#number = { site, author, claims };
     this.#sites.add(site);
-    this.#authors.add(hex(author.name));
+    this.#authors.set(hex(author.name), author);
     return site;
   }
 
@@ -137,8 +152,8 @@ export class Own {
     this.#isBusy = true;
     try {
       while (this.#queue.length) {
-        const some = this.#queue.slice(0, AT_ONCE);
-        await this.#keep(some.map(({ saying }) => saying));
+        const some = this.#first();
+        await this.#keep(some[0].number, some);
         this.#queue.splice(0, some.length);
         this.#told.kept(some[some.length - 1].edits);
       }
@@ -151,15 +166,28 @@ export class Own {
     }
   }
 
-  /** @param {Saying[]} sayings */
-  async #keep(sayings) {
-    const { author, site, claims } = /** @type {Held} */ (this.#number);
-    const raws = await Promise.all(sayings.map(({ body, ...place }) => (
-      sealed(this.#keys, KIND.messages, author, { ...place, site, text: TEXT }, body))));
+  /** What is kept at once: what was said first, under one number. */
+  #first() {
+    const some = this.#queue.slice(0, AT_ONCE);
+    const end = some.findIndex(({ number }) => number !== some[0].number);
+    return end < 0 ? some : some.slice(0, end);
+  }
+
+  /** @param {Held} number @param {Said[]} some said under it */
+  async #keep(number, some) {
+    const { author, site, claims } = number;
+    const raws = await Promise.all(some.flatMap(({ saying: { body, ...place }, words }) => [
+      sealed(this.#keys, KIND.messages, author, place, body), ...words.map((word) => this.#sealedWord(word))]));
     if (claims) raws.unshift(await claim(this.#keys, author, { counter: claims.counter, site }));
     const entries = await Promise.all(raws.map(async (raw) => ({ hash: hex(await sha256(raw)), raw, isSent: false })));
     await this.#store.keep(this.#id, entries, ({ numbers = [] }) => (
       { numbers: numbers.map((one) => (one.site === site ? { ...one, isClaimed: true } : one)) }));
-    if (this.#number?.site === site) this.#number.claims = null;
+    number.claims = null;
+  }
+
+  /** @param {Word} word */
+  #sealedWord({ author: name, ...place }) {
+    const author = /** @type {import("./keys.js").Author} */ (this.#authors.get(name));
+    return sealed(this.#keys, KIND.anew, author, place, new Uint8Array(0));
   }
 }

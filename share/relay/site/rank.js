@@ -18,6 +18,13 @@ export async function rankOf(note, author, counter) {
   return new Uint8Array(await crypto.subtle.digest("SHA-512", tried)).slice(0, RANK_BYTES);
 }
 
+/** Whether a rank, or a hash, is less than another one.
+ * @param {Uint8Array} one @param {Uint8Array} other */
+export function isBelow(one, other) {
+  const at = one.findIndex((byte, place) => byte !== other[place]);
+  return at >= 0 && one[at] < other[at];
+}
+
 /** The number that a rank claims; 0 where it claims none.
  * @param {Uint8Array} rank @param {number} zeroBits */
 export function numberOfRank(rank, zeroBits = ZERO_BITS) {

@@ -7,27 +7,34 @@ import { Trouble } from "./bytes.js";
 import { RefusedByCore } from "./core.js";
 import { isAlike, setting, toldOf } from "./looking.js";
 import { inside } from "./rewriting.js";
+import { Whereabouts } from "./spots.js";
 
 /** @typedef {import("./value.js").Value} Value */
 /** @typedef {import("./value.js").Names} Names */
 /** What is between two positions gives way to a text.
  * @typedef {[number, number, string]} Change */
-/** The names that an edit brought, those that it took away, and those whose looks it changed.
- * @typedef {{ came: Names[], went: Names[], looked: Looked[] }} Step */
+/** The names that an edit brought, those that it took away, and those whose looks it changed; and the suggestion that it accepted.
+ * @typedef {{ came: Names[], went: Names[], looked: Looked[], accepts?: string }} Step */
 /** @typedef {import("./looking.js").Look} Look */
 /** @typedef {{ names: Names, was: Look, became: Look }} Looked */
 /** Where what a site wrote begins and ends.
  * @typedef {{ begin: number, end: number, site: number }} Wrote */
 
 export const TEXT = 1;
+export const OTHER_TEXT = "That is of another text.";
 const ENCODER = new TextEncoder();
 const [LINE_FEED, RETURN] = [10, 13];
+// How many characters are looked for one by one.
+const FEW = 2_000;
 
 use({ Buffer, isAscii, isUtf8, calls: null, Journal: null });
 
 /** A note's bytes as an editor's, or an editor's as a note's.
  * @param {Uint8Array} bytes */
 const swapped = (bytes) => bytes.map((byte) => (byte === LINE_FEED ? RETURN : byte === RETURN ? LINE_FEED : byte));
+
+/** @param {string} text */
+export const lengthInBytes = (text) => ENCODER.encode(text).length;
 
 /** A note's bytes as people read them.
  * @param {Uint8Array} bytes @returns {string} */
@@ -49,24 +56,27 @@ export function wroteOf(names, begin, unit) {
   return found;
 }
 
-/** An edit that isn't done, and why. */
+/** An edit that isn't done, and why, with what else is to be told. */
 export class Wrong extends Error {
-  /** @param {string} code @param {string} words */
-  constructor(code, words) {
+  /** @param {string} code @param {string} words @param {object} more */
+  constructor(code, words, more = {}) {
     super(words);
     this.code = code;
+    this.more = more;
   }
 }
 
 export class SharedText {
   #value;
   #positions = new Positions();
+  /** Where its characters are, once somebody asked, until it changes.
+   * @type {Whereabouts | null} */
+  #whereabouts = null;
 
   /** @param {Value} value */
   constructor(value) {
     this.#value = value;
-    this.#positions.tell();
-    this.changed();
+    this.changed(true);
   }
 
   get length() {
@@ -80,12 +90,13 @@ export class SharedText {
   }
 
   /** What has changed since this was asked last, each as the changes before it leave the text; nothing where the text was begun anew.
-   * @returns {Change[] | null} */
-  changed() {
-    const { isAnew, changes } = this.#value.changes(TEXT);
+   * @param {boolean} isFirst whether it wasn't asked before @returns {Change[] | null} */
+  changed(isFirst = false) {
+    const { isAnew, changes } = this.#value.changes(TEXT, isFirst);
+    if (isAnew || changes.length) this.#whereabouts = null;
     const read = (/** @type {number} */ beg, /** @type {number} */ end) => Buffer.from(this.#value.bytes(TEXT, beg, end));
     if (isAnew) {
-      [this.#positions, changes.length] = [new Positions(), 0];
+      this.#positions = new Positions();
       this.#positions.tell();
       changes.push({ kind: INSERT, beg: 0, end: this.#value.length(TEXT) });
     }
@@ -161,7 +172,7 @@ export class SharedText {
   /** The stretches that aren't plain, the first ones up to a number.
    * @param {number} most */
   dressed(most) {
-    const size = this.#value.length(TEXT);
+    const size = this.#value.mayHaveLooks ? this.#value.length(TEXT) : 0;
     /** @type {{ begin: number, end: number }[]} */
     const found = [];
     for (let at = 0; at < size && found.length < most;) {
@@ -175,13 +186,64 @@ export class SharedText {
 
   /** Takes an edit back by its names; what that changes. What others have changed since stays.
    * @param {Step} step @returns {Step} */
-  takeBack({ came, went, looked }) {
+  takeBack(step) {
+    const { came, went, looked } = step;
     const [goes, comes] = [came.flatMap((names) => this.#parts(names, true)), went.flatMap((names) => this.#parts(names, false))];
     this.#value.byNames(TEXT, goes, false);
     this.#value.byNames(TEXT, comes, true);
     const looks = looked.flatMap(({ names, was, became }) => this.#stretches(names).flatMap(([beg, end]) => (
       this.#looks(beg, end, (look) => (isAlike(look, became) ? was : look)))));
-    return { came: comes, went: goes, looked: looks };
+    return { ...step, came: comes, went: goes, looked: looks };
+  }
+
+  /** Types passages, each behind a character as far as that is here, and else at the end.
+   * @param {import("./passages.js").Passage[]} passages @returns {Step} */
+  put(passages) {
+    const came = passages.flatMap(({ cause, bytes }) => {
+      const at = cause === null ? 0 : (cause && this.find(cause)?.pos) ?? this.#value.length(TEXT);
+      this.#value.insert(TEXT, at, bytes);
+      return this.#value.names(TEXT, at, at + bytes.length);
+    });
+    return { came, went: [], looked: [] };
+  }
+
+  /** Types a text inside a passage that it is to replace, and hides it; its names.
+   * @param {Change} change @returns {Names[]} */
+  suggest([begin, end, text]) {
+    const [value, bytes] = [this.#value, swapped(ENCODER.encode(text))];
+    if (!text) return [];
+    const at = this.byteOf(begin + inside(this.slice(begin, end)));
+    value.insert(TEXT, at, bytes);
+    const names = value.names(TEXT, at, at + bytes.length);
+    value.byNames(TEXT, names, false);
+    this.changed();
+    return names;
+  }
+
+  /** Behind how many shown characters those of names are, or would be: the least and the greatest of these.
+   * @param {Names[]} names */
+  placesOf(names) {
+    let [first, last] = [Infinity, 0];
+    for (const [site, offset, many] of names) {
+      for (let at = offset; at < offset + many; at += 1) {
+        const found = this.#value.find(TEXT, site, at);
+        const place = found ? found.pos - Number(found.isShown) : 0;
+        [first, last] = [Math.min(first, place), Math.max(last, place)];
+      }
+    }
+    return { first, last };
+  }
+
+  /** The names of a stretch's characters.
+   * @param {number} begin @param {number} end */
+  namesOf(begin, end) {
+    return this.#value.names(TEXT, this.byteOf(begin), this.byteOf(end));
+  }
+
+  /** What stands between two bytes.
+   * @param {number} from @param {number} to */
+  between(from, to) {
+    return this.#read(from, to);
   }
 
   /** Which of neighbouring names are shown, or which aren't.
@@ -221,6 +283,32 @@ export class SharedText {
     return this.#value.names(TEXT, 0, this.#value.length(TEXT));
   }
 
+  /** Where its characters are. */
+  whereabouts() {
+    return (this.#whereabouts ??= new Whereabouts(this.names()));
+  }
+
+  /** Where some characters are that are shown, of a text of very many; nothing where none is.
+   * @param {Names} names @returns {import("./spots.js").Extent | null} */
+  extentOf(names) {
+    const [site, at, length] = names;
+    const [first, last] = [this.find([site, at]), this.find([site, at + length - 1])];
+    if (!first || !last || length > FEW) return this.whereabouts().of(names);
+    const begin = first.pos - Number(first.isShown);
+    const found = begin < last.pos ? new Whereabouts(this.#value.names(TEXT, begin, last.pos), begin).of(names) : null;
+    if (found?.many === length) return found;
+    let many = 0;
+    for (let offset = at; offset < at + length; offset += 1) many += Number(this.find([site, offset])?.isShown);
+    // Whoever types in another order has the first and the last stand anywhere.
+    return many === (found?.many ?? 0) ? found : this.whereabouts().of(names);
+  }
+
+  /** Where a character is, as of how many shown ones it is the last one, or would be behind; nothing where it isn't here.
+   * @param {[number, number]} name */
+  find([site, offset]) {
+    return this.#value.find(TEXT, site, offset);
+  }
+
   /** How many messages of each site count. */
   fronts() {
     return this.#value.fronts(TEXT);
@@ -236,6 +324,14 @@ export class SharedText {
    * @param {number} byte @returns {number} */
   unit(byte) {
     return this.#positions.unit(byte);
+  }
+
+  /** The unit at which a byte is; within a character that of its begin.
+   * @param {number} byte @returns {number} */
+  unitAt(byte) {
+    let at = byte;
+    while (at > 0 && this.#positions.byte(this.#positions.unit(at)) !== at) at -= 1;
+    return this.#positions.unit(at);
   }
 
   /** The name of the character before a place, as others are told where a cursor is; zeros at the front.
@@ -272,7 +368,7 @@ export class SharedText {
 /** What went wrong, as a page is answered it.
  * @param {unknown} why */
 export function errorOf(why) {
-  if (why instanceof Wrong) return { error: why.code, words: why.message };
+  if (why instanceof Wrong) return { error: why.code, words: why.message, ...why.more };
   if (why instanceof RefusedByCore) return { error: "refused", words: why.message, number: why.number };
   if (why instanceof Trouble) return { error: "failed", words: why.message };
   reportError(why);

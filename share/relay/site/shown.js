@@ -165,6 +165,7 @@ export class Shown {
   async #count() {
     const { entries, last } = await this.#store.entriesAfter(this.id, this.#counted);
     for (const { raw } of entries) await this.#facts.add(raw);
+    await this.#facts.base.look();
     this.#counted = last;
   }
 

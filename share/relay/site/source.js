@@ -3,7 +3,8 @@
 import { Asking } from "./asking.js";
 import { Looked } from "./looked.js";
 import { People } from "./peopled.js";
-import { errorOf } from "./shared.js";
+import { ABOUT_MARGIN, Reviewing } from "./reviewing.js";
+import { OTHER_TEXT, Wrong, errorOf } from "./shared.js";
 import { Telling } from "./telling.js";
 import { Typing } from "./typing.js";
 import { Whole } from "./whole.js";
@@ -17,6 +18,7 @@ const COLOURS = ["#000000", "#000000", "#cc2222", "#228822", "#2222cc", "#aa22aa
 
 /** @typedef {import("./telling.js").Told} Told */
 /** @typedef {import("./shared.js").Change} Change */
+/** @typedef {import("./shared.js").SharedText} SharedText */
 
 export class Source {
   #told;
@@ -27,11 +29,14 @@ export class Source {
   #telling;
   #typing;
   #asking;
+  #reviewing;
   #looked;
   // The request that opens the note, until it is answered; and whether the relay's log is read for the first time.
   /** @type {any} */
   #asks = null;
   #isFirst;
+  // How often it was opened.
+  #opened = 0;
 
   /** @param {Told} told @param {import("./core.js").Core} core @param {import("./store.js").Store} store
    * @param {import("./keys.js").NoteKeys} keys @param {import("./store.js").Note} note */
@@ -47,7 +52,8 @@ export class Source {
     this.#telling = new Telling(told, this.#whole, this.#people);
     this.#typing = new Typing(this.#whole, this.#telling);
     this.#looked = new Looked(store, note, () => this.#whole.text?.fronts());
-    this.#asking = new Asking(this.#whole, this.#people, this.#telling, this.#looked);
+    this.#reviewing = new Reviewing(this.#whole, this.#telling, this.#typing, this.#people);
+    this.#asking = new Asking(this.#whole, this.#people, this.#telling, this.#looked, () => this.#reviewing.suggested());
   }
 
   /** Greets the page. */
@@ -58,6 +64,7 @@ export class Source {
 
   close() {
     this.#telling.close();
+    this.#reviewing.close();
     this.#looked.close();
     this.#whole.close();
   }
@@ -84,9 +91,10 @@ export class Source {
       this.#reads(standing.read, standing.of);
       return;
     }
-    [this.#asks, this.#isFirst] = [null, false];
+    [this.#asks, this.#isFirst, this.#opened] = [null, false, this.#opened + 1];
     this.#telling.begin();
     this.#typing.begin();
+    this.#reviewing.begin();
     this.#isCalled(asks.name);
     this.#told.came({ answer: "open", id: asks.id, note: this.#note.name, units: "utf-16", text: text.slice(), version: 0, edits: 0, you: 1,
       site: this.#whole.own.number?.site ?? 0, most: MOST, colours: COLOURS });
@@ -128,7 +136,9 @@ export class Source {
   #stands() {
     this.#opens();
     this.#telling.stands();
-    if (this.#telling.isOpen) this.#looked.shows();
+    if (!this.#telling.isOpen) return;
+    this.#looked.shows();
+    this.#reviewing.follows();
   }
 
   // Requests.
@@ -137,8 +147,12 @@ export class Source {
    * @param {any} line */
   async #answers(line) {
     const more = line.id === undefined ? {} : { id: line.id };
-    const found = this.#asked(line);
-    const answer = { answer: line.do, ...more, ...await Promise.resolve(found).catch(errorOf) };
+    const opened = this.#opened;
+    const found = await Promise.resolve(this.#asked(line)).catch(errorOf);
+    // Whoever asked is gone.
+    if (opened !== this.#opened) return;
+    // What is about places is found as it is told.
+    const answer = { answer: line.do, ...more, ...(typeof found === "function" ? orError(found) : found) };
     if (line.do === "close") await this.#ends(answer);
     else this.#told.came(answer);
   }
@@ -151,7 +165,17 @@ export class Source {
     if (this.#told.ended("")) await this.open();
   }
 
-  /** @param {any} line @returns {object | Promise<object>} */
+  /** Types again what is left out of what the page's user typed.
+   * @param {SharedText} text */
+  async #recovers(text) {
+    const lost = await this.#whole.recover((passages) => {
+      if (text !== this.#whole.text) throw new Wrong("order", OTHER_TEXT);
+      this.#typing.puts(text, passages);
+    });
+    return { lost };
+  }
+
+  /** @param {any} line @returns {object | Promise<object | (() => object)>} */
   #asked(line) {
     const { text } = this.#whole;
     if (line.do === "text") {
@@ -165,18 +189,27 @@ export class Source {
       switch (line.do) {
         case "undo": case "redo": return this.#typing.undo(text, line);
         case "looks": return this.#typing.look(text, line);
+        case "recover": return this.#recovers(text);
         case "cursor": return this.#typing.cursor(text, line);
         case "on": return this.#asking.on();
         case "who": return this.#asking.who(text, line);
         case "history": return this.#asking.history(line);
         case "past": return this.#asking.past(text, line);
         case "changed": return this.#asking.changed(text, line);
-        // Whoever is told this asks for none again.
-        case "remarks": return { error: "margin", words: NOT_HERE };
-        default: return { error: "unknown", words: NOT_HERE };
+        default: return ABOUT_MARGIN.has(line.do) ? this.#reviewing.does(text, line) : { error: "unknown", words: NOT_HERE };
       }
     } catch (why) {
       return errorOf(why);
     }
+  }
+}
+
+/** What is found, or why it isn't.
+ * @param {() => object} finds */
+function orError(finds) {
+  try {
+    return finds();
+  } catch (why) {
+    return errorOf(why);
   }
 }

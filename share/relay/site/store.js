@@ -11,12 +11,12 @@ const WORDS = { QuotaExceededError: NO_ROOM, VersionError: NEWER, InvalidStateEr
  * `author` the secret and the number of who founded it here, `spare` those of a number that was searched for, and the counter of its claim;
  * `numbers` those that were taken so, of which each tab writes under one; `people` what those with some numbers are called; `looked` when its user looked at it last.
  * @typedef {{ id: string, key: Uint8Array, url: string, name: string, place: string, size: number, heard: number, bad: number,
- *   author: { secret: Uint8Array, site: number } | null, spare?: Searched | null, numbers?: Searched[],
+ *   author: { secret: Uint8Array, site: number, isLeft?: boolean } | null, spare?: Searched | null, numbers?: Searched[],
  *   people?: Record<number, string>, looked?: Look }} Note */
 /** Its time in seconds, and how many messages of each site counted then.
  * @typedef {{ time: number, fronts: [number, number][] }} Look */
-/** A number that was searched for, and whose claim may be in the log.
- * @typedef {{ secret: Uint8Array, site: number, counter: bigint, isClaimed?: boolean }} Searched */
+/** A number that was searched for, and whose claim may be in the log; under one that was left nothing more is written.
+ * @typedef {{ secret: Uint8Array, site: number, counter: bigint, isClaimed?: boolean, isLeft?: boolean }} Searched */
 /** An entry, named by its hash. The relay may lack what isn't sent.
  * @typedef {{ hash: string, raw: Uint8Array, isSent: boolean }} Kept */
 /** @typedef {{ name: string, colour: string }} You */
@@ -125,7 +125,7 @@ export class Store {
     return this.#do("readwrite", async (store) => {
       if (await asked(store("notes").get(note.id))) return;
       await asked(store("notes").put(note));
-      for (const one of entries) await keepOne(store("entries"), note.id, one);
+      await keepAll(store("entries"), note.id, entries);
     });
   }
 
@@ -135,8 +135,7 @@ export class Store {
     return this.#do("readwrite", async (store) => {
       const note = await asked(store("notes").get(id));
       if (!note) throw new DOMException("", "NotFoundError");
-      let many = 0;
-      for (const one of entries) many += await keepOne(store("entries"), id, one);
+      const many = await keepAll(store("entries"), id, entries);
       await asked(store("notes").put({ ...note, ...(typeof changes === "function" ? changes(note) : changes), ...(many ? { heard: Date.now() } : {}) }));
       return many;
     });
@@ -215,12 +214,18 @@ export class Store {
 /** @param {any} one @returns {Kept} */
 const kept = ({ hash, raw, unsent }) => ({ hash, raw, isSent: !unsent });
 
-/** Keeps an entry, or that it is sent; whether it is new.
- * @param {IDBObjectStore} store @param {string} note @param {Kept} one */
-async function keepOne(store, note, { hash, raw, isSent }) {
-  const key = await asked(store.index("named").getKey([note, hash]));
-  const value = { note, hash, raw, ...(isSent ? {} : { unsent: 1 }) };
-  if (key === undefined) await asked(store.add(value));
-  else if (isSent) await asked(store.put(value, key));
-  return key === undefined ? 1 : 0;
+/** Keeps entries, or that they are sent; how many are new. None waits for the answer about another: that is most of the time.
+ * @param {IDBObjectStore} store @param {string} note @param {Kept[]} entries */
+async function keepAll(store, note, entries) {
+  /** @type {Map<string, Kept>} */
+  const some = new Map();
+  for (const one of entries) if (one.isSent || !some.has(one.hash)) some.set(one.hash, one);
+  const named = store.index("named");
+  const keys = await Promise.all(Array.from(some.keys(), (hash) => asked(named.getKey([note, hash]))));
+  await Promise.all(Array.from(some.values(), ({ hash, raw, isSent }, at) => {
+    const value = { note, hash, raw, ...(isSent ? {} : { unsent: 1 }) };
+    if (keys[at] === undefined) return asked(store.add(value));
+    return isSent && asked(store.put(value, keys[at]));
+  }));
+  return keys.filter((key) => key === undefined).length;
 }

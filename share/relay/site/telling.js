@@ -1,4 +1,5 @@
 // What a page is told of a note: its text's changes, how things are, who is where.
+import { errorOf } from "./shared.js";
 import { stateOf } from "./standing.js";
 
 /** What a page is told, as by the connection to a local engine.
@@ -61,6 +62,18 @@ export class Telling {
   text() {
     const { text } = this.#whole;
     if (this.isOpen && text) this.#notice("text", { text: text.slice() });
+  }
+
+  /** How many threads there are, and how many are open; each may be otherwise than it was.
+   * @param {number} all @param {number} open */
+  counted(all, open) {
+    if (this.isOpen) this.#told.came({ notice: "remarks", all, open });
+  }
+
+  /** What went wrong.
+   * @param {unknown} why */
+  says(why) {
+    if (this.isOpen) this.#told.came({ notice: "says", words: errorOf(why).words });
   }
 
   /** All up to an edit is on the disk, or it isn't, for a reason.

@@ -1,16 +1,18 @@
 // What a page's user does to a note's text.
 import { Wrong, errorOf } from "./shared.js";
 import { Undoing } from "./undoing.js";
+import { NO_NUMBER } from "./whole.js";
 
 /** @typedef {import("./shared.js").Change} Change */
 /** @typedef {import("./shared.js").SharedText} SharedText */
-
-const NO_NUMBER = "Nothing can be typed yet: a number is searched for.";
 
 export class Typing {
   #whole;
   #telling;
   #undoing = new Undoing();
+  /** Is told whose acceptance of a suggestion was done again, or taken back.
+   * @type {(id: string, isAccepted: boolean) => void} */
+  accepted = () => {};
 
   /** @param {import("./whole.js").Whole} whole @param {import("./telling.js").Telling} telling */
   constructor(whole, telling) {
@@ -35,7 +37,7 @@ export class Typing {
     try {
       if (!text || !telling.isOpen || !isNext) throw new Wrong("order", "That edit isn't the next one.");
       if (version !== telling.version) throw new Wrong("version", "That edit is of another text.");
-      this.#mayType();
+      this.mayType();
       this.#make(text, changes, join);
       this.#whole.made(edits);
     } catch (why) {
@@ -49,18 +51,46 @@ export class Typing {
   /** @param {SharedText} text @param {any} line */
   undo(text, line) {
     if (!this.#whole.types || line.begin !== undefined) return { done: false };
-    const isDone = this.#undoing.undo(line.do === "redo", (step) => text.takeBack(step));
+    const isRedo = line.do === "redo";
+    const step = this.#undoing.undo(isRedo, (one) => text.takeBack(one));
+    if (step?.accepts) this.accepted(step.accepts, isRedo);
+    this.#made(text);
+    return { done: Boolean(step) };
+  }
+
+  /** Does what can be taken back by names, of which the page is told; whether that did something.
+   * @param {SharedText} text @param {import("./shared.js").Step} step */
+  does(text, step) {
+    const done = text.takeBack(step);
+    const isDone = done.came.length + done.went.length > 0;
+    this.#undoing.add(done);
+    if (isDone && step.accepts) this.accepted(step.accepts, true);
+    this.#made(text);
+    return isDone;
+  }
+
+  /** Types what is left out of the user's text.
+   * @param {SharedText} text @param {import("./passages.js").Passage[]} passages */
+  puts(text, passages) {
+    this.#telling.settle();
+    this.mayType();
+    this.#undoing.add(text.put(passages));
+    this.#made(text);
+  }
+
+  /** Tells what was made for the page's user.
+   * @param {SharedText} text */
+  #made(text) {
     const changes = text.changed() ?? [];
     const last = changes[changes.length - 1];
     this.#undoing.moved(changes);
     if (last) this.#telling.changes(changes, { cursor: last[0] + last[2].length });
     this.#whole.made(this.#telling.edits);
-    return { done: isDone };
   }
 
   /** @param {SharedText} text @param {any} line */
   look(text, { ranges, bold, colour }) {
-    this.#mayType();
+    this.mayType();
     this.#undoing.add(text.look(ranges, { bold, colour }));
     this.#whole.made(this.#telling.edits);
     return {};
@@ -74,7 +104,8 @@ export class Typing {
     return {};
   }
 
-  #mayType() {
+  /** Raises Wrong where nothing can be typed. */
+  mayType() {
     const { failure } = this.#whole.own;
     if (failure) throw new Wrong("unkept", failure);
     if (!this.#whole.types) throw new Wrong("number", NO_NUMBER);

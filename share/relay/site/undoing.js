@@ -55,7 +55,7 @@ export class Undoing {
     }
   }
 
-  /** Takes the last edit back, or does it again; whether there was one.
+  /** Takes the last edit back, or does it again; what that changed, if there was one.
    * @param {boolean} isRedo @param {(step: Step) => Step} takesBack gives what that changed */
   undo(isRedo, takesBack) {
     const [from, to] = isRedo ? [this.#undone, this.#done] : [this.#done, this.#undone];
@@ -64,9 +64,9 @@ export class Undoing {
       const changed = takesBack(step);
       if (isEmpty(changed)) continue;
       to.push(changed);
-      return true;
+      return changed;
     }
-    return false;
+    return null;
   }
 
   /** Forgets all. */

@@ -1,10 +1,10 @@
 // The value of a note, which the core has: entries come to it in any order, and what counts of them it shows.
-import { join, number } from "./bytes.js";
+import { join, number, numberAt } from "./bytes.js";
+import { hasLooks } from "./chunk.js";
 import { RefusedByCore } from "./core.js";
 
 /** @typedef {import("./core.js").Core} Core */
-/** Names of neighbouring characters: a site, an offset, and how many from there on.
- * @typedef {[number, number, number]} Names */
+/** @typedef {import("./chunk.js").Names} Names */
 /** What an entry of messages has in its head and its body.
  * @typedef {{ author: Uint8Array, site: number, text: number, first: number, count: number, before: Uint8Array,
  *   body: Uint8Array }} Saying */
@@ -12,7 +12,7 @@ import { RefusedByCore } from "./core.js";
 /** What a note begins with: its founder's key and number, and a base, with the hash of its last message and the key of its hashes.
  * @typedef {{ founder: Uint8Array, number: number, baseKey: Uint8Array, root: Uint8Array, base: Uint8Array }} Beginning */
 
-const [HASH_BYTES, HEAD_BYTES, NAME, NAMES, CHANGE, NO_MESSAGE, MOST_NAMES, ALL_LOOKS] = [32, 76, 8, 12, 24, 108, 1_024, 7];
+const [HASH_BYTES, HEAD_BYTES, ON_BYTES, NAME, NAMES, CHANGE, NO_MESSAGE, MOST_NAMES, ALL_LOOKS] = [32, 76, 34, 8, 12, 24, 108, 1_024, 7];
 // Under which nobody types: of who only reads.
 const NO_SITE = 65_535;
 
@@ -20,7 +20,21 @@ const NO_SITE = 65_535;
  * @param {number} value @param {number} size */
 const little = (value, size) => number(value, size).reverse();
 
+/** The chunks of a base.
+ * @param {Uint8Array} base */
+function chunksIn(base) {
+  /** @type {Uint8Array[]} */
+  const found = [];
+  for (let [at, end] = [2, 0]; at <= base.length; at = end + 2) {
+    end = at + base[at - 2] + 256 * base[at - 1];
+    found.push(base.subarray(at, end));
+  }
+  return found;
+}
+
 export class Value {
+  /** Whether some characters may not look plain. To ask which takes a walk over the whole text. */
+  mayHaveLooks;
   #core;
   #at;
   // Where a text is handed out as it was.
@@ -30,6 +44,7 @@ export class Value {
    * @param {number} site under which is typed here, or 0 */
   constructor(core, hash, { founder, number: its, baseKey, root, base }, site) {
     this.#core = core;
+    this.mayHaveLooks = chunksIn(base).some(hasLooks);
     [this.#at, this.#past] = [core.word(), core.word()];
     core.handed(join(hash, founder, baseKey, root, base), (at) => {
       const [by, key, last, chunks] = [1, 2, 3, 4].map((one) => at + one * HASH_BYTES);
@@ -49,13 +64,15 @@ export class Value {
     core.handed(join(author, rank), (at) => core.does("note_claim", this.#at, at, site, at + HASH_BYTES));
   }
 
-  /** An entry of messages came. Its body may be none.
+  /** An entry of messages came; whether its body is one of such an entry.
    * @param {Saying} entry */
   add({ author, site, text, first, count, before, body }) {
     const core = this.#core;
     const head = join(author, before, little(first, 4), little(count, 2), little(site, 2), little(text, 2), [0, 0]);
     const refused = core.handed(join(head, body), (at) => core.call("note_add", this.#at, at, at + HEAD_BYTES, body.length));
     if (refused > 1) throw new RefusedByCore(refused);
+    this.mayHaveLooks ||= hasLooks(body.subarray(2 + ON_BYTES * numberAt(body, 0, 2)));
+    return refused === 0;
   }
 
   /** Shows what counts. */
@@ -78,6 +95,7 @@ export class Value {
    * @param {number} text @param {number} beg @param {number} end @param {import("./looking.js").Look} look */
   changeLooks(text, beg, end, { font, colour, offset }) {
     const core = this.#core;
+    this.mayHaveLooks = true;
     core.handed(join(font), (at, length) => core.does("note_change_looks", this.#at, text, BigInt(beg), BigInt(end), ALL_LOOKS, at, length,
       colour, offset, core.answer));
   }
@@ -105,15 +123,26 @@ export class Value {
     }
   }
 
-  /** Has own edits count, as entries by who has the number, which are given: before others' that came since, as they are shown. In another
-   * order the text would begin anew.
-   * @param {number} text @param {Uint8Array} author */
-  say(text, author) {
+  /** Has own edits of texts count, as entries by who has the number, which are given: before others' that came since, as they are shown. In
+   * another order the text would begin anew.
+   * @param {number[]} texts @param {Uint8Array} author */
+  say(texts, author) {
     /** @type {Saying[]} */
     const found = [];
-    for (let one = this.#own(text, author, 0); one; one = this.#own(text, author, found.length)) found.push(one);
+    for (const text of texts) {
+      let one = this.#own(text, author, 0);
+      for (let index = 1; one; index += 1) {
+        found.push(one);
+        one = this.#own(text, author, index);
+      }
+    }
     for (const one of found) this.add(one);
-    if (found.length) this.update();
+    try {
+      if (found.length) this.update();
+    } catch (why) {
+      // They are added, so they count, now or after the next update: whoever is to keep them has to have them.
+      if (!(why instanceof RefusedByCore)) throw why;
+    }
     return found;
   }
 
@@ -210,15 +239,18 @@ export class Value {
     }
   }
 
-  /** What changed of what is shown, since this was asked last; and whether all that was shown then gives way to all that is shown now.
-   * @param {number} text */
-  changes(text) {
+  /** What changed of what is shown, since this was asked last; and whether all that was shown then gives way to all that is shown now, as
+   * it does for whoever asks first.
+   * @param {number} text @param {boolean} isFirst */
+  changes(text, isFirst = false) {
     const core = this.#core;
     const flag = core.answer + 8;
-    return core.filled(CHANGE, (at, most) => core.call("note_changes", this.#at, text, flag, at, most, core.answer), (at, many) => ({
-      isAnew: core.byte(flag) === 1,
-      changes: Array.from({ length: many }, (_, index) => at + CHANGE * index).map((one) => (
-        { kind: core.number(one), beg: core.wide(one + 8), end: core.wide(one + 16) })),
-    }));
+    return core.filled(CHANGE, (at, most) => core.call("note_changes", this.#at, text, flag, at, most, core.answer), (at, many) => {
+      const isAnew = isFirst || core.byte(flag) === 1;
+      /** @type {Changed[]} */
+      const changes = Array.from({ length: isAnew ? 0 : many }, (_, index) => at + CHANGE * index).map((one) => (
+        { kind: core.number(one), beg: core.wide(one + 8), end: core.wide(one + 16) }));
+      return { isAnew, changes };
+    });
   }
 }

@@ -1,12 +1,14 @@
 // A note that is open in this tab as a whole site: what others' entries bring is shown, and what is typed here becomes entries, under a
 // number that this tab alone has meanwhile.
 import { Trouble, hex } from "./bytes.js";
+import { writtenBeside } from "./beside.js";
 import { Feed } from "./feed.js";
 import { Followed } from "./followed.js";
 import { historyOf } from "./history.js";
-import { leftOutOf } from "./lost.js";
+import { leftOutInWords, passagesOfOwn, toldOfLost, wordsOf } from "./lost.js";
 import { Own } from "./own.js";
-import { SharedText, TEXT } from "./shared.js";
+import { MARGIN, idOf } from "./record.js";
+import { SharedText, TEXT, Wrong } from "./shared.js";
 import { Spare } from "./spare.js";
 
 /** @typedef {import("./shared.js").Change} Change */
@@ -16,6 +18,8 @@ import { Spare } from "./spare.js";
  * @typedef {{ isBusy: () => boolean, settle: () => void, changed: (changes: Change[] | null) => void, unkept: (words: string) => void,
  *   kept: (edits: number) => void, reads: (done: number, of: number) => void, stands: () => void, says: (words: string) => void }} Ear */
 
+export const NO_NUMBER = "Nothing can be typed yet: a number is searched for.";
+const NOTHING_LOST = "Nothing that you typed is left out.";
 // How soon it is seen again whether others' text may be shown.
 const AGAIN_MS = 20;
 
@@ -37,15 +41,26 @@ export class Whole {
   /** @type {Feed | null} */
   #shown = null;
   #spare;
-  // Up to which of the editor's edits all was said, or is about to be.
+  // Up to which of the editor's edits all was said, or is about to be; whether something that was done isn't said yet; and who waits until
+  // all is kept.
   #edits = 0;
-  // Of whom it was seen last what doesn't count.
-  #lost = "[]";
+  #isUnsaid = false;
+  /** @type {{ done: () => void, failed: (why: Error) => void }[]} */
+  #waiters = [];
+  // What doesn't count for good, and what of that this browser's user has typed anew, until that is said; and whether others' entries came
+  // since it was seen.
+  /** @type {import("./sayings.js").LeftOut[]} */
+  #lost = [];
+  /** @type {import("./own.js").Word[]} */
+  #words = [];
+  #hasNews = false;
   #turn = Promise.resolve();
   /** @type {ReturnType<typeof setTimeout> | undefined} */
   #later;
   #hasEnded = false;
   #isDue = false;
+  // Why nothing is shown, as it was said last.
+  #why = "";
 
   /** @param {import("./core.js").Core} core @param {import("./store.js").Store} store @param {import("./keys.js").NoteKeys} keys
    * @param {import("./store.js").Note} note @param {Ear} ear */
@@ -66,6 +81,13 @@ export class Whole {
     return this.#feed.facts;
   }
 
+  /** What counts of what is shown: all that is said, and how much of that in the margin and in the text.
+   * @returns {import("./notemargin.js").Counting | null} */
+  get counting() {
+    const { value, sayings } = this.#shown ?? {};
+    return value && sayings ? { sayings, margin: new Map(value.fronts(MARGIN)), text: new Map(value.fronts(TEXT)) } : null;
+  }
+
   /** Whether something can be typed. */
   get types() {
     return Boolean(this.text && !this.own.failure && this.own.number && this.own.number.site === this.#shown?.site);
@@ -76,10 +98,10 @@ export class Whole {
     return this.#spare.isSearching && !this.own.number;
   }
 
-  /** Says what an edit did, which the text shows already: at once, or after what is being kept.
+  /** Says what an edit did, or an undo, or looks, which the text shows already: at once, or after what is being kept.
    * @param {number} edits */
   made(edits) {
-    this.#edits = edits;
+    [this.#edits, this.#isUnsaid] = [edits, true];
     if (this.own.waiting || this.#isDue) return;
     this.#isDue = true;
     // After what the editor does in one go.
@@ -89,25 +111,82 @@ export class Whole {
     });
   }
 
-  /** How the text came to be. */
-  async history() {
+  /** Writes lines into the margin, which are made of how much this number wrote there before; the id of the first once they are on the disk.
+   * @param {(at: number) => Promise<Uint8Array[]>} makes @param {number} site a number of this browser's user, which may be another's tab */
+  async write(makes, site = this.own.number?.site ?? 0) {
+    if (site !== this.own.number?.site) {
+      const id = await writtenBeside(this.#core, this.#store, this.#keys, this.#note.id, site, makes);
+      this.followed.kept();
+      this.#came(true);
+      await this.#turn;
+      return id;
+    }
+    await this.kept();
+    const { sayings, margin } = this.counting ?? {};
+    const lines = await makes((await sayings?.line(MARGIN, site, margin?.get(site) ?? 0))?.length ?? 0);
+    if (!this.types) throw new Wrong("number", NO_NUMBER);
+    const [id] = lines.map((line) => this.writeLine(line));
+    await this.kept();
+    return id;
+  }
+
+  /** Writes a line into the margin, by this tab's number; the id of what it says.
+   * @param {Uint8Array} line */
+  writeLine(line) {
+    const value = /** @type {import("./value.js").Value} */ (this.#shown?.value);
+    value.insert(MARGIN, 0, line);
+    this.made(this.#edits);
+    const [[site, at]] = value.names(MARGIN, 0, 1);
+    return idOf(site, at);
+  }
+
+  /** Ends once all that was done is on the disk.
+   * @returns {Promise<void>} */
+  kept() {
+    if (!this.#isUnsaid && !this.own.waiting) return Promise.resolve();
+    return new Promise((done, failed) => { this.#waiters.push({ done, failed }); });
+  }
+
+  /** Has what is left out of this browser's user's text be typed again, by `types`, and says that it was; what that is.
+   * @param {(passages: import("./passages.js").Passage[]) => void} types */
+  async recover(types) {
+    const { sayings } = this.#shown ?? {};
+    const own = this.#lost.filter((one) => this.#isOwn(one));
+    const words = sayings ? await wordsOf(sayings, own) : [];
+    if (!sayings || !words.length || own.some((one) => !this.#lost.includes(one))) throw new Wrong("order", NOTHING_LOST);
+    const told = this.leftOut.filter((one) => one.own);
+    types(passagesOfOwn(sayings, own));
+    this.#words = words;
+    for (const word of words) sayings.wasMadeAnew(word);
+    this.#next(() => this.#seesLost());
+    await this.kept();
+    return told;
+  }
+
+  /** How the text came to be, without replacements that are suggested.
+   * @param {import("./value.js").Names[]} suggested */
+  async history(suggested) {
     const [{ entries }, { facts }] = [await this.#store.entries(this.#note.id), this];
     const holders = new Map(facts.numbers().map(({ site, author }) => [site, author]));
-    return historyOf(entries, this.#keys, TEXT, holders, new Map(this.text?.fronts()));
+    return historyOf(entries, this.#keys, TEXT, holders, new Map(this.text?.fronts()), suggested);
   }
 
   /** Ends once all is kept; edits are counted from 0 then. */
   async settled() {
+    await this.own.settled();
+    // What was done while that was being kept.
+    if (this.#isUnsaid) this.#show();
     await this.own.settled();
     this.#edits = 0;
   }
 
   close() {
     this.#hasEnded = true;
+    if (this.types && this.#isUnsaid) this.#say();
     clearTimeout(this.#later);
     this.own.close();
     this.#spare.close();
-    this.followed.close();
+    this.followed.close(this.own.settled());
   }
 
   #newFeed() {
@@ -128,37 +207,80 @@ export class Whole {
   #came(hasEntries) {
     if (hasEntries) this.#next(() => this.#feedOn());
     else this.#ear.stands();
+    this.#next(async () => this.#saysWhy());
+  }
+
+  /** Says once why nothing is shown, where all was read. */
+  #saysWhy() {
+    const { isUp, read, of } = this.followed.standing;
+    const why = isUp && read >= of ? this.#feed.why : this.#why;
+    if (why && why !== this.#why) this.#ear.says(why);
+    this.#why = why;
   }
 
   async #feedOn() {
     await this.#fed(await this.#feed.next((done, of) => this.#ear.reads(done, of)));
   }
 
-  /** Shows what was read, if there is more; and takes another number, where somebody has claimed it since it was searched for.
+  /** Shows what was read, if there is more; and takes another number, where this one is somebody else's.
    * @param {boolean} hasMore */
   async #fed(hasMore) {
-    const { number } = this.own;
-    const isTaken = Boolean(number?.claims && this.#isTaken(number));
-    if (isTaken) this.own.leave();
+    const leaves = this.#isTaken() ? this.#leave() : null;
+    this.#hasNews ||= hasMore;
     if (hasMore) this.#show();
-    await this.#seesLost();
     this.#ear.stands();
-    if (isTaken) await this.#takeNumber();
+    if (leaves) await this.#takeNext(leaves);
   }
 
-  /** Sees what doesn't count for good, where that is of others, or more, than before. */
+  /** Leaves the number, after all that was typed under it. */
+  #leave() {
+    this.#say();
+    return this.own.leave();
+  }
+
+  /** Takes another number; the text is begun anew from what is kept.
+   * @param {Promise<void>} leaves */
+  async #takeNext(leaves) {
+    await leaves;
+    await this.own.settled();
+    await this.#takeNumber();
+  }
+
+  /** Sees what doesn't count for good. What would be typed under a number of which something doesn't could be lost, too. */
   async #seesLost() {
-    const whose = this.facts.leftOut(TEXT);
-    const lost = JSON.stringify(whose);
-    if (lost === this.#lost) return;
-    const { entries } = await this.#store.entries(this.#note.id);
-    this.leftOut = await leftOutOf(entries, this.#keys, TEXT, whose, (author) => this.own.isOwnAuthor(author));
-    this.#lost = lost;
+    const { value, sayings } = this.#shown ?? {};
+    if (!value || !sayings) return;
+    const lost = await sayings.leftOut(TEXT, new Map(value.fronts(TEXT)));
+    if (lost !== this.#lost) this.#tellsLost(lost);
+    const { number } = this.own;
+    const [site, author] = number ? [number.site, hex(number.author.name)] : [0, ""];
+    const isBroken = sayings.isForked(author, site) || lost.some(({ line }) => line.site === site && line.author === author);
+    const leaves = isBroken ? this.#leave() : null;
+    this.#ear.stands();
+    if (leaves) await this.#takeNext(leaves);
   }
 
-  /** @param {import("./own.js").Held} number */
-  #isTaken({ site, author }) {
-    return this.facts.numbers().some((one) => one.site === site && one.author !== hex(author.name));
+  /** @param {import("./sayings.js").LeftOut[]} lost */
+  #tellsLost(lost) {
+    const before = this.#lostOfOwn;
+    this.#lost = lost;
+    this.leftOut = lost.map((one) => toldOfLost(one, this.#isOwn(one))).filter(({ characters }) => characters > 0);
+    if (this.#lostOfOwn > before) this.#ear.says(leftOutInWords(this.#lostOfOwn));
+  }
+
+  /** How many characters of this browser's user are left out. */
+  get #lostOfOwn() {
+    return this.leftOut.reduce((sum, { own, characters }) => sum + (own ? characters : 0), 0);
+  }
+
+  /** @param {import("./sayings.js").LeftOut} lost */
+  #isOwn({ line }) {
+    return this.own.isOwnAuthor(line.author);
+  }
+
+  #isTaken() {
+    const { number } = this.own;
+    return this.facts.numbers().some(({ site, author }) => number?.site === site && author !== hex(number.author.name));
   }
 
   /** Shows what counts now, once the editor is ready for it. Before that all own edits become entries, which the value is given as it is
@@ -173,42 +295,48 @@ export class Whole {
     }
     if (this.text) this.#ear.settle();
     if (this.#shown !== this.#feed) this.#begins();
-    this.#say(value);
+    this.#say();
     this.#feed.hand();
     value.update();
     const changes = this.text ? this.text.changed() : null;
     this.text ??= new SharedText(value);
     this.#ear.changed(changes);
     this.#ear.stands();
+    if (this.#hasNews) this.#next(() => this.#seesLost());
+    this.#hasNews = false;
   }
 
   /** The text is begun anew, from what came by now. */
   #begins() {
     this.#shown?.close();
-    [this.#shown, this.text, this.own.failure] = [this.#feed, null, ""];
+    [this.#shown, this.text, this.own.failure, this.#words] = [this.#feed, null, "", []];
   }
 
-  /** @param {import("./value.js").Value} value */
-  #say(value) {
-    const { number } = this.own;
-    if (!number || this.own.failure) return;
-    if (number.claims) value.claim(number.author.name, number.site, number.claims.rank);
-    for (const one of value.say(TEXT, number.author.name)) this.own.say(one, this.#edits);
+  #say() {
+    const [{ number }, shown] = [this.own, this.#shown];
+    if (!number || this.own.failure || number.site !== shown?.site) return;
+    this.#isUnsaid = false;
+    const said = shown.say([TEXT, MARGIN], number);
+    said.forEach((one, at) => this.own.say(one, this.#edits, at === said.length - 1 ? this.#words.splice(0) : []));
     // An edit that did nothing is answered, too.
     if (!this.own.waiting) this.#ear.kept(this.#edits);
+    if (!this.own.waiting) for (const { done } of this.#waiters.splice(0)) done();
   }
 
   /** @param {number} edits */
   #kept(edits) {
     this.followed.kept();
     this.#ear.kept(edits);
-    if (!this.own.waiting && edits < this.#edits) this.#show();
+    if (!this.own.waiting && this.#isUnsaid) this.#show();
+    else if (!this.own.waiting) for (const { done } of this.#waiters.splice(0)) done();
     this.#ear.stands();
   }
 
   /** What was typed can't be kept: it is taken out. */
   #failed() {
     this.#ear.unkept(this.own.failure);
+    this.#isUnsaid = false;
+    for (const { failed } of this.#waiters.splice(0)) failed(new Wrong("unkept", this.own.failure));
     this.#next(() => this.#anew());
   }
 

@@ -76,7 +76,7 @@ impl BodyWriter {
         Ok(true)
     }
 
-    /// The body. Refused `OutOfMemory` alone.
+    /// The body, which is read as the messages that were added. Refused `OutOfMemory` alone.
     pub fn finish(&self, alloc: Global) -> Result<Vec<u8>, Refusal> {
         let mut body = Vec::new(alloc);
         put_u16(&mut body, self.ons.len() as u16)?;

@@ -15,7 +15,7 @@ fn first_chunk(bytes: &[u8]) -> Option<(&[u8], &[u8])> {
     rest.split_at_checked(u16::from_le_bytes(*len) as usize)
 }
 
-// Adds messages of a base, each behind the one before it, whose hash is given back.
+// Adds messages of a base, each behind the one before it, whose hash is given back. Refused `OutOfMemory` alone.
 fn add_copied(
     alloc: Global,
     key: &BaseKey,
@@ -32,6 +32,20 @@ fn add_copied(
     Ok(last)
 }
 
+// Adds the messages of a chunk to a base, behind the one of this hash, and gives the last one's.
+//
+// Refused `Malformed` where the bytes are no chunk, and `OutOfMemory`.
+fn add_chunk(
+    alloc: Global,
+    key: &BaseKey,
+    before: Hash,
+    bytes: &[u8],
+    base: &mut Vec<Saying>,
+) -> Result<Hash, Refusal> {
+    let chunk = read_chunk(alloc, bytes)?;
+    add_copied(alloc, key, before, &chunk.operations, base)
+}
+
 /// The messages of a base whose last one has this hash, in chunks each after its length.
 ///
 /// Refused `Malformed` where the bytes are none of such a base, and `OutOfMemory`.
@@ -41,23 +55,19 @@ pub(crate) fn read_base(
     root: &NoteHash,
     bytes: &[u8],
 ) -> Result<Vec<Saying>, Refusal> {
-    let key = BaseKey::new(key.bytes);
+    let base_key = BaseKey::new(key.bytes);
     let mut base = Vec::new(alloc);
     let mut last = Hash::new(0, 0);
     let mut rest = bytes;
     // Each chunk takes bytes away.
-    for _ in 0..bytes.len() {
-        if rest.is_empty() {
-            break;
-        }
-        let Some((bytes, after)) = first_chunk(rest) else {
+    while !rest.is_empty() {
+        let Some((chunk, after)) = first_chunk(rest) else {
             return Err(Refusal::Malformed);
         };
-        let chunk = read_chunk(alloc, bytes)?;
-        last = add_copied(alloc, &key, last, &chunk.operations, &mut base)?;
+        last = add_chunk(alloc, &base_key, last, chunk, &mut base)?;
         rest = after;
     }
-    if !rest.is_empty() || last != root.hash() {
+    if last != root.hash() {
         return Err(Refusal::Malformed);
     }
     Ok(base)

@@ -20,7 +20,9 @@ use std::slice::{from_raw_parts, from_raw_parts_mut};
 use texts::ByNames;
 
 // A note whose base is in these chunks.
-fn begin(
+//
+// Refused `Malformed` where they are none of such a base, and `OutOfMemory`.
+fn made(
     alloc: Global,
     site: SiteNo,
     key: &NoteHash,
@@ -31,6 +33,26 @@ fn begin(
 ) -> Result<Box<NoteSession>, Refusal> {
     let copied = read_base(alloc, base_key, root, base)?;
     NoteSession::begin(alloc, NoteKey::new(key.bytes), opening, copied, site)
+}
+
+// Begins a note in an empty handle.
+fn begin(
+    alloc: Global,
+    handle: &mut NoteHandle,
+    site: SiteNo,
+    key: &NoteHash,
+    opening: Opening,
+    base_key: &NoteHash,
+    root: &NoteHash,
+    base: &[u8],
+) -> u32 {
+    match made(alloc, site, key, opening, base_key, root, base) {
+        Ok(note) => {
+            handle.close(alloc, note);
+            0
+        }
+        Err(why) => u32::from(why.number()),
+    }
 }
 
 /// Begins a note in an empty handle, of its opening and its base alone.
@@ -64,13 +86,7 @@ pub unsafe extern "C" fn vialshoal_note_new(
         founder: founder.hash(),
         number: SiteNo::new(number),
     };
-    match begin(alloc, site, key, opening, base_key, root, base) {
-        Ok(note) => {
-            handle.close(alloc, note);
-            0
-        }
-        Err(why) => u32::from(why.number()),
-    }
+    begin(alloc, handle, site, key, opening, base_key, root, base)
 }
 
 /// Frees what a note's handle holds.
@@ -171,7 +187,7 @@ pub unsafe extern "C" fn vialshoal_note_insert(
     let Some(mut note) = handle.open(alloc) else {
         return NOT_OPEN;
     };
-    let edited = note.insert(text, pos, bytes);
+    let edited = note.insert(alloc, text, pos, bytes);
     handle.close(alloc, note);
     *sent = edited.sent;
     edited.number
@@ -232,6 +248,25 @@ pub unsafe extern "C" fn vialshoal_note_change_looks(
     edited.number
 }
 
+// Edits a text by names.
+fn edit_names(
+    alloc: Global,
+    handle: &mut NoteHandle,
+    text: u16,
+    what: ByNames,
+    names: &[CharNames],
+    sent: &mut u32,
+) -> u32 {
+    *sent = 0;
+    let Some(mut note) = handle.open(alloc) else {
+        return NOT_OPEN;
+    };
+    let edited = note.edit_by_names(alloc, text, what, names);
+    handle.close(alloc, note);
+    *sent = edited.sent;
+    edited.number
+}
+
 /// Takes the characters of these names out of what a text shows, wherever they stand.
 ///
 /// # Safety
@@ -248,14 +283,7 @@ pub unsafe extern "C" fn vialshoal_note_delete_names(
     let alloc = Global;
     // SAFETY: the caller passes so many, that nothing else has meanwhile.
     let names = unsafe { from_raw_parts(names_at, names_len) };
-    *sent = 0;
-    let Some(mut note) = handle.open(alloc) else {
-        return NOT_OPEN;
-    };
-    let edited = note.edit_by_names(text, ByNames::Delete, names);
-    handle.close(alloc, note);
-    *sent = edited.sent;
-    edited.number
+    edit_names(alloc, handle, text, ByNames::Delete, names, sent)
 }
 
 /// Shows the characters of these names again, each at its own place.
@@ -274,14 +302,7 @@ pub unsafe extern "C" fn vialshoal_note_restore_names(
     let alloc = Global;
     // SAFETY: the caller passes so many, that nothing else has meanwhile.
     let names = unsafe { from_raw_parts(names_at, names_len) };
-    *sent = 0;
-    let Some(mut note) = handle.open(alloc) else {
-        return NOT_OPEN;
-    };
-    let edited = note.edit_by_names(text, ByNames::Restore, names);
-    handle.close(alloc, note);
-    *sent = edited.sent;
-    edited.number
+    edit_names(alloc, handle, text, ByNames::Restore, names, sent)
 }
 
 /// The head and the body of one of the entries that say the own messages of a text which don't count yet.

@@ -51,6 +51,23 @@ fn nothing_told(alloc: Global) -> Result<Vec<Vec<Change>>, Refusal> {
     Ok(told)
 }
 
+// Puts the body of an entry into a room, and its head where that is long enough.
+fn put_entry(entry: &OwnEntry, head: &mut EntryHead, room: &mut [u8]) -> Put {
+    let put = put_bytes(&entry.body, room);
+    if put.number == 0 {
+        *head = EntryHead::of(&entry.head);
+    }
+    put
+}
+
+// The same of the entry at this index, if there is one.
+fn put_entry_at(entries: &[OwnEntry], index: u64, head: &mut EntryHead, room: &mut [u8]) -> Put {
+    if entries.len() as u64 <= index {
+        return Put::none(NO_MESSAGE);
+    }
+    put_entry(&entries[index as usize], head, room)
+}
+
 impl NoteSession {
     /// A note of no entries but the opening and these messages of the base. Refused `OutOfMemory` alone.
     pub(crate) fn begin(
@@ -112,11 +129,11 @@ impl NoteSession {
     }
 
     /// Puts bytes in default looks after the first `pos` characters of a text.
-    pub(crate) fn insert(&mut self, text: u16, pos: u64, bytes: &[u8]) -> Edited {
+    pub(crate) fn insert(&mut self, alloc: Global, text: u16, pos: u64, bytes: &[u8]) -> Edited {
         let Some(number) = text_number(text) else {
             return Edited::misused(NO_NUMBER);
         };
-        let Some(replica) = self.note.text(number) else {
+        let Some(replica) = self.text(text) else {
             return Edited::misused(NO_NUMBER);
         };
         if !are_few(bytes) {
@@ -125,46 +142,40 @@ impl NoteSession {
         if replica.shown_len() < pos {
             return Edited::misused(OUT_OF_TEXT);
         }
-        match stretch_of(self.alloc, bytes, &Looks::plain()) {
+        match stretch_of(alloc, bytes, &Looks::plain()) {
             Ok(buffer) => self.edit(number, &OwnEdit::Insert { pos, buffer }),
             Err(why) => Edited::of(Err(EditRefusal::Whole(why))),
         }
     }
 
-    // Whether a range lies in a text.
-    fn has_range(&self, text: TextNo, beg: u64, end: u64) -> bool {
-        match self.note.text(text) {
-            Some(replica) => has_range(replica, beg, end),
-            None => false,
+    // Does an edit of a range, if that lies in the text.
+    fn edit_range(&mut self, text: u16, beg: u64, end: u64, edit: &OwnEdit) -> Edited {
+        let Some(number) = text_number(text) else {
+            return Edited::misused(NO_NUMBER);
+        };
+        let Some(replica) = self.text(text) else {
+            return Edited::misused(NO_NUMBER);
+        };
+        if !has_range(replica, beg, end) {
+            return Edited::misused(OUT_OF_TEXT);
         }
+        self.edit(number, edit)
     }
 
     /// Takes the characters from `beg` to `end` out of what a text shows.
     pub(crate) fn delete(&mut self, text: u16, beg: u64, end: u64) -> Edited {
-        let Some(text) = text_number(text) else {
-            return Edited::misused(NO_NUMBER);
-        };
-        if !self.has_range(text, beg, end) {
-            return Edited::misused(OUT_OF_TEXT);
-        }
-        self.edit(text, &OwnEdit::Delete { beg, end })
+        self.edit_range(text, beg, end, &OwnEdit::Delete { beg, end })
     }
 
     // Gives the characters from `beg` to `end` of a text the looks that are selected.
     fn dress(&mut self, text: u16, beg: u64, end: u64, sel: Sel, looks: Looks) -> Edited {
-        let Some(text) = text_number(text) else {
-            return Edited::misused(NO_NUMBER);
-        };
-        if !self.has_range(text, beg, end) {
-            return Edited::misused(OUT_OF_TEXT);
-        }
         let edit = OwnEdit::ChangeLooks {
             beg,
             end,
             sel,
             looks,
         };
-        self.edit(text, &edit)
+        self.edit_range(text, beg, end, &edit)
     }
 
     /// Gives the characters from `beg` to `end` of a text the looks of these that the bits select.
@@ -187,37 +198,49 @@ impl NoteSession {
         }
     }
 
-    /// Takes the characters of these names out of what a text shows, or shows them again.
-    pub(crate) fn edit_by_names(
+    // Hands an edit by names on to a text.
+    fn change_names(
         &mut self,
-        text: u16,
+        alloc: Global,
+        text: TextNo,
         what: ByNames,
         names: &[CharNames],
     ) -> Edited {
-        let Some(text) = text_number(text) else {
-            return Edited::misused(NO_NUMBER);
-        };
-        if !are_ranges(names) {
-            return Edited::misused(NO_NUMBER);
-        }
-        let Some(replica) = self.note.text(text) else {
-            return Edited::misused(NO_NUMBER);
-        };
-        if !has_all(replica, names) {
-            return Edited::misused(NO_NAME);
-        }
-        match ranges_of(self.alloc, names) {
+        match ranges_of(alloc, names) {
             Ok(names) => self.edit(text, &OwnEdit::ByNames { what, names }),
             Err(why) => Edited::of(Err(EditRefusal::Whole(why))),
         }
     }
 
-    // The entries of the site's own messages of a text that don't count yet.
+    /// Takes the characters of these names out of what a text shows, or shows them again.
+    pub(crate) fn edit_by_names(
+        &mut self,
+        alloc: Global,
+        text: u16,
+        what: ByNames,
+        names: &[CharNames],
+    ) -> Edited {
+        let Some(number) = text_number(text) else {
+            return Edited::misused(NO_NUMBER);
+        };
+        let Some(replica) = self.text(text) else {
+            return Edited::misused(NO_NUMBER);
+        };
+        if !are_ranges(names) {
+            return Edited::misused(NO_NUMBER);
+        }
+        if !has_all(replica, names) {
+            return Edited::misused(NO_NAME);
+        }
+        self.change_names(alloc, number, what, names)
+    }
+
+    // The entries of the site's own messages of a text that don't count yet; a number where there are none to tell.
     fn own_entries(&self, text: u16, author: Hash) -> Result<Vec<OwnEntry>, u32> {
-        let Some(text) = text_number(text) else {
+        let Some(number) = text_number(text) else {
             return Err(NO_NUMBER);
         };
-        match self.note.own_entries(text, author) {
+        match self.note.own_entries(number, author) {
             Ok(entries) => Ok(entries),
             Err(why) => Err(u32::from(why.number())),
         }
@@ -232,41 +255,30 @@ impl NoteSession {
         head: &mut EntryHead,
         room: &mut [u8],
     ) -> Put {
-        let entries = match self.own_entries(text, author.hash()) {
-            Ok(entries) => entries,
-            Err(number) => return Put::none(number),
-        };
-        if entries.len() as u64 <= index {
-            return Put::none(NO_MESSAGE);
+        match self.own_entries(text, author.hash()) {
+            Ok(entries) => put_entry_at(&entries, index, head, room),
+            Err(number) => Put::none(number),
         }
-        let entry = &entries[index as usize];
-        let put = put_bytes(&entry.body, room);
-        if put.number == 0 {
-            *head = EntryHead::of(&entry.head);
-        }
-        put
     }
 
     /// Puts the changes of what a text shows into a room; or says that the text was begun anew.
-    pub(crate) fn changes(
-        &mut self,
-        text: u16,
-        is_anew: &mut bool,
-        room: &mut [TextChange],
-    ) -> Put {
-        let Some(text) = text_number(text) else {
+    pub(crate) fn changes(&mut self, text: u16, is_anew: &mut bool, room: &mut [TextChange]) -> Put {
+        let Some(number) = text_number(text) else {
             return Put::none(NO_NUMBER);
         };
-        let told = &mut self.told[text.get() as usize - 1];
-        if told.is_empty() {
-            match self.note.changes(text) {
-                Some(changes) => *told = changes,
-                None => {
-                    *is_anew = true;
-                    return Put::none(0);
-                }
+        let at = number.get() as usize - 1;
+        if !self.told[at].is_empty() {
+            return put_changes(&mut self.told[at], room);
+        }
+        match self.note.changes(number) {
+            Some(changes) => {
+                self.told[at] = changes;
+                put_changes(&mut self.told[at], room)
+            }
+            None => {
+                *is_anew = true;
+                Put::none(0)
             }
         }
-        put_changes(told, room)
     }
 }

@@ -2,7 +2,7 @@ use Rattle.std.proofs.Common.{◌≡◌, ◌≢◌, ℕ, List, length, slice_ind
 use Rattle.std.specs.Option.{option_map}
 use Rattle.std.proofs.lemmas.List.{with_items_is}
 use Rattle.note.specs.Notes.{IsOfEntries, NoteSeen}
-use Rattle.note.specs.Texts.{EachText, IsTextOfNote, NoteText, TellsChanges}
+use Rattle.note.specs.Texts.{EachText, IsTextOfNote, NoteText, ReportsChanges}
 use Rattle.note.proofs.Editing.{admissions_stay, texts_edited}
 use Rattle.note.proofs.note.Note.changes.Goals as goal
 
@@ -21,5 +21,5 @@ returns-clause-keeps c = λ note entries of.
           (admissions_stay x.texts.items new at
           (subst (λ (xs : List NoteText). (k : ℕ) (d : NoteText) → k ≢ at → slice_index_or new k d ≡ slice_index_or xs k d) value c.changes.ensures.others)
           (λ d. ap (λ (t : NoteText). t.admission)
-          (subst (λ (xs : List NoteText). TellsChanges (slice_index_or xs at d) (option_map (λ changes. changes.items) c.changes.result) (slice_index_or new at d)) value (c.changes.ensures.own d)).0)));
+          (subst (λ (xs : List NoteText). ReportsChanges (slice_index_or xs at d) (option_map (λ changes. changes.items) c.changes.result) (slice_index_or new at d)) value (c.changes.ensures.own d)).0)));
     }

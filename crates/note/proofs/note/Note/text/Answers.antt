@@ -28,6 +28,24 @@ returns-clause-some c = λ note entries of shows.
     (subst (λ (ops : List Operation). HasTakenJust r ops) (sym its.taken.logged)
     (subst (λ (u : TextState). HasTakenJust u t.admission.ops) (sym c.replica-replica.ensures.value) whole.taken))
 
+pub returns-clause-alike : goal.returns-clause-alike
+returns-clause-alike c = λ note entries others other is same of took.
+    let chains = is.of.chains in
+    c.lemma_the_same_entries_show_the_same.ensures note entries others c.replica-replica.result.now other chains.identified
+    chains.told same of (returns-clause-some c note entries is.of is.shows) took
+
+pub returns-clause-defined : goal.returns-clause-defined
+returns-clause-defined c = λ note entries admitted is admission.
+    let chains = is.of.chains in
+    c.lemma_what_counts_is_shown.ensures note entries c.replica-replica.result.now admitted chains.identified chains.told
+    (returns-clause-some c note entries is.of is.shows) admission
+
+pub returns-clause-gains : goal.returns-clause-gains
+returns-clause-gains c = λ note fewer entries was is adds of took.
+    let chains = is.of.chains in
+    c.lemma_more_entries_only_add.ensures note fewer entries was c.replica-replica.result.now chains.identified chains.told
+    adds of took (returns-clause-some c note entries is.of is.shows)
+
 pub returns-clause-number : goal.returns-clause-number
 returns-clause-number c =
     let at = c.in_ok-place.field-0 in

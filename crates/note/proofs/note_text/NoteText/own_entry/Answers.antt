@@ -1,5 +1,6 @@
 use Rattle.std.proofs.Common.{◌≡◌, ℕ, refl, subst, sym, ◌∙◌, arith}
 use Rattle.note_bodies.specs.Writing.{nothing_said}
+use Rattle.note.specs.Own.{len_in}
 use Rattle.note.specs.Texts.{NoteText}
 use Rattle.note.proofs.OwnEntries.{next_entry, none_left}
 use Rattle.note.proofs.note_text.NoteText.own_entry.Goals as goal
@@ -35,3 +36,11 @@ returns-clause-ok c = λ last said have.
       some = omega (arith, c.if-count-eq0.false);
     })
     refl refl c.count-count.ensures
+    (λ more. c.in_ok-finish.ensures.messages c.args.key.now (record {
+      author = c.args.author;
+      site = c.site.result;
+      text = c.text-2.result;
+      first = c.args.turn.now.seq;
+      count = c.count-count.result;
+      before = c.args.turn.now.before;
+    }) (λ op. len_in c.args.self.now op) more)

@@ -36,6 +36,8 @@ returns-clause-put c = λ _.
       place = refl;
       seq = omega (arith, c.saturating_add-turn.ensures, c.seq.ensures);
       before = ap (λ (s : Saying). s.hash) (c.branch.view_is ∙ c.in_ok-turn.ensures.ok);
+      room = subst (λ (p : Placed). CanBeAdded c.args.body.now p c.in_ok-on.on) stands
+          (c.in_ok-add.ensures.room.0 c.if-not-branch.false);
       body_is = c.in_ok-add.ensures.added c.if-not-branch.false
           ∙ ap (λ (p : Placed). added_on c.args.body.now p c.in_ok-on.on) stands;
     }

@@ -14,3 +14,20 @@ loop-self-smaller g c =
 pub returns-clause-whole : goal.returns-clause-whole
 returns-clause-whole g c =
     λ note entries admitted is. whole_if_settled c.loop-self.self (search rules) note entries admitted is
+
+pub returns-clause-only : goal.returns-clause-only
+returns-clause-only g c =
+    λ note entries admitted other base told is its.
+    (c.lemma_there_is_one_admission.ensures note entries _ base told).only other admitted its
+    (returns-clause-whole g c note entries admitted is)
+
+pub returns-clause-stays : goal.returns-clause-stays
+returns-clause-stays g c =
+    λ note fewer entries was admitted base told in_turn keep is.
+    c.lemma_what_keeps_its_place_stays.ensures note fewer entries _ was admitted base told in_turn keep
+    (returns-clause-whole g c note entries admitted is)
+
+pub returns-clause-ends : goal.returns-clause-ends
+returns-clause-ends g c =
+    λ note entries admitted s is next.
+    c.lemma_a_chain_ends_or_waits.ensures note entries _ admitted s (returns-clause-whole g c note entries admitted is) next

@@ -1,4 +1,4 @@
-use Rattle.std.proofs.Common.{ℕ, List, [], Contains, sym, subst}
+use Rattle.std.proofs.Common.{List, Contains, subst}
 use Rattle.note_laws.specs.Note.{Saying}
 use Rattle.note_entries.specs.Branches.{Place}
 use Rattle.note_entries.proofs.Least.{of_none}
@@ -6,6 +6,9 @@ use Rattle.note_entries.proofs.branches.Branches.new.Goals as goal
 
 pub invariant_of-result : goal.invariant_of-result
 invariant_of-result c = record {
-  keyed = λ k x held. absurd (of_none (k, x) (subst (λ (es : List (Place × Saying)). Contains es (k, x)) c.new.ensures.empty held));
-  distinct = c.new.ensures.unique;
+  keyed = record {
+    keyed = λ k x held. absurd (of_none (k, x) (subst (λ (es : List (Place × Saying)). Contains es (k, x)) c.new-2.ensures.empty held));
+    distinct = c.new-2.ensures.unique;
+  };
+  apart = λ s t held among. absurd (of_none s (subst (λ (ss : List Saying). Contains ss s) c.new.ensures held));
 }

@@ -1,13 +1,13 @@
 use Rattle.std.proofs.Common.{ℕ, List, map, refl, subst}
 use Rattle.note.specs.Editing.{HasEditedText, numbered_text}
-use Rattle.vialshoal_c.specs.NoteEditing.{EditsText}
+use Rattle.vialshoal_c.specs.NoteEditing.{EditsNoteText}
 use Rattle.vialshoal_c.specs.NoteState.{NoteState}
 use Rattle.vialshoal_c.proofs.note_session.NoteSession.edit.Goals as goal
 
 pub returns : goal.returns
 returns c =
     let now : NoteState = record { note = c.edit.new.self; told = map (λ v. v.items) c.self.inside.told.items } in
-    subst (λ (s : NoteState). EditsText s c.args.text c.args.edit.now c.of.result.number c.of.result.sent now) c.self.view_is
+    subst (λ (s : NoteState). EditsNoteText s c.args.text c.args.edit.now c.of.result.number c.of.result.sent now) c.self.view_is
     (record {
       answer = c.edit.result;
       messages = c.edit.new.outbox;
