@@ -1,9 +1,8 @@
 //! What is admitted of one text of a note.
 
-ghost use Rattle.std.specs.Prelude.{◌≡◌, ℕ, ◌^◌, ◌<◌, ◌≤◌, ◌⊎◌, ◌↔◌, ◌++◌, ◌∷◌, [], length, slice_get, false, true, Contains, List, IfErr, IfNone, IfOk, IfSome, IsTrue, OnErr, OnOk, Some as Just};
+ghost use Rattle.std.specs.Prelude.{◌≡◌, ℕ, ◌^◌, ◌<◌, ◌⊎◌, ◌↔◌, ◌++◌, ◌∷◌, [], length, slice_get, false, true, Contains, List, IfErr, IfNone, IfOk, IfSome, IsTrue, OnErr, OnOk, Some as Just};
 ghost use Rattle.looks.specs.Refusal.{RefusedForMemoryAlone};
 ghost use Rattle.looks.specs.declared.refusal.Refusal.TheVariants as refusal;
-ghost use Rattle.operations.specs.Operation.{Operation};
 ghost use Rattle.set_laws.specs.Fronts.{IsHeld, front_of};
 ghost use Rattle.set_laws.specs.Verdict as verdict;
 ghost use Rattle.note_laws.specs.Note.{Note, Entries, IsOfBase, Saying as Said};
