@@ -103,6 +103,21 @@ class Forked(AtText):
         self.assertEqual(len(window.run(NUMBERS)), 1)
         self.assertEqual([line for line in window.told() if is_fault(line)], [])
 
+    def test_what_somebody_else_types_again_is_told_no_more(self) -> None:
+        window, link = self.made_text()
+        window.type("both here")
+        window.state("all sent")
+        self.outdoes(SealedRecords(link_of(link).secret), self.relay.url, window, len("both h"))
+        window.state("left out: 4 of you")
+        other = window.text()
+        self.assertEqual(self.in_terminal("append", "picnic", "!", link=link).returncode, 0)
+        run = self.in_terminal("recover", "--lost", "picnic")
+        self.assertIn("Typed again: 4 characters", run.stdout + run.stderr)
+        window.shows(other.replace("both ", "both here") + "!\n")
+        window.wait_for(f"!{IS_LEFT_OUT}")
+        window.state("all sent")
+        self.assertEqual([line for line in window.told() if is_fault(line)], [])
+
     def test_who_built_on_it_too(self) -> None:
         free = RelayProcess(self.folder / "free", page=page_of_free_claims(self.folder / "page"))
         self.addCleanup(free.close)

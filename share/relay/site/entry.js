@@ -124,16 +124,23 @@ function checkMessages(keys, { kind, author, first, count, before, body }) {
 
 /** @param {Entry} one */
 function checkCopies({ author, site, body }) {
+  const found = copiedIn(body);
+  if (!found) throw new Bad("has bytes that say nothing of copies");
+  refuse(found.whose.some((who) => who.site < 1 || who.site > GREATEST_SITE), "says of copies what can't be");
+  refuse(!found.whose.some((who) => who.site === site && equal(who.author, author)), "speaks of copies of others");
+}
+
+/** What is said of copies, or nothing where bytes don't say that: whose the messages are, and the copies; what names the last of these; and of
+ * each stretch the seq of the first message, that of its copy, and how many they are.
+ * @param {Uint8Array} body */
+export function copiedIn(body) {
   const [sizeOfOne, begin] = [POINT_BYTES + 2, 2 * (POINT_BYTES + 2) + HASH_BYTES];
   const numbers = body.length < begin ? null : varintsIn(body.subarray(begin));
-  refuse(!numbers?.length || numbers.length % 3 > 0, "has bytes that say nothing of copies");
-  for (let at = 0; numbers && at < numbers.length; at += 3) {
-    const [from, to, many] = numbers.slice(at, at + 3);
-    refuse(!from || !many || from + many - 1 > GREATEST_SEQ || (to > 0 && to + many - 1 > GREATEST_SEQ), "has bytes that say nothing of copies");
-  }
+  if (!numbers?.length || numbers.length % 3 > 0) return null;
+  const stretches = Array.from({ length: numbers.length / 3 }, (_, at) => numbers.slice(3 * at, 3 * at + 3));
+  if (stretches.some(([from, to, many]) => !from || !many || Math.max(from, to) + many - 1 > GREATEST_SEQ)) return null;
   const whose = [0, sizeOfOne].map((at) => ({ author: body.subarray(at, at + POINT_BYTES), site: numberAt(body, at + POINT_BYTES, 2) }));
-  refuse(whose.some((who) => who.site < 1 || who.site > GREATEST_SITE), "says of copies what can't be");
-  refuse(!whose.some((who) => who.site === site && equal(who.author, author)), "speaks of copies of others");
+  return { whose, last: body.subarray(begin - HASH_BYTES, begin), stretches };
 }
 
 /** The numbers that varints spell, or nothing where bytes are none.

@@ -13,6 +13,8 @@ import { Value } from "./value.js";
  * @typedef {{ one: Entry, rank: Uint8Array | null }} Came */
 
 const [AT_ONCE, HASH_BYTES, ROOT_AT, FOUNDER_AT, NUMBER_AT, MALFORMED] = [500, 32, 32, 64, 96, 1];
+// How long entries are handed on at once, where another text is shown meanwhile.
+const SLICE_MS = 50;
 const LACKS = "The relay lacks some of what this note begins with, so nothing of it counts yet. Whoever has that brings it by opening the note.";
 const OUT_OF_ORDER = "What was copied into this note is out of order, so nothing of it counts. Ask whoever renewed it to do that again.";
 const NOTHING = new Uint8Array(HASH_BYTES);
@@ -72,13 +74,16 @@ export class Feed {
     return entries.length > 0;
   }
 
-  /** Hands on to the value what was read. What it has no memory for is handed on once more, with all after it. */
-  hand() {
+  /** Hands on to the value what was read, or until it is time; whether that was something. What it has no memory for is handed on once more,
+   * with all after it.
+   * @param {number} [end] */
+  hand(end = Infinity) {
     const { value, sayings } = this;
-    if (!value || !sayings) return;
+    if (!value || !sayings) return false;
     let many = 0;
     try {
       for (const { one, rank } of this.#waiting) {
+        if (many && performance.now() > end) break;
         if (rank) {
           value.claim(one.author, one.site, rank);
           sayings.claim(one.author, one.site, rank);
@@ -86,11 +91,25 @@ export class Feed {
           sayings.add(one);
         } else if (one.kind === KIND.anew) {
           sayings.anew(one);
+        } else if (one.kind === KIND.copies) {
+          sayings.copies.add(one);
         }
         many += 1;
       }
     } finally {
       this.#waiting.splice(0, many);
+    }
+    return many > 0;
+  }
+
+  /** Hands on to the value what was read, in slices, between which the page does what else there is to do.
+   * @param {(done: number, of: number) => void} reads is told how far it is */
+  async handInSlices(reads) {
+    const all = this.#waiting.length;
+    while (this.value && this.hand(performance.now() + SLICE_MS)) {
+      this.value.update();
+      reads(all - this.#waiting.length, all);
+      await nextTask();
     }
   }
 
@@ -152,6 +171,15 @@ export class Feed {
       return null;
     }
   }
+}
+
+/** Ends after what else the page has to do by now; a timer would make a tab in the background wait. */
+function nextTask() {
+  const { port1, port2 } = new MessageChannel();
+  return new Promise((done) => {
+    port1.onmessage = done;
+    port2.postMessage(null);
+  }).finally(() => port1.close());
 }
 
 /** Whether an entry of the base has a chunk as a value takes them of messages, which begin after nothing.

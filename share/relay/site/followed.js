@@ -62,6 +62,12 @@ export class Followed {
     });
   }
 
+  /** Whether more of the log is about to come. */
+  get isReading() {
+    const { isUp, words, read, of } = this.standing;
+    return !isUp && !words && read < of;
+  }
+
   /** Has what was kept be sent, by whichever tab has the line. */
   send() {
     if (this.#line) this.#next(() => this.#give());

@@ -1,7 +1,8 @@
 // Which messages of a note count, one by one, with their hashes. The core says how many of each number do; whose that is, and which of two
 // branches holds, is found here as docs/NOTES.md has it.
-import { equal, hex, join, numberAt } from "./bytes.js";
+import { equal, hex, isZeros, join, numberAt } from "./bytes.js";
 import { operationsOf } from "./chunk.js";
+import { Copies, withoutCopied } from "./copies.js";
 import { messagesIn, partOf, spelled } from "./operation.js";
 import { isBelow } from "./rank.js";
 
@@ -178,6 +179,22 @@ export class Line {
     return found;
   }
 
+  /** The seq of the one of some messages that has a hash; 0 where none does.
+   * @param {Piece[]} pieces @param {Uint8Array} hash @param {Digest} digest */
+  async seqIn(pieces, hash, digest) {
+    for (const run of new Set(pieces.map((piece) => piece.run))) {
+      const seq = run.first + (await this.#hashes(run, run.count, digest)).findIndex((one) => equal(one, hash));
+      if (seq >= run.first && pieces.some(({ one }) => one.seq <= seq && seq < one.seq + one.size)) return seq;
+    }
+    return 0;
+  }
+
+  /** The seq of the one that has a hash, of the messages that count from a seq on; 0 where none does.
+   * @param {number} seq @param {Uint8Array} hash @param {Digest} digest */
+  seqCounting(seq, hash, digest) {
+    return this.seqIn(this.#pieces.slice(placeIn(this.#pieces, ({ one }) => one.seq + one.size <= seq)), hash, digest);
+  }
+
   /** Branches without what their author says that it was made anew.
    * @param {Piece[][]} branches */
   withoutAnew(branches) {
@@ -300,6 +317,8 @@ class Extents {
 
 /** All that is said in a note. */
 export class Sayings {
+  // Which messages stand for which.
+  copies = new Copies();
   #digest;
   #founder;
   /** @type {Map<string, Line>} */
@@ -378,7 +397,8 @@ export class Sayings {
       const isKnown = line.text === text && (holder !== undefined || this.#sites.has(line.site));
       if (isKnown && (line.isForked || line.last > front)) apart.push({ line, isHeld, front });
     }
-    const seen = JSON.stringify(apart.map(({ line, ...one }) => [line.site, line.author, line.runs.length, line.anew.size, one]));
+    const seen = JSON.stringify(apart.map(({ line, ...one }) => [line.site, line.author, line.runs.length, line.anew.size, one,
+      this.copies.of(line).map(({ site }) => fronts.get(site))]));
     if (seen !== this.#seen) [this.#leftOut, this.#seen] = [await this.#leftOutOf(apart, fronts), seen];
     return this.#leftOut;
   }
@@ -430,7 +450,25 @@ export class Sayings {
       if (next.length) blocked.push({ line, next });
     }
     for (const { line, next } of await this.#buildingOnLost(blocked, fronts)) found.get(line)?.push(next);
-    return [...found].map(([line, branches]) => ({ line, branches: line.withoutAnew(branches) })).filter(({ branches }) => branches.length > 0);
+    const left = await Promise.all([...found].map(async ([line, branches]) => ({ line, branches: await this.#notMadeAgain(line, branches, fronts) })));
+    return left.filter(({ branches }) => branches.length > 0);
+  }
+
+  /** Branches without what was made anew, as their author says, and without what a copy stands for that counts. Where he says which messages
+   * stand for which, that alone is what he says.
+   * @param {Line} line @param {Piece[][]} branches @param {Map<number, number>} fronts */
+  async #notMadeAgain(line, branches, fronts) {
+    const stretches = this.copies.of(line);
+    const some = (stretches.some(({ isOwn }) => isOwn) ? branches : line.withoutAnew(branches)).filter(({ length }) => length > 0);
+    if (!stretches.length) return some;
+    /** @type {import("./copies.js").Counting} */
+    const counting = async ({ site, author, by, byLast }) => {
+      const front = this.#holder(site) === author ? fronts.get(site) ?? 0 : 0;
+      const copies = await this.line(line.text, site, front);
+      return { line: copies, front: copies && !isZeros(byLast) ? Math.min(front, await copies.seqCounting(by, byLast, this.#digest)) : front };
+    };
+    const left = await Promise.all(some.map((branch) => withoutCopied(line, branch, stretches, counting, this.#digest)));
+    return left.filter(({ length }) => length > 0);
   }
 
   /** Those that lack characters of such as don't count for good, or have others there.

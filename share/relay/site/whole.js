@@ -47,8 +47,8 @@ export class Whole {
   #isUnsaid = false;
   /** @type {{ done: () => void, failed: (why: Error) => void }[]} */
   #waiters = [];
-  // What doesn't count for good, and what of that this browser's user has typed anew, until that is said; and whether others' entries came
-  // since it was seen.
+  // What doesn't count for good, and what of that this browser's user has typed anew, until that is said; and whether others' entries are
+  // shown since it was seen.
   /** @type {import("./sayings.js").LeftOut[]} */
   #lost = [];
   /** @type {import("./own.js").Word[]} */
@@ -59,8 +59,9 @@ export class Whole {
   #later;
   #hasEnded = false;
   #isDue = false;
-  // Why nothing is shown, as it was said last.
+  // Why nothing is shown, as it was said last; and whether more of the log was about to come then.
   #why = "";
+  #wasReading = false;
 
   /** @param {import("./core.js").Core} core @param {import("./store.js").Store} store @param {import("./keys.js").NoteKeys} keys
    * @param {import("./store.js").Note} note @param {Ear} ear */
@@ -207,6 +208,12 @@ export class Whole {
   #came(hasEntries) {
     if (hasEntries) this.#next(() => this.#feedOn());
     else this.#ear.stands();
+    const { isReading } = this.followed;
+    if (this.#wasReading && !isReading) {
+      this.#next(async () => this.#looksForLost());
+      this.#next(() => this.#takeNumber());
+    }
+    this.#wasReading = isReading;
     this.#next(async () => this.#saysWhy());
   }
 
@@ -226,7 +233,6 @@ export class Whole {
    * @param {boolean} hasMore */
   async #fed(hasMore) {
     const leaves = this.#isTaken() ? this.#leave() : null;
-    this.#hasNews ||= hasMore;
     if (hasMore) this.#show();
     this.#ear.stands();
     if (leaves) await this.#takeNext(leaves);
@@ -296,14 +302,20 @@ export class Whole {
     if (this.text) this.#ear.settle();
     if (this.#shown !== this.#feed) this.#begins();
     this.#say();
-    this.#feed.hand();
+    this.#hasNews = this.#feed.hand() || this.#hasNews;
     value.update();
     const changes = this.text ? this.text.changed() : null;
     this.text ??= new SharedText(value);
     this.#ear.changed(changes);
     this.#ear.stands();
-    if (this.#hasNews) this.#next(() => this.#seesLost());
+    this.#looksForLost();
+  }
+
+  /** Has be seen what doesn't count for good, where others' entries are shown: once the log was read, since what comes may yet make it count. */
+  #looksForLost() {
+    if (!this.#hasNews || this.followed.isReading) return;
     this.#hasNews = false;
+    this.#next(() => this.#seesLost());
   }
 
   /** The text is begun anew, from what came by now. */
@@ -344,15 +356,22 @@ export class Whole {
   async #anew() {
     const feed = this.#newFeed();
     await feed.next((done, of) => this.#ear.reads(done, of));
+    try {
+      await feed.handInSlices((done, of) => this.#ear.reads(done, of));
+    } catch (why) {
+      feed.close();
+      throw why;
+    }
     if (this.#feed !== this.#shown) this.#feed.close();
-    this.#feed = feed;
+    [this.#feed, this.#hasNews] = [feed, true];
     await this.#fed(true);
   }
 
   // The number.
 
+  /** Takes a number, for which the text begins anew: so not while it is being read. */
   async #takeNumber() {
-    if (this.own.number) return;
+    if (this.own.number || this.followed.isReading) return;
     const site = await this.own.take(this.facts.taken());
     if (!site) {
       this.#keepSpare();
