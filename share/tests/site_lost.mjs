@@ -102,7 +102,7 @@ class Person {
 
   told() {
     const leftOut = this.whole.leftOut.map(({ own, characters, messages, text }) => ({ own, characters, messages, text }));
-    return { shows: this.shows, leftOut, said: this.said.splice(0), site: this.whole.own.number.site };
+    return { shows: this.shows, leftOut, said: this.said.splice(0), site: this.whole.own.number.site, dressed: this.whole.text.dressed(10) };
   }
 }
 
@@ -151,6 +151,7 @@ await ann.types("both ");
 const before = [...ann.store.all];
 await ann.types("her");
 await ann.types("ee");
+ann.does(() => ann.whole.text.look([[5, 7]], { bold: true }));
 ann.does(() => ann.whole.text.edit([8, 9, ""]));
 await ann.whole.kept();
 bob.hears(ann.store.all);

@@ -33,6 +33,8 @@ class Lost(unittest.TestCase):
         wanted = ann["shows"].replace("both ", "both here") + "! and Bob"
         for who in ann_again, bob_again, opened:
             self.assertEqual((who["shows"], who["leftOut"], who["said"]), (wanted, [], []))
+            # In the looks that it had.
+            self.assertEqual(who["dressed"], [{"begin": 5, "end": 7, "bold": True}])
         self.assertEqual(found["why"], "Nothing that you typed is left out.")
         self.assertEqual(len({*found["sites"], ann["site"], bob["site"]}), 4)
         self.assertEqual(opened["site"], ann["site"])

@@ -44,8 +44,14 @@ export function equal(one, other) {
 /** @param {Uint8Array} bytes */
 export const isZeros = (bytes) => bytes.every((byte) => byte === 0);
 
+const DIGITS = Array.from({ length: 256 }, (_, byte) => byte.toString(16).padStart(2, "0"));
+
 /** @param {Uint8Array} bytes */
-export const hex = (bytes) => Array.from(bytes, (byte) => byte.toString(16).padStart(2, "0")).join("");
+export function hex(bytes) {
+  let found = "";
+  for (const byte of bytes) found += DIGITS[byte];
+  return found;
+}
 
 /** @param {Uint8Array} bytes */
 export function base64url(bytes) {

@@ -3,6 +3,9 @@
 /** @typedef {{ font: string, colour: number, offset: number }} Look */
 
 const [PLAIN_FONT, LONGEST_FONT, PLAIN_COLOURS] = ["Oberon10.Scn.Fnt", 31, [0, 1]];
+/** In which everybody types, until it is changed. */
+export const PLAIN = { font: PLAIN_FONT, colour: 1, offset: 0 };
+const [FONT_SELECTED, COLOUR_SELECTED, OFFSET_SELECTED] = [1, 2, 4];
 // A family with its size, whether it is bold or slanted, and the rest. Letters after the size say that.
 const FONT = /^([A-Za-z]*[0-9]*)(b|i|bi)?((?:\..*)?)$/s;
 
@@ -27,6 +30,18 @@ function withWeight(font, bold) {
  * @param {Look} look @param {{ bold?: boolean, colour?: number }} set @returns {Look} */
 export function setting({ font, colour, offset }, set) {
   return { font: set.bold === undefined ? font : withWeight(font, set.bold), colour: set.colour ?? colour, offset };
+}
+
+/** Looks in which some values are those that a message spells.
+ * @param {Look} look @param {number} selected which values @param {Uint8Array} values @returns {Look} */
+export function spelledOver(look, selected, values) {
+  const behindFont = selected & FONT_SELECTED ? 1 + values[0] : 0;
+  const behindColour = behindFont + Number(Boolean(selected & COLOUR_SELECTED));
+  return {
+    font: selected & FONT_SELECTED ? String.fromCharCode(...values.subarray(1, behindFont)) : look.font,
+    colour: selected & COLOUR_SELECTED ? values[behindFont] : look.colour,
+    offset: selected & OFFSET_SELECTED ? (values[behindColour] << 24) >> 24 : look.offset,
+  };
 }
 
 /** @param {Look} one @param {Look} other */

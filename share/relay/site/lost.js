@@ -10,8 +10,8 @@ const passagesIn = ({ branches }, isOwn) => branches.flatMap((branch) => passage
 
 /** What this browser's user typed of it, where it can be typed again.
  * @param {import("./sayings.js").Sayings} sayings @param {import("./sayings.js").LeftOut[]} lost */
-export const passagesOfOwn = (sayings, lost) => lost.flatMap((one) => passagesIn(one, true)).map(({ cause, bytes }) => (
-  { cause: cause && sayings.isLost(cause) ? undefined : cause, bytes }));
+export const passagesOfOwn = (sayings, lost) => lost.flatMap((one) => passagesIn(one, true)).map(({ cause, ...one }) => (
+  { cause: cause && sayings.isLost(cause) ? undefined : cause, ...one }));
 
 /** What is told of it.
  * @param {import("./sayings.js").LeftOut} lost @param {boolean} own whether this browser's user typed it

@@ -96,6 +96,7 @@ export class Reviewing {
   async #accept(line) {
     const id = await this.#remarking.thread(line);
     await this.#whole.kept();
+    this.#telling.settle();
     this.#typing.mayType();
     const text = /** @type {SharedText} */ (this.#whole.text);
     const [thread, found] = [this.#margin.said.thread(id), this.#margin.stood(text).find((one) => one.id === id)];

@@ -5,7 +5,7 @@ import { use } from "../../../library/node/host.js";
 import { Positions, decoded } from "../../../library/node/positions.js";
 import { Trouble } from "./bytes.js";
 import { RefusedByCore } from "./core.js";
-import { isAlike, setting, toldOf } from "./looking.js";
+import { PLAIN, isAlike, setting, toldOf } from "./looking.js";
 import { inside } from "./rewriting.js";
 import { Whereabouts } from "./spots.js";
 
@@ -196,12 +196,17 @@ export class SharedText {
     return { ...step, came: comes, went: goes, looked: looks };
   }
 
-  /** Types passages, each behind a character as far as that is here, and else at the end.
+  /** Types passages, in their looks, each behind a character as far as that is here, and else at the end.
    * @param {import("./passages.js").Passage[]} passages @returns {Step} */
   put(passages) {
-    const came = passages.flatMap(({ cause, bytes }) => {
+    const came = passages.flatMap(({ cause, bytes, looks }) => {
       const at = cause === null ? 0 : (cause && this.find(cause)?.pos) ?? this.#value.length(TEXT);
       this.#value.insert(TEXT, at, bytes);
+      let begin = at;
+      for (const { many, look } of looks) {
+        if (!isAlike(look, PLAIN)) this.#value.changeLooks(TEXT, begin, begin + many, look);
+        begin += many;
+      }
       return this.#value.names(TEXT, at, at + bytes.length);
     });
     return { came, went: [], looked: [] };
