@@ -90,20 +90,15 @@ def sync_folder_of(path: str) -> None:
         os.close(folder)
 
 
-class Journal:
+class LockedFile:
     """A file that nobody else has open meanwhile."""
 
     def __init__(self, path: str, may_be_made: bool) -> None:
         self._path = os.path.realpath(path)
         self._file = _locked(self._path, may_be_made)
         self._process = os.getpid()
-        self._text = self._site = 0
-        # Where the history ends, and the last entry that is whole.
-        self._history_end = self._end = 0
-        # Whether the folder may not have the file on the disk yet, and how long a journal is left as it is.
-        self._is_named, self._most = False, _LEAST
-        # What stands behind the last entry that is whole: the next one takes its place.
-        self.torn = b""
+        # Whether the folder has the file on the disk.
+        self._is_named = False
 
     def is_own(self) -> bool:
         """Whether this process opened it: one that was forked off may not write beside it."""
@@ -115,21 +110,17 @@ class Journal:
             fcntl.flock(self._file, fcntl.LOCK_UN)
         os.close(self._file)
 
-    def begin(self, text: int, site: int) -> None:
-        """Begins a file that has nothing yet."""
-        self._has(text, site, b"")
-        self._write(0, _head(text, site, b""))
-
-    def _has(self, text: int, site: int, history: bytes) -> None:
-        self._text, self._site = text, site
-        self._history_end = self._end = _BEGIN + len(history)
-        self._most = max(len(history), _LEAST)
+    def _data(self) -> bytes:
+        """All that it has."""
+        with open(self._file, "rb", closefd=False) as file:
+            file.seek(0)
+            return file.read()
 
     def _write(self, at: int, data: bytes) -> None:
         if not self.is_own():
             raise PermissionError(errno.EPERM, "it was opened by another process, from which this one was forked off", self._path)
         if not _has_name(self._file, self._path):
-            raise FileNotFoundError(errno.ENOENT, "it was moved or taken away, and the text isn't kept any more", self._path)
+            raise FileNotFoundError(errno.ENOENT, "it was moved or taken away, and nothing is kept any more", self._path)
         try:
             _write(self._file, at, data)
             self._name()
@@ -145,12 +136,35 @@ class Journal:
             sync_folder_of(self._path)
             self._is_named = True
 
+
+class Journal(LockedFile):
+    """The file of a text."""
+
+    def __init__(self, path: str, may_be_made: bool) -> None:
+        super().__init__(path, may_be_made)
+        self._text = self._site = 0
+        # Where the history ends, and the last entry that is whole.
+        self._history_end = self._end = 0
+        # How long a journal is left as it is.
+        self._most = _LEAST
+        # What stands behind the last entry that is whole: the next one takes its place.
+        self.torn = b""
+
+    def begin(self, text: int, site: int) -> None:
+        """Begins a file that has nothing yet."""
+        self._has(text, site, b"")
+        self._write(0, _head(text, site, b""))
+
+    def _has(self, text: int, site: int, history: bytes) -> None:
+        self._text, self._site = text, site
+        self._history_end = self._end = _BEGIN + len(history)
+        self._most = max(len(history), _LEAST)
+
     # -- reading
 
     def read(self) -> Optional[Kept]:
         """What the file has; nothing where none was begun."""
-        with open(self._file, "rb", closefd=False) as file:
-            data = file.read()
+        data = self._data()
         if len(data) < _BEGIN and _TAG.startswith(data[:len(_TAG)]):
             return None
         if len(data) < _BEGIN or not data.startswith(_TAG):

@@ -2,6 +2,7 @@
 from __future__ import annotations
 
 import ctypes
+import os
 import struct
 import threading
 from collections.abc import Callable, Iterable, Mapping
@@ -12,12 +13,13 @@ from typing import Any, AnyStr, Literal, NoReturn, Optional, overload
 
 from . import _given as given
 from . import _library as c
-from ._answers import Change, ChangeKind, Looks, NameRange, done
+from ._answers import Change, ChangeKind, Damaged, Looks, NameRange, Refused, done
 from ._code_points import CodePoints
 from ._composing import DELETE, INSERT, Triple
 from ._given import Buffer
+from ._note_file import CLAIM, ENTRY, NoteFile, beginning
 from ._shown import Shown, Units, alone
-from ._text import Past
+from ._text import Past, Path
 
 TEXTS = 16
 HASH = 32
@@ -26,6 +28,8 @@ BODY = 16_172
 ZEROS = bytes(HASH)
 # As CHead has them: to pack the fields takes a third of the time.
 HEAD = struct.Struct("=32s32sIHHH2x")
+# As the file of an open note has what came to it.
+_CLAIM, _ENTRY = struct.Struct(">B32sH32s"), struct.Struct(">B32s32sIHHH")
 
 
 def _hash(data: Buffer) -> bytes:
@@ -68,6 +72,16 @@ class Entry:
     body: bytes
 
 
+def _record(entry: Entry) -> bytes:
+    head = entry.head
+    return _ENTRY.pack(ENTRY, head.author, head.before, head.first, head.count, head.site, head.text) + entry.body
+
+
+def _entry(record: bytes) -> Entry:
+    _, author, before, first, count, site, text = _ENTRY.unpack_from(record)
+    return Entry(Head(author, before, first, count, site, text), record[_ENTRY.size:])
+
+
 class Note:
     """A note as one site has it. It decides which messages of the entries that it is given count, and its texts show that and own edits;
     notes of one key, founder and base that were given the same entries, in any order, show the same. What seals, signs and carries
@@ -77,6 +91,7 @@ class Note:
                  base_key: Buffer = ZEROS, root: Buffer = ZEROS) -> None:
         self._lock = threading.RLock()
         self._handle = c.NoteHandle()
+        self._file: Optional[NoteFile] = None
         self._site = given.number(site, given.MOST_SITE)
         # Entries of own edits that `say` hasn't answered: where memory was refused they may count already, and are to be said yet.
         self._made: list[Entry] = []
@@ -87,6 +102,49 @@ class Note:
             self._handle, site, _hash(key), _hash(founder), given.number(number, given.MOST_SITE), _hash(base_key), _hash(root),
             chunks, len(chunks)))
 
+    @classmethod
+    def open(cls, path: Path, *, site: int, key: Buffer, founder: Buffer, number: int = 0, base: Iterable[Buffer] = (),
+             base_key: Buffer = ZEROS, root: Buffer = ZEROS) -> Note:
+        """The note that is kept in a file, which is begun where it isn't there. What came is on the disk before `update` shows what counts of
+        it, and own entries before `say` answers them: whoever opens the file again sends those of `kept` that others may lack. A call that
+        can't have it kept raises an `OSError`, and does nothing: the next one tries again. Own edits that weren't said aren't kept.
+
+        A file is open once at a time (`BlockingIOError`), and another note's is a `ValueError`; `Damaged` is raised where something else has
+        changed it."""
+        chunks = [*map(given.data, base)]
+        made = cls(site=site, key=key, founder=founder, number=number, base=chunks, base_key=base_key, root=root)
+        begins = beginning(_hash(key), _hash(founder), number, _hash(base_key), _hash(root), chunks)
+        file = NoteFile(os.fspath(path), begins)
+        try:
+            made._take_in(file, path)
+        except BaseException:
+            file.close()
+            raise
+        made._file = file
+        return made
+
+    def _take_in(self, file: NoteFile, path: Path) -> None:
+        """Takes in what a file has, whose bytes may be anybody's."""
+        try:
+            for record in file.records():
+                if record[0] == CLAIM:
+                    _, author, number, rank = _CLAIM.unpack(record)
+                    self.claim(author, number, rank)
+                else:
+                    self.add(_entry(record))
+        except (Refused, struct.error) as why:
+            if isinstance(why, Refused) and why.number == c.OUT_OF_MEMORY:
+                raise
+            raise Damaged(f"what {path} has is refused: {why}") from why
+        self.update()
+
+    def kept(self) -> list[Entry]:
+        """The entries that the file of an open note has, own ones too, in the order in which they came."""
+        with self._lock:
+            if self._file is None:
+                raise ValueError("the note isn't kept in a file")
+            return [_entry(record) for record in self._file.records() if record[0] == ENTRY]
+
     @property
     def site(self) -> int:
         """The number of the site."""
@@ -96,6 +154,9 @@ class Note:
         """Frees it; all other calls are refused after this, those of its texts too."""
         with self._lock:
             c.long_calls.vialshoal_note_free(self._handle)
+            if self._file is not None:
+                self._file.close()
+            self._file = None
 
     def __del__(self) -> None:
         if hasattr(self, "_handle"):
@@ -118,16 +179,22 @@ class Note:
         """A claim of a number came; its rank is the hash that was searched for. It counts after the next `update`."""
         with self._lock:
             done(c.calls.vialshoal_note_claim(self._handle, _hash(author), given.number(site, given.MOST_SITE), _hash(rank)))
+            if self._file is not None:
+                self._file.gather(_CLAIM.pack(CLAIM, _hash(author), site, _hash(rank)))
 
     def add(self, entry: Entry) -> None:
         """An entry came, perhaps again, or an own one. It counts after the next `update`."""
         head, body = _packed(given.instance(entry, Entry).head), given.data(entry.body)
         with self._lock:
             done(c.calls_for(64 * len(body)).vialshoal_note_add(self._handle, head, body, len(body)))
+            if self._file is not None:
+                self._file.gather(_record(entry))
 
     def update(self) -> None:
         """Has the texts show what counts of all that came. Own edits that `say` didn't answer are taken back."""
         with self._lock:
+            if self._file is not None:
+                self._file.keep()
             for entry in self._made:
                 self.add(entry)
             done(c.long_calls.vialshoal_note_update(self._handle))
@@ -137,11 +204,25 @@ class Note:
         sign, keep and send them. Where memory is refused, the next call answers them."""
         with self._lock:
             own = [entry for text in range(1, TEXTS + 1) for entry in self._own(text, _hash(author))]
+            self._keep(own)
             self._made += [entry for entry in own if entry not in self._made]
             if self._made:
                 self.update()
             entries, self._made = self._made, []
             return entries
+
+    def _keep(self, own: list[Entry]) -> None:
+        """Has the file have own entries, or nothing of them: they are made anew where they aren't answered."""
+        if self._file is None:
+            return
+        records = [*map(_record, own)]
+        for record in records:
+            self._file.gather(record)
+        try:
+            self._file.keep()
+        except BaseException:
+            self._file.leave(records)
+            raise
 
     def _own(self, text: int, author: bytes) -> list[Entry]:
         head, need = c.CHead(), c_uint64()

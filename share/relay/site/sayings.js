@@ -184,7 +184,8 @@ export class Line {
   async seqIn(pieces, hash, digest) {
     for (const run of new Set(pieces.map((piece) => piece.run))) {
       const seq = run.first + (await this.#hashes(run, run.count, digest)).findIndex((one) => equal(one, hash));
-      if (seq >= run.first && pieces.some(({ one }) => one.seq <= seq && seq < one.seq + one.size)) return seq;
+      const isIt = (/** @type {Piece} */ { one, hash: its }) => one.seq <= seq && seq < one.seq + one.size && (!its || its === hex(hash));
+      if (seq >= run.first && pieces.some(isIt)) return seq;
     }
     return 0;
   }

@@ -11,6 +11,8 @@ pub struct IndexMap<K, V> {
     // Where each key's entry stands.
     places: HashMap<K, usize>,
     entries: std::vec::Vec<(K, V)>,
+    // Where the one stands that was changed last: often it is asked for next, and then no key is hashed.
+    last: usize,
 }
 
 impl<K: Eq + Hash + Copy, V> IndexMap<K, V> {
@@ -19,6 +21,7 @@ impl<K: Eq + Hash + Copy, V> IndexMap<K, V> {
         IndexMap {
             places: HashMap::new(),
             entries: std::vec::Vec::new(),
+            last: 0,
         }
     }
 
@@ -34,7 +37,7 @@ impl<K: Eq + Hash + Copy, V> IndexMap<K, V> {
 
     /// Whether a key has an entry.
     pub fn contains_key(&self, key: &K) -> bool {
-        self.places.contains_key(key)
+        self.place(key).is_some()
     }
 
     /// A key's value.
@@ -44,13 +47,21 @@ impl<K: Eq + Hash + Copy, V> IndexMap<K, V> {
 
     /// A key's value, to be changed.
     pub fn get_mut(&mut self, key: &K) -> Option<&mut V> {
-        let at = *self.places.get(key)?;
-        self.get_index_mut(at)
+        self.last = self.place(key)?;
+        self.get_index_mut(self.last)
+    }
+
+    // Where a key's entry stands.
+    fn place(&self, key: &K) -> Option<usize> {
+        match self.entries.get(self.last) {
+            Some((held, _)) if held == key => Some(self.last),
+            _ => self.places.get(key).copied(),
+        }
     }
 
     /// A key's entry, and where it stands.
     pub fn get_full(&self, key: &K) -> Option<(usize, &K, &V)> {
-        let at = *self.places.get(key)?;
+        let at = self.place(key)?;
         let (key, value) = self.get_index(at)?;
         Some((at, key, value))
     }
@@ -81,7 +92,8 @@ impl<K: Eq + Hash + Copy, V> IndexMap<K, V> {
                 value: (key, value),
             });
         }
-        self.places.insert(key, self.entries.len());
+        self.last = self.entries.len();
+        self.places.insert(key, self.last);
         self.entries.push((key, value));
         Ok(None)
     }
