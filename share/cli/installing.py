@@ -20,7 +20,7 @@ from share.text.errors import Trouble
 PREFIX = "/usr/local"
 LIB, CURRENT, MANIFEST, NEW = "lib", "vialshoal", "installed", "new"
 TREE = re.compile(r"vialshoal-[0-9a-f]{8}")
-ROOMS = ("text", "format", "admission", "review", "log", "relay", "program", "store", "sync", "engine", "editors", "cli")
+ROOMS = ("text", "format", "admission", "review", "log", "relay", "program", "store", "proved", "sync", "engine", "editors", "cli")
 PARTS = ("bin/note", "bin/built", "share/*.py", *(f"share/{room}/**/*.py" for room in ROOMS), "share/editors/web/*.*",
          "share/relay/site/*.*", *(f"library/node/{name}.js" for name in ("blocks", "bytes", "delta", "host", "positions")),
          "library/out/node/vialshoal.wasm",

@@ -105,6 +105,11 @@ def packed_in_parts(operations: Iterable[Operation], length: int = 0) -> list[Pa
     return found
 
 
+def inserted_before(chunk: bytes) -> int:
+    """How many characters the site of a chunk had inserted before it."""
+    return _ChunkReader(chunk, text_of_chunk(chunk))._one.at
+
+
 def of_names_at_most(chunk: bytes) -> int:
     """How many operations of a chunk are on sets of names at most, by its bytes alone."""
     return len(OF_NAMES.findall(chunk))

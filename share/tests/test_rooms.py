@@ -11,7 +11,7 @@ from share.cli import installing
 
 TOP = pathlib.Path(__file__).resolve().parents[1]
 # From the lowest one up, as share/__init__.py has them.
-ROOMS = ("text", "format", "admission", "review", "log", "relay", "program", "store", "sync", "engine", "editors", "cli")
+ROOMS = ("text", "format", "admission", "review", "log", "relay", "program", "store", "proved", "sync", "engine", "editors", "cli")
 FUNCTIONS = ast.FunctionDef, ast.AsyncFunctionDef
 DEFINITIONS = *FUNCTIONS, ast.ClassDef
 MOST_LINES_OF_A_CLASS, MOST_LINES_OF_A_FUNCTION, MOST_LINES_OF_A_MODULE = 250, 40, 800
