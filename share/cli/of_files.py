@@ -1,4 +1,4 @@
-"""The verbs about notes as a whole: they are brought up to date, renamed and deleted."""
+"""The verbs about notes as a whole: they are brought up to date, checked, renamed and deleted."""
 import argparse
 import pathlib
 import time
@@ -6,9 +6,10 @@ from collections.abc import Sequence
 from concurrent.futures import ThreadPoolExecutor
 
 from share.cli import access
-from share.cli.output import INCOMPLETE, print_json, print_text, report
+from share.cli.output import INCOMPLETE, print_json, print_text, report, report_missing
 from share.editors.client import state_of_engine
 from share.engine import server
+from share.proved.comparing import Compared, compared, read_by_both
 from share.store import naming, notes, read_only
 from share.store.guarded import Damaged, Unkept
 from share.sync.errand import Errand, run_errand
@@ -17,6 +18,8 @@ from share.text.line import Line
 
 # The most notes that are done at once. They wait for their logs most of the time.
 NOTES_AT_ONCE = 6
+# The status where the proved note shows something else.
+DIFFERS = 1
 
 
 def sync(given: argparse.Namespace) -> int:
@@ -33,6 +36,21 @@ def sync(given: argparse.Namespace) -> int:
             return status
         before = {one["name"]: one for one in found}
         time.sleep(given.every)
+
+
+def check(given: argparse.Namespace) -> int:
+    """Says whether the library's note, which is proved, shows the same of a note's file."""
+    found = compared(read_by_both(notes.existing(given.name)))
+    if given.json:
+        print_json({"note": given.name, "messages": found.messages, "characters": found.characters, "differences": found.differences}, [])
+    else:
+        print_text("".join(f"{line}\n" for line in _lines_of(found)))
+    return report_missing(found.faults) if not found.differences else DIFFERS
+
+
+def _lines_of(found: Compared) -> Sequence[str]:
+    return found.differences or [f"The proved note shows the same: {counted(found.messages, 'message')}, "
+                                 f"{counted(found.characters, 'character')}."]
 
 
 def rename(given: argparse.Namespace) -> int:

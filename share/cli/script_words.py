@@ -9,8 +9,8 @@ from share.cli.review_words import CRITIC, REVIEW_VERBS, REVIEW_VERBS_OF_ANY_WOR
 from share.format.operation import TEXT
 from share.format.second.form import RecordForm
 
-SCRIPT_VERBS = ("cat", "append", "replace", "import", "export", "list", "history", "log", "changed", "search", "sync", "rename", "delete",
-                *REVIEW_VERBS)
+SCRIPT_VERBS = ("cat", "append", "replace", "import", "export", "list", "history", "log", "changed", "search", "sync", "check", "rename",
+                "delete", *REVIEW_VERBS)
 # Those that need no more words, and those whose words may begin with a hyphen.
 ALONE, OF_ANY_WORDS = ("list", "sync", "remarks"), ("append", "replace", "search", *REVIEW_VERBS_OF_ANY_WORDS)
 LONGEST_PAUSE = 86_400.0
@@ -119,9 +119,13 @@ def _add_verbs_of_files(verb: Callable[..., argparse.ArgumentParser]) -> None:
     sync.add_argument("names", metavar="NAME", nargs="*")
     sync.add_argument("--every", metavar="SECONDS", type=_pause, help="go on until this is ended, with this pause between")
     sync.add_argument("--password-file", metavar="FILE", help="a file that has the server's password")
+    check = verb("check", "says whether the library's note, which is proved, shows the same of a note's file", of_a_note=False,
+                 more="The note has to be of the second form. What is in its log alone isn't looked at; bin/note sync brings it. Ends with 1\n"
+                      "where something differs.\n")
     rename = verb("rename", "gives a note another name on this disk; nobody else's changes", of_a_note=False)
     delete = verb("delete", "takes a note from this disk, with its text and its keys, after asking; others keep theirs, and its log "
                             "stays as it is", of_a_note=False)
+    check.add_argument("name", metavar="NAME", help="the note")
     for one in rename, delete:
         one.add_argument("name", metavar="NAME", help="the note, which no editor has open")
     rename.add_argument("new", metavar="NEW", help="its new name")

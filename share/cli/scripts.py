@@ -13,7 +13,8 @@ DOES: dict[str, Callable[[argparse.Namespace], int]] = {
     "remarks": remarks.remarks, "remark": reviewing.remark, "suggest": reviewing.suggest, "reply": reviewing.reply,
     "accept": reviewing.accept, "revise": reviewing.revise,
     **dict.fromkeys(("resolve", "reopen", "reject", "withdraw"), reviewing.change_state),
-    "search": reading.search, "changed": changes.print_changes, "sync": of_files.sync, "rename": of_files.rename, "delete": of_files.delete,
+    "search": reading.search, "changed": changes.print_changes, "sync": of_files.sync, "check": of_files.check,
+    "rename": of_files.rename, "delete": of_files.delete,
 }
 # What doesn't ask the program.
 WITHOUT_PROGRAM = ("list", "sync", "rename", "delete")

@@ -36,6 +36,7 @@ for scripts, each with --help:
   bin/note list                   the notes that are here, what of them is unsent, and when they changed
   bin/note search WORDS           looks for words in all of them
   bin/note sync [NAME ..]         sends and gets what is new of all notes, or of these; --every SECONDS goes on
+  bin/note check NAME             says whether the library's note, which is proved, shows the same of its file
   bin/note rename NAME NEW        gives a note another name on this disk
   bin/note delete NAME            takes a note from this disk, after asking
 

@@ -25,7 +25,7 @@ _note_options() {
         reply | resolve | reopen | reject | revise | withdraw) echo "--help $log --json" ;;
         accept) echo "--help $log --json --anyway" ;;
         history) echo "--help $log --json --at" ;;
-        list | search | rename) echo '--help --json' ;;
+        list | search | check | rename) echo '--help --json' ;;
         delete) echo '--help --json --yes' ;;
         sync) echo '--help --json --every --password-file' ;;
         install | uninstall) echo '--help --prefix' ;;
@@ -44,8 +44,8 @@ _note_options() {
 
 _note() {
     local word=${COMP_WORDS[COMP_CWORD]} before=${COMP_WORDS[COMP_CWORD - 1]} verb='' offered=''
-    local verbs='accept append cat changed delete engine export history import install link list log open recover reject relay remark remarks'
-    verbs+=' rename renew reopen replace reply resolve revise search suggest sync uninstall web withdraw'
+    local verbs='accept append cat changed check delete engine export history import install link list log open recover reject relay remark'
+    verbs+=' remarks rename renew reopen replace reply resolve revise search suggest sync uninstall web withdraw'
     [[ $COMP_CWORD -gt 1 ]] && verb=${COMP_WORDS[1]}
     COMPREPLY=()
     case $before in

@@ -1,7 +1,7 @@
 # Completes what note is given in fish: verbs, options, and the names of the notes that are here.
 
-set -l verbs accept append cat changed delete engine export history import install link list log open recover reject relay remark remarks rename renew
-set -a verbs reopen replace reply resolve revise search suggest sync uninstall web withdraw
+set -l verbs accept append cat changed check delete engine export history import install link list log open recover reject relay remark remarks
+set -a verbs rename renew reopen replace reply resolve revise search suggest sync uninstall web withdraw
 # Those that name one note, and then no file.
 set -l once accept reject remark rename reopen reply resolve revise suggest withdraw
 
@@ -34,7 +34,7 @@ complete -c note -n '__note_verb import export recover' -F
 complete -c note -l help
 set -l logged accept append cat changed replace import log export history web renew recover open engine link reject remark reopen reply resolve
 set -a logged revise suggest withdraw
-set -l scripts accept append cat changed delete export history import list log reject remark remarks rename reopen replace reply
+set -l scripts accept append cat changed check delete export history import list log reject remark remarks rename reopen replace reply
 set -a scripts resolve revise search suggest sync withdraw
 for option in log link-file
     complete -c note -n "__note_has -eq 1; or __note_verb $logged" -l $option -r

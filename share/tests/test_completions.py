@@ -81,7 +81,7 @@ class Completed(Case):
         notes.mkdir(parents=True)
         for name in "picnic", "plan", "diary":
             (notes / f"{name}.note").touch()
-        for verb in "cat", "rename", "delete", "sync", "remarks", "remark", "accept":
+        for verb in "cat", "check", "rename", "delete", "sync", "remarks", "remark", "accept":
             self.assertEqual(self.offered(verb, "p"), ["picnic", "plan"])
         self.assertEqual(self.offered("di"), ["diary"])
         for words in ("list", ""), ("search", ""), ("rename", "diary", ""), ("remark", "diary", "--on", ""), ("reply", "diary", "7:1", ""):

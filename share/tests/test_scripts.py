@@ -65,12 +65,12 @@ class Verbs(Case):
 
     def test_what_is_not_there(self) -> None:
         for words in (["cat", "note"], ["replace", "note", "a", "b"], ["log", "note"], ["history", "note", "--at", "0"],
-                      ["export", "note", "-"], ["cat"], ["log"], ["cat", "../x"], ["import", "note", "/nowhere/x", "--new"],
+                      ["export", "note", "-"], ["check", "note"], ["cat"], ["log"], ["check"], ["cat", "../x"], ["import", "note", "/nowhere/x", "--new"],
                       ["export", "note", "-", "--format", "pdf"]):
             self.note(*words, status=2)
             self.assertTrue(self.said)
         self.assertFalse((self.folder / "data" / "notes").exists())
-        for verb in "cat", "append", "replace", "import", "export", "list", "history", "log":
+        for verb in "cat", "append", "replace", "import", "export", "list", "history", "log", "check":
             self.assertIn("usage: bin/note " + verb, self.note(verb, "--help"))
         self.assertEqual(self.note("list"), "")
 
