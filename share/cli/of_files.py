@@ -44,11 +44,12 @@ def check(given: argparse.Namespace) -> int:
     if given.json:
         print_json({"note": given.name, "messages": found.messages, "characters": found.characters, "differences": found.differences}, [])
     else:
-        print_text("".join(f"{line}\n" for line in _lines_of(found)))
-    return report_missing(found.faults) if not found.differences else DIFFERS
+        print_text("".join(f"{line}\n" for line in _lines_of_check(found)))
+    status = report_missing(found.faults)
+    return DIFFERS if found.differences else status
 
 
-def _lines_of(found: Compared) -> Sequence[str]:
+def _lines_of_check(found: Compared) -> Sequence[str]:
     return found.differences or [f"The proved note shows the same: {counted(found.messages, 'message')}, "
                                  f"{counted(found.characters, 'character')}."]
 

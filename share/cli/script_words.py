@@ -120,8 +120,8 @@ def _add_verbs_of_files(verb: Callable[..., argparse.ArgumentParser]) -> None:
     sync.add_argument("--every", metavar="SECONDS", type=_pause, help="go on until this is ended, with this pause between")
     sync.add_argument("--password-file", metavar="FILE", help="a file that has the server's password")
     check = verb("check", "says whether the library's note, which is proved, shows the same of a note's file", of_a_note=False,
-                 more="The note has to be of the second form. What is in its log alone isn't looked at; bin/note sync brings it. Ends with 1\n"
-                      "where something differs.\n")
+                 more="The note has to be of the second form. What is in its log alone isn't looked at; bin/note sync brings it.\n"
+                      "Ends with 1 where something differs.\n")
     rename = verb("rename", "gives a note another name on this disk; nobody else's changes", of_a_note=False)
     delete = verb("delete", "takes a note from this disk, with its text and its keys, after asking; others keep theirs, and its log "
                             "stays as it is", of_a_note=False)

@@ -13,13 +13,13 @@ from share.program.site import Site
 from share.proved.feeding import Fed
 from share.store import read_only
 from share.store.note_file import About
-from share.store.read_only import Hears, Judged
+from share.store.read_only import TakesRows, Judged
 from share.text.errors import counted
 from share.text.looks import Run
 from share.text.rope import readable
 
 
-class Shows(NamedTuple):
+class ShownText(NamedTuple):
     """What is shown of a text: how many messages of each site count, the bytes, and their looks."""
 
     fronts: dict[int, int]
@@ -27,7 +27,7 @@ class Shows(NamedTuple):
     runs: list[Run]
 
 
-NOTHING = Shows({}, b"", [])
+NOTHING_SHOWN = ShownText({}, b"", [])
 
 
 class Both(NamedTuple):
@@ -49,23 +49,21 @@ class Compared(NamedTuple):
 
 def read_by_both(path: pathlib.Path) -> Both:
     """A note's file, which is read once for both; so engines may write to it meanwhile."""
-    fed: Fed | None = None
+    begun = list[Fed]()
 
-    def begins(about: About) -> Hears:
-        nonlocal fed
-        fed = Fed(about.form())
-        return fed.take
+    def begins(about: About) -> TakesRows:
+        begun.append(Fed(about.form()))
+        return begun[-1].take
 
     found = read_only.judged(path, begins)
-    assert fed
-    fed.end()
-    return Both(found, fed)
+    begun[-1].end()
+    return Both(found, begun[-1])
 
 
 def compared(both: Both) -> Compared:
     """What comes of a file that was read."""
     with contextlib.closing(both.fed):
-        differences = [f"The proved note takes for none {one}." for one in both.fed.refused]
+        differences = [f"The proved note takes {one} for none." for one in both.fed.refused]
         messages = characters = 0
         for text in RecordForm.texts:
             here, there = shown_here(both.judged.judge, text), shown_there(both.fed.note, text)
@@ -75,25 +73,25 @@ def compared(both: Both) -> Compared:
     return Compared(messages, characters, differences, both.judged.faults)
 
 
-def shown_here(judge: Judging, text: int = TEXT) -> Shows:
+def shown_here(judge: Judging, text: int = TEXT) -> ShownText:
     """What the program shows of the messages that the judge lets through."""
     messages = judge.let_through_in_order(text)
     if not messages:
-        return NOTHING
+        return NOTHING_SHOWN
     fronts = {site: front for site in sorted(judge.claimed()) if (front := judge.front(site, text))}
     with contextlib.closing(Site(REPLAYING, messages, text=text)) as site:
-        return Shows(fronts, site.text(), site.runs())
+        return ShownText(fronts, site.text(), site.runs())
 
 
-def shown_there(note: Any, text: int = TEXT) -> Shows:
+def shown_there(note: Any, text: int = TEXT) -> ShownText:
     """What the library's note shows, None where nothing counts."""
     if note is None:
-        return NOTHING
+        return NOTHING_SHOWN
     shown = note.text(text)
-    return Shows(shown.fronts(), bytes(shown), [Run(one.font, one.colour, one.offset, one.end - one.beg) for one in shown.runs()])
+    return ShownText(shown.fronts(), bytes(shown), [Run(one.font, one.colour, one.offset, one.end - one.beg) for one in shown.runs()])
 
 
-def differing(text: int, here: Shows, there: Shows) -> Iterator[str]:
+def differing(text: int, here: ShownText, there: ShownText) -> Iterator[str]:
     """In what the library's note differs, in words."""
     for site in sorted(here.fronts.keys() | there.fronts.keys()):
         ours, its = here.fronts.get(site, 0), there.fronts.get(site, 0)

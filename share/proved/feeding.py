@@ -2,6 +2,7 @@
 since it doesn't say what counts."""
 import zlib
 from collections.abc import Callable, Sequence
+from functools import partial
 from typing import Any
 
 from share.format.entry import Bad, Form, digest
@@ -17,7 +18,7 @@ from share.text.errors import Trouble
 READS_ALONE = 65_535
 # By which the library refuses bytes that are none.
 MALFORMED = 1
-OF_FIRST_FORM = "The note is of the first form, and the proved note knows the second one. bin/note renew NAME --form 2 copies it into that."
+OF_SECOND_ALONE = "The note is of the first form, and the proved note knows the second one. bin/note renew NAME --form 2 copies it into that."
 
 
 class Fed:
@@ -25,12 +26,12 @@ class Fed:
 
     def __init__(self, form: Form):
         if not isinstance(form, RecordForm):
-            raise Trouble(OF_FIRST_FORM)
+            raise Trouble(OF_SECOND_ALONE)
         self._form, self._library = form, library()
         # None as long as nothing counts, since what it begins with isn't here, or not in its order.
         self.note: Any = None
         self._beginning = Beginning()
-        self._waiting: list[Callable[[Any], None]] = []
+        self._waiting: list[Callable[[Any], object]] = []
         # The entries that it doesn't take for what they are here, in words.
         self.refused: list[str] = []
 
@@ -45,7 +46,7 @@ class Fed:
         if not self.note:
             self._begin(looks_within=True)
         if self.note:
-            self.note.update()
+            self._takes(self.note.update)
 
     def close(self) -> None:
         """Lets it go."""
@@ -81,12 +82,12 @@ class Fed:
             self._hand(lambda note: self._says(note, entry, raw))
         elif kind is RecordKind.CLAIM:
             rank = rank_of(self._form.note, author, int.from_bytes(before[len(CLAIM_ZEROS):], "big"))
-            self._hand(lambda note: note.claim(author, site, rank))
+            self._hand(lambda note: self._takes(lambda: note.claim(author, site, rank)))
         elif kind in (RecordKind.OPENING, RecordKind.BASE) and not self.note:
             self._beginning.add(self._form.reopened(raw, body, digest(raw)))
             self._begin()
 
-    def _hand(self, hands: Callable[[Any], None]) -> None:
+    def _hand(self, hands: Callable[[Any], object]) -> None:
         if self.note:
             hands(self.note)
         else:
@@ -94,27 +95,27 @@ class Fed:
 
     def _begin(self, looks_within: bool = False) -> None:
         """Begins the note where all is here that it begins with."""
-        words = self._beginning.words(looks_within)
-        if not words:
-            return
-        try:
-            self.note = self._library.Note(site=READS_ALONE, key=self._form.keys.hash, **words)
-        except self._library.Refused as why:
-            if why.number != MALFORMED:
-                raise
-            # What was copied isn't in its order, so nothing ever counts.
-            return
+        if words := self._beginning.words(looks_within):
+            self._takes(partial(self._make, words))
+
+    def _make(self, words: dict[str, Any]) -> None:
+        self.note = self._library.Note(site=READS_ALONE, key=self._form.keys.hash, **words)
         for hands in self._waiting:
             hands(self.note)
         self._waiting.clear()
 
     def _says(self, note: Any, entry: Any, raw: bytes) -> None:
         """Hands it an entry of messages."""
+        if not self._takes(lambda: note.add(entry)) and self._looked_at(raw) is not None:
+            head = entry.head
+            self.refused.append(f"the entry of site {head.site} in text {head.text} that begins with message {head.first}")
+
+    def _takes(self, call: Callable[[], object]) -> bool:
+        """Calls the library; whether that didn't take bytes for none."""
         try:
-            note.add(entry)
+            call()
         except self._library.Refused as why:
             if why.number != MALFORMED:
-                raise
-            if self._looked_at(raw) is not None:
-                head = entry.head
-                self.refused.append(f"in text {head.text} the entry of site {head.site} that begins with message {head.first}")
+                raise Trouble(f"The proved note can't go on: {why}.") from why
+            return False
+        return True

@@ -16,11 +16,11 @@ PACKAGE_HERE, LIBRARY_HERE = TOP / "library" / "python", TOP / "library" / "out"
 def library() -> ModuleType:
     """The package, with its library; Trouble where they aren't here."""
     try:
-        found = _installed() or _made_here()
+        found = _installed() or _package_here()
     except (ImportError, AttributeError, OSError) as why:
         # A library of before lacks calls.
-        raise Trouble(f"The library that has the proved note isn't here ({why}). bin/library --unproved makes it, or {LIBRARY_VARIABLE} "
-                      "names one.") from why
+        raise Trouble(f"The library that has the proved note isn't here ({why}). Install its Python package, or have a checkout's "
+                      f"bin/library --unproved make it; {LIBRARY_VARIABLE} may name it.") from why
     if not hasattr(found, "Note"):
         raise Trouble(f"The library's package in {found.__file__} is too old, and has no note.")
     return found
@@ -36,14 +36,14 @@ def _installed() -> ModuleType | None:
         return None
 
 
-def _made_here() -> ModuleType:
+def _package_here() -> ModuleType:
     with _looking_here():
         return importlib.import_module("vialshoal")
 
 
 @contextlib.contextmanager
 def _looking_here() -> Iterator[None]:
-    """Meanwhile Python finds the package of this checkout, and that the library that was made of it, where no other one is named."""
+    """Meanwhile Python finds the package of this checkout, and that its library, where no other one is named."""
     is_named = bool(os.environ.get(LIBRARY_VARIABLE))
     if not is_named and LIBRARY_HERE.is_file():
         os.environ[LIBRARY_VARIABLE] = str(LIBRARY_HERE)

@@ -45,9 +45,9 @@ MOST_FAULTS = 3
 # How many entries are read before what counts of them is let through.
 JUDGED_AT_ONCE = 2_000
 
-# What says what a file of a note has lost; and what is handed the rows of a file as they are read.
+# What says what a file of a note has lost; and what takes the rows of a file as they are read.
 Lacking = Callable[[About, SqliteFile], list[str]]
-Hears = Callable[[Sequence[KeptEntry]], None]
+TakesRows = Callable[[Sequence[KeptEntry]], None]
 
 
 class FoundEntries(NamedTuple):
@@ -167,10 +167,10 @@ def _found_in_saved(path: pathlib.Path) -> FoundEntries:
                         + [f"{CUT_SHORT}."] * (not saved.is_whole))
 
 
-def judged(path: pathlib.Path, begins: Callable[[About], Hears] = lambda about: lambda rows: None) -> Judged:
+def judged(path: pathlib.Path, begins: Callable[[About], TakesRows] = lambda about: lambda rows: None) -> Judged:
     """What a file of this person has, judged as it is read: so no more of it is in memory than of a note that is open. Who signed what was
     seen as it was kept, and isn't looked at again, but for what the disk damaged. As the reading begins, perhaps again, somebody may say
-    who hears the same rows."""
+    what takes the same rows."""
     noted = noted_beside(path)
     return _with_file(path, lambda file: _judged(file, partial(_lost, path, noted), begins))
 
@@ -230,14 +230,14 @@ def _found(file: SqliteFile, lacks: Lacking) -> FoundEntries:
     return FoundEntries(about_it, right, broken + faults + lacks(about_it, file))
 
 
-def _judged(file: SqliteFile, lacks: Lacking, begins: Callable[[About], Hears]) -> Judged:
+def _judged(file: SqliteFile, lacks: Lacking, begins: Callable[[About], TakesRows]) -> Judged:
     about_it, broken, wrong = about_of(file), list[str](), Faults("the file")
-    form, hears = about_it.form(), begins(about_it)
+    form, takes = about_it.form(), begins(about_it)
     looks = form.one_by_one()
     found = Judged(about_it, judge_of(form), [], set())
     rows = _rows_of(file, KEPT_COLUMNS, broken)
     while portion := [*islice(rows, JUDGED_AT_ONCE)]:
-        hears(portion)
+        takes(portion)
         for one in _put_together(form, looks, portion):
             if isinstance(one, Chained):
                 found.add_run(one)

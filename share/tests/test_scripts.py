@@ -64,8 +64,8 @@ class Verbs(Case):
         self.assertEqual(self.numbers(self.person()), 1)
 
     def test_what_is_not_there(self) -> None:
-        for words in (["cat", "note"], ["replace", "note", "a", "b"], ["log", "note"], ["history", "note", "--at", "0"],
-                      ["export", "note", "-"], ["check", "note"], ["cat"], ["log"], ["check"], ["cat", "../x"], ["import", "note", "/nowhere/x", "--new"],
+        for words in (["cat", "note"], ["replace", "note", "a", "b"], ["log", "note"], ["history", "note", "--at", "0"], ["check", "note"],
+                      ["export", "note", "-"], ["cat"], ["log"], ["check"], ["cat", "../x"], ["import", "note", "/nowhere/x", "--new"],
                       ["export", "note", "-", "--format", "pdf"]):
             self.note(*words, status=2)
             self.assertTrue(self.said)
