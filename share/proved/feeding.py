@@ -18,7 +18,7 @@ from share.text.errors import Trouble
 READS_ALONE = 65_535
 # By which the library refuses bytes that are none.
 MALFORMED = 1
-OF_SECOND_ALONE = "The note is of the first form, and the proved note knows the second one. bin/note renew NAME --form 2 copies it into that."
+OF_SECOND_ALONE = "The note is of the first form, and the proved note knows the second. bin/note renew NAME --form 2 copies it into that."
 
 
 class Fed:

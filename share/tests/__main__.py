@@ -21,6 +21,7 @@ from share.tests.byte_code import use_byte_code_of
 from share.tests.forms import FIRST_FORM_ALONE, is_second_form, of_second_form
 from share.tests.left_open import left_open, open_now
 from share.tests.processes import descendants, handles
+from share.tests.proved_files import Tallied, Tally, make_library, missing_library
 
 # How many modules run at a time. They wait more than they work.
 AT_A_TIME = 2 * (os.cpu_count() or 2) + 2
@@ -47,6 +48,8 @@ MODULES = ["test_storm", "test_spots", "test_all_editors", "test_page", "test_re
 # These need the core as WebAssembly, which bin/library --wasm makes where Rust can. Where it isn't here they aren't run, which is said.
 OVER_THE_CORE = ["test_all_at_relay", "test_relay_text", "test_relay_text_firefox", "test_site_texts", "test_site_feed",
                  "test_site_lost", "test_relay_review", "test_relay_left_out", "test_relay_ends", "test_site_reviews"]
+# This needs the library, which is made as ordinary Rust where cargo is.
+OVER_THE_LIBRARY = ["test_proved"]
 # These run over notes of the second form, too, which has rules of its own for what they are about: numbers, copies, losses, what is
 # sent, who is on, and attacks. Any module does as "test_one:2".
 OVER_BOTH = frozenset(("test_all_editors", "test_carried", "test_changed", "test_copied_numbers", "test_copies", "test_left_out",
@@ -73,11 +76,12 @@ class Fault(NamedTuple):
 
 
 class Result(NamedTuple):
-    """How many tests of a module passed, what is to be told of them all, and what failed."""
+    """How many tests of a module passed, what is to be told of them all, what failed, and what was compared with the proved note."""
 
     passed: int
     told: str
     faults: Sequence[Fault]
+    tally: Tally = Tally()
 
 
 class Running(NamedTuple):
@@ -128,7 +132,7 @@ def run(module: str, told: pathlib.Path, only: frozenset[str]) -> Result:
             file.write(f"FAIL: {faults[-1].words}\n")
         file.write(f"{module}: {time.monotonic() - begin:.0f} s, {processor_seconds():.0f} of them of a processor\n")
         faulthandler.disable()
-    return Result(len(names - all_tests(faults)), told.read_text("utf-8"), faults)
+    return Result(len(names - all_tests(faults)), told.read_text("utf-8"), faults, Tallied.tally)
 
 
 def tests_of(name: str, only: frozenset[str]) -> unittest.TestSuite:
@@ -224,7 +228,7 @@ def received(line: "connection.Connection", one: Running) -> Result:
     if not has_ended:
         words = f"{one.module} has run, and its process didn't end"
         faults = [*result.faults, Fault(one.module, words, all_tests(result.faults))]
-        return Result(result.passed, f"{result.told}FAIL: {words}\n", faults)
+        return Result(result.passed, f"{result.told}FAIL: {words}\n", faults, result.tally)
     return result
 
 
@@ -268,10 +272,10 @@ def unsteady_of(faults: Sequence[Fault], folder: pathlib.Path, seconds: float) -
 
 def count(modules: Sequence[str], folder: pathlib.Path, seconds: float = MODULE_SECONDS) -> int:
     """Runs modules, prints what came of them, and last how many tests passed and failed; the status of that."""
-    passed, faults = 0, list[Fault]()
+    passed, faults, tally = 0, list[Fault](), Tally()
     for one in results(modules, folder, seconds):
         print(one.told, flush=True)
-        passed, faults = passed + one.passed, [*faults, *one.faults]
+        passed, faults, tally = passed + one.passed, [*faults, *one.faults], tally.and_more(one.tally)
     unsteady = unsteady_of(faults, folder, seconds)
     passed += len({(fault.module, test) for fault in unsteady for test in fault.tests})
     failed = [fault for fault in faults if fault not in unsteady]
@@ -279,7 +283,7 @@ def count(modules: Sequence[str], folder: pathlib.Path, seconds: float = MODULE_
     last = [*(f"FAIL: {fault.words}" for fault in failed), *(f"UNSTEADY: {fault.words}" for fault in unsteady)]
     if unsteady:
         last.append(f"{len(unsteady)} unsteady: what failed at first, and passed {TIMES_AGAIN} times when it was run again, alone")
-    print("\n".join([*last, f"{passed} passed, {len(failed)} failed"]), flush=True)
+    print("\n".join([missing_library() or tally.words(), *last, f"{passed} passed, {len(failed)} failed"]), flush=True)
     return 1 if failed or not passed else 0
 
 
@@ -288,19 +292,23 @@ def all_modules() -> list[str]:
     twice = frozenset[str]() if is_second_form() else OVER_BOTH
     if not core_path():
         print(f"not run, since the core isn't here as WebAssembly: {', '.join(OVER_THE_CORE)}", flush=True)
-    modules = [*(OVER_THE_CORE if core_path() else []), *MODULES]
+    if missing_library():
+        print(f"not run, since the library isn't here: {', '.join(OVER_THE_LIBRARY)}", flush=True)
+    modules = [*(OVER_THE_CORE if core_path() else []), *MODULES, *([] if missing_library() else OVER_THE_LIBRARY)]
     return [one for module in modules for one in (module, f"{module}:2")[:1 + (module in twice)]]
 
 
 def main() -> int:
     """Runs all modules, or those that are named."""
     stand = {path.stem for path in pathlib.Path(__file__).parent.glob("test_*.py")}
-    if stand != {*MODULES, *OVER_THE_CORE}:
-        sys.exit(f"not all modules of tests are listed: {sorted(stand ^ {*MODULES, *OVER_THE_CORE})}")
+    if stand != (listed := {*MODULES, *OVER_THE_CORE, *OVER_THE_LIBRARY}):
+        sys.exit(f"not all modules of tests are listed: {sorted(stand ^ listed)}")
     with tempfile.TemporaryDirectory(prefix="share-python-") as name:
         use_byte_code_of(pathlib.Path(name) / "python")
         # What nearly all modules need is loaded once, before each has a process of its own.
         importlib.import_module("share.tests.support")
+        make_library(pathlib.Path(name))
+        missing_library()
         seconds = 10 * 86_400 if any(map(os.environ.get, LONG_RUNS)) else MODULE_SECONDS
         return count(sys.argv[1:] or all_modules(), pathlib.Path(name), seconds)
 

@@ -5,7 +5,6 @@ import os
 import pathlib
 import random
 import re
-import shutil
 import sqlite3
 import subprocess
 import sys
@@ -34,6 +33,7 @@ from share.sync.session import Session, Status
 from share.tests.forms import is_second_form, of_second_form
 from share.tests.naive import newer, taking
 from share.tests.note import Note
+from share.tests.proved_files import give_up
 from share.tests.servers import RedisServer
 from share.tests.waiting import PATIENCE
 from share.tests.waiting import wait_for as wait_for
@@ -121,7 +121,7 @@ class Case(unittest.TestCase):
             searching.__enter__()
             self.addCleanup(searching.__exit__, None, None, None)
         self.folder = pathlib.Path(tempfile.mkdtemp(prefix="share-"))
-        self.addCleanup(shutil.rmtree, self.folder, ignore_errors=True)
+        self.addCleanup(give_up, self.folder)
         os.environ["VIALSHOAL_DATA"] = str(self.folder / "data")
         # A log that is back is found soon.
         quick = mock.patch("share.sync.threads.RECONNECT_SECONDS", 0.2)

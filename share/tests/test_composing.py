@@ -3,13 +3,13 @@ from __future__ import annotations
 
 import os
 import pathlib
-import shutil
 import signal
 import tempfile
 import unittest
 from typing import Any
 
 from share.tests.pages import Pages, Server, kept
+from share.tests.proved_files import give_up
 from share.tests.support import engine_of, wait_for
 
 try:
@@ -80,7 +80,7 @@ class Composed(Pages):
     def setUpClass(cls) -> None:
         super().setUpClass()
         cls.data = pathlib.Path(tempfile.mkdtemp(prefix="share-"))
-        cls.addClassCleanup(shutil.rmtree, cls.data, ignore_errors=True)
+        cls.addClassCleanup(give_up, cls.data)
         cls.server = Server(cls.data, "--no-browser")
         cls.addClassCleanup(cls.server.close)
         cls.first, cls.second = BROWSER.open(cls.server.path), BROWSER.open(cls.server.path)

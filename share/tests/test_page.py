@@ -6,7 +6,6 @@ import http.server
 import os
 import pathlib
 import random
-import shutil
 import signal
 import subprocess
 import tempfile
@@ -16,6 +15,7 @@ import unittest
 from aiohttp import web
 
 from share.tests.pages import Pages, Server, kept
+from share.tests.proved_files import give_up
 from share.tests.support import NOTE, TOP, engine_of, founders_search, take, type_at_the_end, wait_for, written
 from share.tests.waiting import PATIENCE
 from share.text.rope import swapped
@@ -149,7 +149,7 @@ class Writing(Pages):
     def setUpClass(cls) -> None:
         super().setUpClass()
         cls.data = pathlib.Path(tempfile.mkdtemp(prefix="share-"))
-        cls.addClassCleanup(shutil.rmtree, cls.data, ignore_errors=True)
+        cls.addClassCleanup(give_up, cls.data)
         cls.server = Server(cls.data, "--no-browser")
         cls.addClassCleanup(cls.server.close)
         cls.first, cls.second = BROWSER.open(cls.server.path), BROWSER.open(cls.server.path)

@@ -2,7 +2,6 @@
 from __future__ import annotations
 
 import pathlib
-import shutil
 import tempfile
 import unittest
 from collections.abc import Callable
@@ -10,6 +9,7 @@ from collections.abc import Callable
 from share.tests.cards import BUTTONS, CARDS, IS_IN_TEXT, IS_WRITTEN, MARKED, STATE, Cards
 from share.tests.editors import Editor
 from share.tests.pages import FAULTS_OF_LOOKS, LOOKS_SO, Pages, Server
+from share.tests.proved_files import give_up
 from share.tests.support import Person, wait_for
 
 try:
@@ -80,7 +80,7 @@ class Reviewing(Cards, Pages):
     def setUpClass(cls) -> None:
         super().setUpClass()
         cls.data = pathlib.Path(tempfile.mkdtemp(prefix="share-"))
-        cls.addClassCleanup(shutil.rmtree, cls.data, ignore_errors=True)
+        cls.addClassCleanup(give_up, cls.data)
         cls.ada = cls.window("Ada", "--log", str(cls.data / "shared" / "note.log"))
         cls.bob = cls.window("Bob", VIALSHOAL_LINK=Person(cls.data / "Ada").link())
         cls.editor = Editor(cls.data / "Ada")

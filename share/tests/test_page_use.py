@@ -5,13 +5,13 @@ import base64
 import http.server
 import os
 import pathlib
-import shutil
 import subprocess
 import tempfile
 import threading
 import unittest
 
 from share.tests.pages import FAULTS_OF_LOOKS, LOOKS_SO, Pages, Server
+from share.tests.proved_files import give_up
 from share.tests.support import NOTE, wait_for
 
 try:
@@ -156,7 +156,7 @@ class Using(Pages):
     def setUpClass(cls) -> None:
         super().setUpClass()
         cls.data = pathlib.Path(tempfile.mkdtemp(prefix="share-"))
-        cls.addClassCleanup(shutil.rmtree, cls.data, ignore_errors=True)
+        cls.addClassCleanup(give_up, cls.data)
         # Another note is made meanwhile.
         cls.diary = subprocess.Popen([NOTE, "append", "--new", "diary", "It rained."], env={**os.environ, "VIALSHOAL_DATA": str(cls.data)})
         cls.addClassCleanup(cls.diary.wait)

@@ -193,6 +193,8 @@ class Modules(Case):
         faults = ["FAIL: test_three .*: AssertionError: 'what' != 'else'", "FAIL: test_four .*: nothing is skipped", "FAIL: test_three "]
         for line, wanted in zip(said[-5:], faults):
             self.assertRegex(line, wanted)
+        # What was compared is told once.
+        self.assertEqual([line for line in said if "compared with the proved note: " in line], [said[-6]])
 
     def test_what_failed_is_run_again(self) -> None:
         with mock.patch.dict(os.environ, SHARE_TEST_TIMES=str(self.folder)):

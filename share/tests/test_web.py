@@ -22,6 +22,7 @@ from share.editors.web.bridge import MOST_MESSAGE, NO_FIELDS, bridged, page_refu
 from share.editors.web.opening import redirect
 from share.editors.web.server import files, missing_package
 from share.tests.pages import Server, talking
+from share.tests.proved_files import give_up
 from share.tests.support import TOP, Case, Person, engine_of, python, wait_for
 from share.tests.waiting import PATIENCE
 from share.text.errors import Trouble
@@ -224,7 +225,7 @@ class OneServer(Case, unittest.IsolatedAsyncioTestCase):
     def setUpClass(cls) -> None:
         super().setUpClass()
         cls.data = pathlib.Path(tempfile.mkdtemp(prefix="share-"))
-        cls.addClassCleanup(shutil.rmtree, cls.data, ignore_errors=True)
+        cls.addClassCleanup(give_up, cls.data)
         cls.server = Server(cls.data)
         cls.addClassCleanup(cls.server.close)
 
