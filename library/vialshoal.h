@@ -441,8 +441,9 @@ uint32_t vialshoal_past_find(const vialshoal_past_text *past, uint16_t site, uin
 
 /* Opens an empty handle with a note as the site of this number has it, of no entries but its opening and its base. `key` is the key of its
  * hashes; `founder` the founder's key, `number` his number, 0 for none. The base is in chunks, each after its length in two bytes, the low
- * one first; `base_key` is the key of its hashes, `root` the hash of its last message, zeros where there is none. 1 where the bytes are none
- * of such a base; VIALSHOAL_NO_NUMBER for a site of 0; VIALSHOAL_ALREADY_OPEN; 7. */
+ * one first; `base_key` is the key of its hashes, `root` the hash of its last message, zeros where there is none. That it is in order, texts
+ * and each one's sites rising, is for the caller to see (docs/NOTES.md). 1 where the bytes are none of such a base; VIALSHOAL_NO_NUMBER for
+ * a site of 0; VIALSHOAL_ALREADY_OPEN; 7. */
 uint32_t vialshoal_note_new(vialshoal_note *note, uint16_t site, const vialshoal_hash *key, const vialshoal_hash *founder, uint16_t number,
                             const vialshoal_hash *base_key, const vialshoal_hash *root, const uint8_t *base, size_t length);
 

@@ -85,7 +85,8 @@ def _entry(record: bytes) -> Entry:
 class Note:
     """A note as one site has it. It decides which messages of the entries that it is given count, and its texts show that and own edits;
     notes of one key, founder and base that were given the same entries, in any order, show the same. What seals, signs and carries
-    entries is the caller's. Threads may share it: calls of a note and of its texts are made one after the other."""
+    entries is the caller's, and to see that a base is whole and in order (docs/NOTES.md). Threads may share it: calls of a note and of its
+    texts are made one after the other."""
 
     def __init__(self, *, site: int, key: Buffer, founder: Buffer, number: int = 0, base: Iterable[Buffer] = (),
                  base_key: Buffer = ZEROS, root: Buffer = ZEROS) -> None:
