@@ -134,8 +134,7 @@ class Files(InAFolder):
         with of_ann(self.path) as note:
             file = note._file
             assert file
-            file.gather(b"\x02" + b"x" * 200)
-            file.keep()
+            file.keep([b"\x02" + b"x" * 200])
         with self.assertRaisesRegex(Damaged, "refused"):
             of_ann(self.path)
 
@@ -147,6 +146,10 @@ class Files(InAFolder):
             with full_at(self.path.stat().st_size + 20), self.assertRaises(OSError):
                 note.say(ANN)
             self.assertEqual(note.kept(), said)
+            # What wasn't kept isn't taken back.
+            with full_at(self.path.stat().st_size + 20), self.assertRaises(OSError):
+                note.update()
+            self.assertEqual(bytes(text), b"before, behind")
             text.insert(len(text), b"!")
             said += note.say(ANN)
             self.assertEqual(note.kept(), said)

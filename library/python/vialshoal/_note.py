@@ -96,6 +96,8 @@ class Note:
         self._site = given.number(site, given.MOST_SITE)
         # Entries of own edits that `say` hasn't answered: where memory was refused they may count already, and are to be said yet.
         self._made: list[Entry] = []
+        # Those that a disk refused to keep: they don't count before it does.
+        self._unkept: list[Entry] = []
         # Of which texts a `NoteText` is told the changes.
         self._heard: set[int] = set()
         chunks = b"".join(len(chunk).to_bytes(2, "little") + chunk for chunk in map(given.data, base))
@@ -108,7 +110,8 @@ class Note:
              base_key: Buffer = ZEROS, root: Buffer = ZEROS) -> Note:
         """The note that is kept in a file, which is begun where it isn't there. What came is on the disk before `update` shows what counts of
         it, and own entries before `say` answers them: whoever opens the file again sends those of `kept` that others may lack. A call that
-        can't have it kept raises an `OSError`, and does nothing: the next one tries again. Own edits that weren't said aren't kept.
+        can't have it kept raises an `OSError`, and shows and says nothing of it: the next one that can does. Own edits that weren't said
+        aren't kept.
 
         A file is open once at a time (`BlockingIOError`), and another note's is a `ValueError`; `Damaged` is raised where something else has
         changed it."""
@@ -194,8 +197,7 @@ class Note:
     def update(self) -> None:
         """Has the texts show what counts of all that came. Own edits that `say` didn't answer are taken back."""
         with self._lock:
-            if self._file is not None:
-                self._file.keep()
+            self._keep()
             for entry in self._made:
                 self.add(entry)
             done(c.long_calls.vialshoal_note_update(self._handle))
@@ -205,25 +207,18 @@ class Note:
         sign, keep and send them. Where memory is refused, the next call answers them."""
         with self._lock:
             own = [entry for text in range(1, TEXTS + 1) for entry in self._own(text, _hash(author))]
-            self._keep(own)
-            self._made += [entry for entry in own if entry not in self._made]
-            if self._made:
+            self._unkept = [entry for entry in own if entry not in self._made]
+            if self._made or self._unkept:
                 self.update()
             entries, self._made = self._made, []
             return entries
 
-    def _keep(self, own: list[Entry]) -> None:
-        """Has the file have own entries, or nothing of them: they are made anew where they aren't answered."""
-        if self._file is None:
-            return
-        records = [*map(_record, own)]
-        for record in records:
-            self._file.gather(record)
-        try:
-            self._file.keep()
-        except BaseException:
-            self._file.leave(records)
-            raise
+    def _keep(self) -> None:
+        """Has the file, if there is one, have what came and what is said, before any of it counts."""
+        if self._file is not None:
+            self._file.keep(map(_record, self._unkept))
+        self._made += self._unkept
+        self._unkept = []
 
     def _own(self, text: int, author: bytes) -> list[Entry]:
         head, need = c.CHead(), c_uint64()

@@ -4,7 +4,7 @@ from __future__ import annotations
 import hashlib
 import struct
 import zlib
-from collections.abc import Iterator, Sequence
+from collections.abc import Iterable, Iterator, Sequence
 from typing import Optional
 
 from ._answers import Damaged
@@ -104,17 +104,13 @@ class NoteFile(LockedFile):
         if digest not in self._has:
             self._gathered[digest] = record
 
-    def keep(self) -> None:
-        """Has the disk have all that was gathered. Where this raises an error the file has what it had, and that is gathered yet."""
-        if not self._gathered:
+    def keep(self, records: Iterable[bytes]) -> None:
+        """Has the disk have all that was gathered, and these. Where this raises an error the file has what it had."""
+        new = self._gathered | {digest: record for record in records if (digest := _digest(record)) not in self._has}
+        if not new:
             return
-        batch = b"".join(_NUMBER.pack(len(record)) + record for record in self._gathered.values())
+        batch = b"".join(_NUMBER.pack(len(record)) + record for record in new.values())
         self._write(self._end, _BATCH.pack(len(batch), _check(batch)) + batch)
         self._end += _BATCH.size + len(batch)
-        self._has.update(self._gathered)
+        self._has.update(new)
         self._gathered = {}
-
-    def leave(self, records: Sequence[bytes]) -> None:
-        """Has these not be kept after all."""
-        for record in records:
-            self._gathered.pop(_digest(record), None)
