@@ -56,14 +56,20 @@ function endOf(records) {
     return records.reduce((end, said) => end + BEFORE + said.length, BEGIN);
 }
 
+// Whether a record may be here, but for its check.
+function mayBegin(data, at) {
+    const kind = data[at + BEFORE], length = data.readUInt32BE(at);
+    return (kind === CLAIM || kind === ENTRY) && length > 0 && length <= MOST;
+}
+
 // Whether this isn't what is left of one record: it is longer than that says, or a whole one comes later.
 function hasMore(torn) {
     const length = torn.length < BEFORE ? 0 : torn.readUInt32BE(0);
     if (length > 0 && length < torn.length - BEFORE) return true;
     for (let at = 1, tried = 0; at < torn.length - BEFORE && tried < MOST_TRIED; at += 1) {
-        const kind = torn[at + BEFORE], mayBegin = (kind === CLAIM || kind === ENTRY) && torn.readUInt32BE(at) <= MOST;
-        if (mayBegin && wholeAt(torn, at) !== undefined) return true;
-        tried += Number(mayBegin);
+        if (!mayBegin(torn, at)) continue;
+        tried += 1;
+        if (wholeAt(torn, at) !== undefined) return true;
     }
     return false;
 }
