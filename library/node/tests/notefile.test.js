@@ -220,6 +220,13 @@ function onlyOnce() {
         assert.deepEqual(note.say(ANN), [said[0]]);
     });
     assert.ok(fs.readFileSync(another).equals(whole.subarray(0, sizeOf(another))) && sizeOf(another) > HEAD);
+    // A copy may have said the same.
+    const copy = fresh();
+    within(copy, (note) => {
+        note.text().insert(0, 'one');
+        note.add(said[0]);
+        assert.deepEqual([note.say(ANN), note.kept()], [[said[0]], [said[0]]]);
+    });
 }
 
 function inNoFile() {
@@ -303,11 +310,11 @@ function byAnybody() {
     // What begins as a record may, at more places than are tried.
     const many = Buffer.concat(Array.from({ length: 4096 }, () => Buffer.concat([number(1, 4), zeros(4), number(1, 1)])));
     const files = {
-        'kind 3': [head, record(number(3, 1), zeros(66))],
-        'kind 0': [head, record(number(0, 1), zeros(66))],
-        'a long claim': [head, record(number(1, 1), zeros(67))],
-        'a short claim': [head, record(number(1, 1), zeros(65))],
-        'half a head': [head, record(number(2, 1), zeros(73))],
+        'kind 3': [head, record(number(3, 1), entryOf(one.head, one.body).subarray(9))],
+        'kind 0': [head, record(number(0, 1), claimOf(BOB, 2, RANK).subarray(9))],
+        'a long claim': [head, record(claimOf(BOB, 2, RANK).subarray(8), zeros(1))],
+        'a short claim': [head, record(claimOf(BOB, 2, RANK).subarray(8, -1))],
+        'half a head': [head, record(entryOf(one.head, one.body).subarray(8, 82))],
         'no body': [head, entryOf(one.head, zeros(0))],
         'another body': [head, entryOf(one.head, Buffer.concat([one.body, zeros(1)]))],
         'text 0': [head, entryOf({ ...one.head, text: 0 }, one.body)],
@@ -316,6 +323,7 @@ function byAnybody() {
         'a whole one behind zeros': [before, zeros(100), last],
         'a whole one behind one that is torn': [before.subarray(0, -1), last],
         'a claim behind one that is torn': [before.subarray(0, -1), claimOf(BOB, 2, RANK)],
+        'a claim behind a length that says more': [before, number(5000, 4), zeros(4), claimOf(BOB, 2, RANK)],
         'a length that says less': [before, number(3, 4), zeros(8)],
         'one that is too long, and a whole one': [before, record(number(2, 1), zeros(20_000)), last],
         'at the last place': [before, zeros(4), many.subarray(9), last],
@@ -425,6 +433,24 @@ function failsAtRandom(seed) {
     note.close();
 }
 
+// What was written, and then couldn't be kept nor cut off, is none of what is kept, and the next one takes its place.
+function leftOver() {
+    const { at, whole } = typed('one'), [one] = saidOf('one');
+    within(at, (note) => {
+        let times = 0;
+        const fdatasyncSync = () => { throw failing('kept'); };
+        note.text().insert(0, 'x');
+        patched(fs, { fdatasyncSync, ftruncateSync: () => { if ((times += 1) > 1) throw failing('cut off'); } }, () => {
+            assert.throws(() => note.say(ANN), { code: 'ENOSPC' });
+        });
+        assert.ok(times === 2 && sizeOf(at) > whole.length);
+        assert.deepEqual(note.kept(), [one]);
+        const said = note.say(ANN);
+        assert.deepEqual(note.kept(), [one, ...said]);
+    });
+    within(at, (note) => assert.equal(note.kept().length, 2));
+}
+
 // The folder is written once, before anything is shown.
 function named() {
     const at = fresh();
@@ -513,6 +539,7 @@ byAnybody();
 withoutMemory();
 full();
 for (let seed = 1; seed <= 20; seed += 1) failsAtRandom(seed);
+leftOver();
 named();
 alone();
 await killed();
