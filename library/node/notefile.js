@@ -96,8 +96,9 @@ export class NoteFile extends LockedFile {
     #known = new Set();
 
     constructor(at, founding) {
+        const head = headOf(founding);
         super(at, 'note', true);
-        this.#head = headOf(founding);
+        this.#head = head;
     }
 
     // The claims and entries that it has. One that has nothing yet is begun.
