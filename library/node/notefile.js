@@ -8,13 +8,13 @@ import { Damaged, MALFORMED, failure } from './errors.js';
 import { LockedFile, isAllOf } from './lockedfile.js';
 
 const TAG = Buffer.from('OTN1');
-// How long the head is without its check, and with it; and what stands before a record: its length and its check.
+// How long the head is without its check, and with it; and what stands before a batch: its length and its check.
 const SUMMED = 36, BEGIN = 40, BEFORE = 8;
 const HASH = 32;
-// What records are of, by their first byte; how long one of a claim is, and one of an entry without its body; and how long any may be.
+// What records are of, by their first byte; how long one of a claim is, and one of an entry without its body; and how long any may be, behind its length.
 const CLAIM = 1, ENTRY = 2;
-const CLAIM_LENGTH = 67, ENTRY_LENGTH = 75, MOST = 20_000;
-// At how many places a whole record is looked for behind one that isn't.
+const CLAIM_LENGTH = 67, ENTRY_LENGTH = 75, MOST = 65_535, LENGTH = 2;
+// At how many places a whole batch is looked for behind one that isn't.
 const MOST_TRIED = 4096;
 
 function number(value, length) {
@@ -32,41 +32,56 @@ function headOf({ key, founder, number: its, baseKey, root, base }) {
 }
 
 function recordOf(...parts) {
-    const said = Buffer.concat(parts), length = number(said.length, 4);
-    if (said.length > MOST) throw failure(MALFORMED);
-    return Buffer.concat([length, number(crc32(said, crc32(length)), 4), said]);
+    const record = Buffer.concat(parts);
+    if (record.length > MOST) throw failure(MALFORMED);
+    return record;
 }
 
-// What the record says that begins here, if a whole one does.
+function batchOf(records) {
+    const batch = Buffer.concat(records.flatMap((record) => [number(record.length, LENGTH), record])), length = number(batch.length, 4);
+    return Buffer.concat([length, number(crc32(batch, crc32(length)), 4), batch]);
+}
+
+// The batch that begins here, if a whole one does.
 function wholeAt(data, at) {
     if (data.length < at + BEFORE) return undefined;
-    const length = data.readUInt32BE(at), said = data.subarray(at + BEFORE, at + BEFORE + length);
-    if (length === 0 || length > MOST || length !== said.length) return undefined;
-    return data.readUInt32BE(at + 4) === crc32(said, crc32(data.subarray(at, at + 4))) ? said : undefined;
+    const length = data.readUInt32BE(at), batch = data.subarray(at + BEFORE, at + BEFORE + length);
+    if (length === 0 || length !== batch.length) return undefined;
+    return data.readUInt32BE(at + 4) === crc32(batch, crc32(data.subarray(at, at + 4))) ? batch : undefined;
 }
 
 function wholeFrom(data) {
     const found = [];
-    for (let at = BEGIN, said; (said = wholeAt(data, at)) !== undefined; at += BEFORE + said.length) found.push(said);
+    for (let at = BEGIN, batch; (batch = wholeAt(data, at)) !== undefined; at += BEFORE + batch.length) found.push(batch);
     return found;
 }
 
-// Where these records end.
-function endOf(records) {
-    return records.reduce((end, said) => end + BEFORE + said.length, BEGIN);
+// Where these batches end.
+function endOf(batches) {
+    return batches.reduce((end, batch) => end + BEFORE + batch.length, BEGIN);
 }
 
-// Whether a record may be here, but for its check.
+// The records of a batch; one that doesn't end with it is none.
+function recordsIn(batch) {
+    const found = [];
+    for (let at = 0, end; at < batch.length; at = end) {
+        end = at + LENGTH + (at + LENGTH <= batch.length ? batch.readUInt16BE(at) : 0);
+        found.push(end <= batch.length ? batch.subarray(at + LENGTH, end) : batch.subarray(at, at));
+    }
+    return found;
+}
+
+// Whether a batch may be here, but for its check.
 function mayBegin(data, at) {
-    const kind = data[at + BEFORE], length = data.readUInt32BE(at);
-    return (kind === CLAIM || kind === ENTRY) && length > 0 && length <= MOST;
+    const beg = at + BEFORE, kind = data[beg + LENGTH], length = data.readUInt32BE(at);
+    return (kind === CLAIM || kind === ENTRY) && length >= LENGTH + data.readUInt16BE(beg) && length <= data.length - beg;
 }
 
-// Whether this isn't what is left of one record: it is longer than that says, or a whole one comes later.
+// Whether this isn't what is left of one batch: it is longer than that says, or a whole one comes later.
 function hasMore(torn) {
     const length = torn.length < BEFORE ? 0 : torn.readUInt32BE(0);
     if (length > 0 && length < torn.length - BEFORE) return true;
-    for (let at = 1, tried = 0; at < torn.length - BEFORE && tried < MOST_TRIED; at += 1) {
+    for (let at = 1, tried = 0; at < torn.length - BEFORE - LENGTH && tried < MOST_TRIED; at += 1) {
         if (!mayBegin(torn, at)) continue;
         tried += 1;
         if (wholeAt(torn, at) !== undefined) return true;
@@ -89,7 +104,7 @@ function digestOf(said) {
 
 export class NoteFile extends LockedFile {
     #head;
-    // Where the last record ends that is whole.
+    // Where the last batch ends that is whole.
     #end = BEGIN;
     // Records that came since the disk kept some; and the digests of these and of what the file has.
     #gathered = /** @type {any[]} */ ([]);
@@ -109,8 +124,8 @@ export class NoteFile extends LockedFile {
             return [];
         }
         this.#refuseOthers(data);
-        const found = wholeFrom(data);
-        this.#end = endOf(found);
+        const batches = wholeFrom(data), found = batches.flatMap(recordsIn);
+        this.#end = endOf(batches);
         if (hasMore(data.subarray(this.#end))) {
             throw new Damaged(`${this.path} was changed at byte ${this.#end} or behind it, and has more after that`);
         }
@@ -139,27 +154,27 @@ export class NoteFile extends LockedFile {
 
     // A record is to be kept, unless it is already.
     gather(record) {
-        const digest = digestOf(record.subarray(BEFORE));
+        const digest = digestOf(record);
         if (!this.#known.has(digest)) this.#gathered.push(record);
         this.#known.add(digest);
     }
 
-    // Has the disk keep what was gathered, and these entries. Where this throws, the file has what it had before.
+    // Has the disk keep what was gathered, and these entries, as one batch. Where this throws, the file has what it had before.
     keep(entries) {
-        const own = entries.map(({ head, body }) => this.entryOf(head, body))
-            .filter((record) => !this.#known.has(digestOf(record.subarray(BEFORE))));
-        const data = Buffer.concat([...this.#gathered, ...own]);
-        if (data.length === 0) return;
+        const own = entries.map(({ head, body }) => this.entryOf(head, body)).filter((record) => !this.#known.has(digestOf(record)));
+        const records = [...this.#gathered, ...own];
+        if (records.length === 0) return;
+        const data = batchOf(records);
         this.writeAt(this.#end, data);
         this.#end += data.length;
         this.#gathered = [];
-        own.forEach((record) => this.#known.add(digestOf(record.subarray(BEFORE))));
+        own.forEach((record) => this.#known.add(digestOf(record)));
     }
 
     // The entries of messages that it has.
     entries() {
-        const found = wholeFrom(this.contents().subarray(0, this.#end));
-        if (endOf(found) !== this.#end) throw new Damaged(`${this.path} was changed while it was open`);
-        return found.filter(([kind]) => kind === ENTRY).map(read);
+        const batches = wholeFrom(this.contents().subarray(0, this.#end));
+        if (endOf(batches) !== this.#end) throw new Damaged(`${this.path} was changed while it was open`);
+        return batches.flatMap(recordsIn).filter(([kind]) => kind === ENTRY).map(read);
     }
 }

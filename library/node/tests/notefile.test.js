@@ -50,15 +50,20 @@ function number(value, length) {
     data.writeUIntBE(value, 0, length);
     return data;
 }
+function batch(data) {
+    const length = number(data.length, 4);
+    return Buffer.concat([length, number(crc32(Buffer.concat([length, data])), 4), data]);
+}
+// A batch of one record.
 function record(...parts) {
-    const said = Buffer.concat(parts), length = number(said.length, 4);
-    return Buffer.concat([length, number(crc32(Buffer.concat([length, said])), 4), said]);
+    const said = Buffer.concat(parts);
+    return batch(Buffer.concat([number(said.length, 2), said]));
 }
 const claimOf = (author, site, rank) => record(number(1, 1), author, number(site, 2), rank);
 const entryOf = ({ author, before, first, count, site, text }, body) =>
     record(number(2, 1), author, before, number(first, 4), number(count, 2), number(site, 2), number(text, 2), body);
 
-// A file in which Ann, who took Bob's claim in, said some words, one after the other; its bytes, and where each record ends.
+// A file in which Ann, who took Bob's claim in, said some words, one after the other; its bytes, and where each batch ends.
 function typed(...words) {
     const at = fresh(), ends = [HEAD];
     within(at, (note) => {
@@ -85,11 +90,15 @@ function saidOf(...words) {
 
 // -- what is kept
 
-// The bytes that the Python package's tests have as well.
+// What was made with a base; and the bytes that the Python package's tests have.
 const VECTOR = Buffer.from('4f544e31d668fc20459b5c632ed9fc91af9d8fc7e27a26e56b332212c91fc5f7aed36ebfee2dfe87' +
-    `000000431c71ddee01${'42'.repeat(32)}0002${'72'.repeat(32)}` +
-    `00000063767ed97e02${'41'.repeat(32)}${'00'.repeat(32)}00000001000100010001` +
+    `0000004554ff56f6004301${'42'.repeat(32)}0002${'72'.repeat(32)}` +
+    `000000651b1d4215006302${'41'.repeat(32)}${'00'.repeat(32)}00000001000100010001` +
     '00004f54433100010f0101020005090406044f6265726f6e', 'hex');
+const PYTHON = Buffer.from('4f544e3125730964f06acb1b169809682855091a87a061889002876b2a5e3245363f41148a4a203d' +
+    `0000004554ff56f6004301${'42'.repeat(32)}0002${'72'.repeat(32)}` +
+    `0000005e11d11cc9005c02${'41'.repeat(32)}${'00'.repeat(32)}00000001000100010001` +
+    '00004f54433100010f0101010006006869', 'hex');
 
 function vector() {
     const founding = copied('base '), at = fresh();
@@ -102,6 +111,8 @@ function vector() {
     }, founding);
     assert.equal(fs.readFileSync(at).toString('hex'), VECTOR.toString('hex'));
     within(put(VECTOR), (note) => assert.deepEqual([`${note.text()}`, note.kept(), note.say(ANN)], ['base Oberon', said, []]), founding);
+    assert.equal(fs.readFileSync(typed('hi').at).toString('hex'), PYTHON.toString('hex'));
+    within(put(PYTHON), (note) => assert.deepEqual([`${note.text()}`, note.kept()], ['hi', saidOf('hi')]));
 }
 
 // A note in a file, and one in memory that does the same.
@@ -219,7 +230,8 @@ function onlyOnce() {
         note.text().insert(0, 'one');
         assert.deepEqual(note.say(ANN), [said[0]]);
     });
-    assert.ok(fs.readFileSync(another).equals(whole.subarray(0, sizeOf(another))) && sizeOf(another) > HEAD);
+    const both = Buffer.concat([claimOf(BOB, 2, RANK), entryOf(said[0].head, said[0].body)].map((one) => one.subarray(8)));
+    assert.ok(fs.readFileSync(another).equals(Buffer.concat([whole.subarray(0, HEAD), batch(both)])));
     // A copy may have said the same.
     const copy = fresh();
     within(copy, (note) => {
@@ -248,16 +260,16 @@ function inNoFile() {
 // A body that no entry has, since it is too long, isn't kept, nor taken in.
 function tooLong() {
     const text = new Text(1, 1);
-    for (let times = 0; times < 600; times += 1) text.insert(0, 'x');
+    for (let times = 0; times < 2000; times += 1) text.insert(0, 'x');
     const builds = (index) => Buffer.concat([number(index, 2), RANK]);
     const bodyOf = (count) => Buffer.concat([number(count, 2), ...Array.from({ length: count }, (_, at) => builds(at)), text.pack()[0]]);
-    const head = { author: ANN, before: ZEROS, first: 1, count: 600, site: 1, text: 1 };
-    const long = { head, body: bodyOf(600) }, at = fresh();
-    assert.ok(text.pack().length === 1 && long.body.length > 20_000);
+    const head = { author: ANN, before: ZEROS, first: 1, count: 2000, site: 1, text: 1 };
+    const long = { head, body: bodyOf(2000) }, at = fresh();
+    assert.ok(text.pack().length === 1 && long.body.length > 65_535);
     new Note(1, FOUNDING).add(long);
     within(at, (note) => {
         assert.throws(() => note.add(long), { name: 'Refused', number: 1 });
-        give([{ head, body: bodyOf(400) }], note);
+        give([{ head, body: bodyOf(1500) }], note);
         assert.equal(note.kept().length, 1);
     });
     within(at, (note) => assert.equal(note.kept().length, 1));
@@ -308,13 +320,15 @@ function byAnybody() {
     const [head, last] = [whole.subarray(0, HEAD), whole.subarray(ends[2])], before = whole.subarray(0, ends[2]);
     const zeros = (length) => Buffer.alloc(length);
     // What begins as a record may, at more places than are tried.
-    const many = Buffer.concat(Array.from({ length: 4096 }, () => Buffer.concat([number(1, 4), zeros(4), number(1, 1)])));
+    const many = Buffer.concat(Array.from({ length: 4096 }, () => Buffer.concat([number(3, 4), zeros(4), number(1, 2), number(1, 1)])));
     const files = {
-        'kind 3': [head, record(number(3, 1), entryOf(one.head, one.body).subarray(9))],
-        'kind 0': [head, record(number(0, 1), claimOf(BOB, 2, RANK).subarray(9))],
-        'a long claim': [head, record(claimOf(BOB, 2, RANK).subarray(8), zeros(1))],
-        'a short claim': [head, record(claimOf(BOB, 2, RANK).subarray(8, -1))],
-        'half a head': [head, record(entryOf(one.head, one.body).subarray(8, 82))],
+        'kind 3': [head, record(number(3, 1), entryOf(one.head, one.body).subarray(11))],
+        'kind 0': [head, record(number(0, 1), claimOf(BOB, 2, RANK).subarray(11))],
+        'a long claim': [head, record(claimOf(BOB, 2, RANK).subarray(10), zeros(1))],
+        'a short claim': [head, record(claimOf(BOB, 2, RANK).subarray(10, -1))],
+        'half a head': [head, record(entryOf(one.head, one.body).subarray(10, 84))],
+        'half a length': [head, batch(Buffer.concat([claimOf(BOB, 2, RANK).subarray(8), zeros(1)]))],
+        'a record that goes on behind its batch': [head, batch(Buffer.concat([claimOf(BOB, 2, RANK).subarray(8), number(70, 2), zeros(60)]))],
         'no body': [head, entryOf(one.head, zeros(0))],
         'another body': [head, entryOf(one.head, Buffer.concat([one.body, zeros(1)]))],
         'text 0': [head, entryOf({ ...one.head, text: 0 }, one.body)],
@@ -325,8 +339,8 @@ function byAnybody() {
         'a claim behind one that is torn': [before.subarray(0, -1), claimOf(BOB, 2, RANK)],
         'a claim behind a length that says more': [before, number(5000, 4), zeros(4), claimOf(BOB, 2, RANK)],
         'a length that says less': [before, number(3, 4), zeros(8)],
-        'one that is too long, and a whole one': [before, record(number(2, 1), zeros(20_000)), last],
-        'at the last place': [before, zeros(4), many.subarray(9), last],
+        'a whole one far behind a length that says more': [before, number(2 ** 31, 4), zeros(9000), last],
+        'at the last place': [before, zeros(4), many.subarray(11), last],
     };
     for (const [what, parts] of Object.entries(files)) {
         const data = Buffer.concat(parts), at = put(data);
@@ -334,7 +348,7 @@ function byAnybody() {
         assert.ok(fs.readFileSync(at).equals(data));
     }
     const torn = [zeros(0), zeros(1), zeros(5000), Buffer.concat([number(67, 4), zeros(71)]), last.subarray(0, -1),
-        Buffer.concat([zeros(4), many, last]), record(number(2, 1), zeros(20_000))];
+        Buffer.concat([zeros(4), many, last])];
     for (const rest of torn) {
         within(put(Buffer.concat([before, rest])), (note) => {
             assert.deepEqual(note.kept(), [one]);
