@@ -328,7 +328,7 @@ function byAnybody() {
         'a short claim': [head, record(claimOf(BOB, 2, RANK).subarray(10, -1))],
         'half a head': [head, record(entryOf(one.head, one.body).subarray(10, 84))],
         'half a length': [head, batch(Buffer.concat([claimOf(BOB, 2, RANK).subarray(8), zeros(1)]))],
-        'a record that goes on behind its batch': [head, batch(Buffer.concat([claimOf(BOB, 2, RANK).subarray(8), number(70, 2), zeros(60)]))],
+        'a record that goes on behind its batch': [head, batch(Buffer.concat([number(68, 2), claimOf(BOB, 2, RANK).subarray(10)]))],
         'no body': [head, entryOf(one.head, zeros(0))],
         'another body': [head, entryOf(one.head, Buffer.concat([one.body, zeros(1)]))],
         'text 0': [head, entryOf({ ...one.head, text: 0 }, one.body)],
