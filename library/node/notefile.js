@@ -1,4 +1,4 @@
-// The file of a note that is open (docs/FORMATS.md), in Node. The Python package has the same.
+// The file of a note that is open (docs/FORMATS.md, "Files of open notes"), in Node. The Python package has the same.
 import { Buffer } from 'node:buffer';
 import { createHash } from 'node:crypto';
 
@@ -11,7 +11,8 @@ const TAG = Buffer.from('OTN1');
 // How long the head is without its check, and with it; and what stands before a batch: its length and its check.
 const SUMMED = 36, BEGIN = 40, BEFORE = 8;
 const HASH = 32;
-// What records are of, by their first byte; how long one of a claim is, and one of an entry without its body; and how long any may be, behind its length.
+// What records are of, by their first byte; how long one of a claim is, and one of an entry without its body; how long any may be; and what
+// stands before it in its batch.
 const CLAIM = 1, ENTRY = 2;
 const CLAIM_LENGTH = 67, ENTRY_LENGTH = 75, MOST = 65_535, LENGTH = 2;
 // At how many places a whole batch is looked for behind one that isn't.
