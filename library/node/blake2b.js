@@ -1,6 +1,5 @@
-// BLAKE2b (RFC 7693) without a key, of 8 bytes. Words of 64 bits are two of 32, the low one first.
+// BLAKE2b (RFC 7693) without a key. Words of 64 bits are two of 32, the low one first.
 
-const SIZE = 8;
 const BLOCK = 128;
 const ROUNDS = 12;
 const IV = [
@@ -80,14 +79,14 @@ function compress(length, isLast) {
     for (let word = 0; word < 16; word += 1) h[word] ^= v[word] ^ v[word + 16];
 }
 
-// The hash of two parts, one after the other, of less than 2^32 bytes.
-export function blake2b(first, second) {
+// The hash of two parts, one after the other, of less than 2^32 bytes; it has `size` bytes, which are whole words of 32 bits.
+export function blake2b(first, second, size = 8) {
     const length = first.length + second.length;
     const data = new Uint8Array(length);
     data.set(first);
     data.set(second, first.length);
     h.set(IV);
-    h[0] ^= 0x01010000 ^ SIZE;
+    h[0] ^= 0x01010000 ^ size;
     let at = 0;
     do {
         const end = Math.min(at + BLOCK, length);
@@ -96,5 +95,5 @@ export function blake2b(first, second) {
         compress(end, end === length);
         at = end;
     } while (at < length);
-    return new Uint8Array(new Uint32Array(h.subarray(0, 2)).buffer);
+    return new Uint8Array(new Uint32Array(h.subarray(0, size / 4)).buffer);
 }

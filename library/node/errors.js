@@ -23,6 +23,7 @@ const REASONS = {
     109: ['STILL_NOTED', 'changes are noted, and told as such', TypeError],
 };
 const MISUSE = 101;
+export const MALFORMED = 1;
 export const WRONG_TEXT = 2;
 export const CONFLICT = 3;
 export const OUT_OF_MEMORY = 7;
@@ -58,13 +59,19 @@ export class FrontsDiffer extends Refused {
     }
 }
 
-// The file of a text was changed by something else, or cut off. Nothing is done with it.
+// The file of a text, or of a note, was changed by something else, or cut off. Nothing is done with it.
 export class Damaged extends Error {
     constructor(words, { cause = undefined } = /** @type {{ cause?: unknown }} */ ({})) {
         super(words, { cause });
         this.name = 'Damaged';
         this.code = 'DAMAGED';
     }
+}
+
+// What is thrown where what a file has was refused so: but for want of memory, it is damaged.
+export function damage(path, why) {
+    const isRefused = why instanceof Refused ? why.number !== OUT_OF_MEMORY : why instanceof RangeError;
+    return isRefused ? new Damaged(`what ${path} has is refused: ${why.message}`, { cause: why }) : why;
 }
 
 // What is thrown where a call answered this number.

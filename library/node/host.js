@@ -8,11 +8,13 @@ export let isAscii;
 export let isUtf8;
 /** @type {any} */
 export let calls;
-// The class of files that texts are kept in, where there are files.
+// The classes of files that texts and notes are kept in, where there are files.
 /** @type {any} */
 export let Journal;
+/** @type {any} */
+export let NoteFile;
 
 // (the module that is imported first calls it, before any other's calls are made)
 export function use(host) {
-    ({ Buffer, isAscii, isUtf8, calls, Journal } = host);
+    ({ Buffer, isAscii, isUtf8, calls, Journal, NoteFile } = host);
 }

@@ -18,7 +18,7 @@ export class FrontsDiffer extends Refused {
     readonly seq: number;
 }
 
-/** The file of a text was changed by something else, or cut off. Nothing is done with it. */
+/** The file of a text, or of a note, was changed by something else, or cut off. Nothing is done with it. */
 export class Damaged extends Error {
     readonly code: 'DAMAGED';
 }
@@ -314,10 +314,21 @@ export interface Founding {
     root?: Uint8Array;
 }
 
+export interface OpenNoteOptions extends Founding {
+    site: number;
+}
+
 /** A note as one site has it. It decides which messages of the entries that it is given count, and its texts show that and own edits; notes
  * of one founding that were given the same entries, in any order, show the same. What seals, signs and carries entries is the caller's. */
 export class Note {
     constructor(site: number, founding: Founding);
+    /** The note that is kept in a file, which is begun where it isn't there; in Node alone. The Python package has the same files. `update` and
+     * `say` have the disk keep what came, and what is said, before that counts. One that can't throws the system's error; nothing of it is
+     * shown or said then, and the next one that can keeps it. Own edits that weren't said aren't kept. `close` closes the file.
+     *
+     * A file is open once at a time (an error with the code `EAGAIN`). It is a RangeError where the file is another note's, and `Damaged`
+     * where something else has changed it. */
+    static open(path: string, options: OpenNoteOptions): Note;
     readonly site: number;
     /** Frees it; all other calls are refused after this, those of its texts too. */
     close(): void;
@@ -329,8 +340,11 @@ export class Note {
     /** Has the texts show what counts of all that came. Own edits that `say` didn't answer are taken back. */
     update(): void;
     /** Entries, by an author who holds the site's number, that say all own edits which weren't said. They count here from now on: seal, sign,
-     * keep and send them. Where memory is refused, the next call answers them. */
+     * keep and send them. Where memory is refused, or a file can't keep them, the next call answers them. */
     say(author: Uint8Array): Entry[];
+    /** The entries of messages that the file has, in their order: whoever opens a note sends those of them that others lack, since a program
+     * may end before it has sent what it said. It is a TypeError where the note is kept in no file. */
+    kept(): Entry[];
     /** One of its texts, 1 to 16. Changes are told once, to the first that asks for them, as whatever counts UTF-16 units does: it is a
      * TypeError where another one does, too. */
     text(number?: number, options?: Options): NoteText;

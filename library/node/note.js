@@ -1,8 +1,8 @@
 // Notes that several people edit: 16 texts each, which show what counts of the note's entries.
 import { DEFAULT_LOOKS, DELETE, INSERT } from './delta.js';
-import { NO_MESSAGE, NO_NUMBER, failure } from './errors.js';
+import { NO_MESSAGE, NO_NUMBER, damage, failure } from './errors.js';
 import * as given from './given.js';
-import { Buffer, calls } from './host.js';
+import { Buffer, NoteFile, calls } from './host.js';
 import { Shown, byteOf, changesFor, done, opened, positionsOf, Past } from './text.js';
 
 const TEXTS = 16;
@@ -22,6 +22,11 @@ function headOf(head) {
         site: given.site(site), text: given.number(text, 0, MOST) };
 }
 
+// What a note begins with.
+function foundingOf({ key, founder, number = 0, base = [], baseKey = ZEROS, root = ZEROS }) {
+    return { key: hash(key), founder: hash(founder), number: given.site(number), base: [...base], baseKey: hash(baseKey), root: hash(root) };
+}
+
 // Whether two own entries are one.
 function isSame({ head, body }, { head: other, body: its }) {
     const { author, before, first, count, text } = head;
@@ -31,7 +36,7 @@ function isSame({ head, body }, { head: other, body: its }) {
 
 // Chunks as one row of bytes, each behind its length.
 function rowOf(chunks) {
-    return Buffer.concat([...chunks].flatMap((chunk) => {
+    return Buffer.concat(chunks.flatMap((chunk) => {
         const { length } = given.bytes(chunk);
         return [new Uint8Array([length & 255, length >> 8]), chunk];
     }));
@@ -175,15 +180,50 @@ export class Note {
     #site;
     // Entries of own edits that `say` hasn't answered: where memory was refused they may count already, and are to be said yet.
     #made = [];
+    // Those that the disk refused to keep, which are none yet, since it keeps them first.
+    #unkept = [];
+    // What keeps it in a file, if it is.
+    /** @type {any} */
+    #file;
     // Of which texts a `NoteText` is told the changes.
     #heard = new Set();
 
-    constructor(site, { key, founder, number = 0, base = [], baseKey = ZEROS, root = ZEROS }) {
+    constructor(site, founding) {
         if (site === 0) throw failure(NO_NUMBER);
-        this.#handle = opened(calls.noteOpen(given.site(site), {
-            key: hash(key), founder: hash(founder), number: given.site(number), baseKey: hash(baseKey), root: hash(root), base: rowOf(base),
-        }));
+        const { base, ...rest } = foundingOf(founding);
+        this.#handle = opened(calls.noteOpen(given.site(site), { ...rest, base: rowOf(base) }));
         this.#site = site;
+    }
+
+    // The note that is kept in a file.
+    static open(path, options) {
+        if (NoteFile === undefined) throw new TypeError('a page has no files');
+        const founding = foundingOf(options), note = new Note(options.site, founding);
+        let file;
+        try {
+            file = new NoteFile(path, founding);
+            note.#takeFrom(file);
+        } catch (why) {
+            note.close();
+            file?.close();
+            throw why;
+        }
+        return note;
+    }
+
+    // Has what a file has, which may be anybody's, and is kept there from now on.
+    #takeFrom(file) {
+        const records = file.records();
+        try {
+            for (const { head, body, author, site, rank } of records) {
+                if (head === undefined) this.claim(author, site, rank);
+                else this.add({ head, body });
+            }
+            this.update();
+        } catch (why) {
+            throw damage(file.path, why);
+        }
+        this.#file = file;
     }
 
     static {
@@ -196,7 +236,13 @@ export class Note {
     }
 
     close() {
-        calls.noteClose(this.#handle);
+        const file = this.#file;
+        this.#file = undefined;
+        try {
+            calls.noteClose(this.#handle);
+        } finally {
+            file?.close();
+        }
     }
 
     [DISPOSE]() {
@@ -206,26 +252,32 @@ export class Note {
     // A claim of a number came.
     claim(author, site, rank) {
         done(calls.noteClaim(this.#handle, hash(author), given.site(site), hash(rank)));
+        this.#file?.gather(this.#file.claimOf(author, site, rank));
     }
 
     // An entry came, perhaps again, or an own one.
     add(entry) {
-        const { head, body } = given.object(entry, 'an entry');
-        done(calls.noteAdd(this.#handle, headOf(head), given.bytes(body)));
+        const { head, body } = given.object(entry, 'an entry'), its = headOf(head);
+        const record = this.#file?.entryOf(its, given.bytes(body));
+        done(calls.noteAdd(this.#handle, its, given.bytes(body)));
+        this.#file?.gather(record);
     }
 
-    // Has the texts show what counts of all that came.
+    // Has the texts show what counts of all that came, once the disk has that.
     update() {
+        this.#file?.keep(this.#unkept);
+        this.#made.push(...this.#unkept.splice(0));
         this.#made.forEach((entry) => this.add(entry));
         done(calls.noteUpdate(this.#handle));
     }
 
-    // Entries that say all own edits which weren't said; they count here from now on. Where memory is refused, the next call answers them.
+    // Entries that say all own edits which weren't said; they count here from now on. Where memory is refused, or the disk can't keep them,
+    // the next call answers them.
     say(author) {
         hash(author);
         const own = Array.from({ length: TEXTS }, (_, at) => this.#own(at + 1, author)).flat();
-        this.#made.push(...own.filter((entry) => !this.#made.some((made) => isSame(made, entry))));
-        if (this.#made.length > 0) this.update();
+        this.#unkept = own.filter((entry) => !this.#made.some((made) => isSame(made, entry)));
+        if (this.#made.length + this.#unkept.length > 0) this.update();
         return this.#made.splice(0);
     }
 
@@ -236,6 +288,13 @@ export class Note {
             const [head, body] = done(answer);
             found.push({ head, body });
         }
+    }
+
+    // The entries of messages that the file has, in their order.
+    kept() {
+        done(calls.noteLength(this.#handle, 1));
+        if (this.#file === undefined) throw new TypeError('the note is kept in no file');
+        return this.#file.entries();
     }
 
     text(number = 1, options = {}) {

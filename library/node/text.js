@@ -1,6 +1,6 @@
 import { DEFAULT_LOOKS, INSERT } from './delta.js';
 import { between } from './diff.js';
-import { BAD_FILE, Damaged, NO_MESSAGE, OUT_OF_MEMORY, OUT_OF_TEXT, Refused, failure } from './errors.js';
+import { BAD_FILE, Damaged, NO_MESSAGE, OUT_OF_TEXT, damage, failure } from './errors.js';
 import { Feed } from './feed.js';
 import * as given from './given.js';
 import { Buffer, Journal, calls } from './host.js';
@@ -283,9 +283,7 @@ export class Text extends Shown {
                 for (const chunk of chunksIn(entry)) made.unpack(chunk);
             }
         } catch (why) {
-            const isRefused = why instanceof Refused ? why.number !== OUT_OF_MEMORY : why instanceof RangeError;
-            if (!isRefused) throw why;
-            throw new Damaged(`what ${path} has is refused: ${why.message}`, { cause: why });
+            throw damage(path, why);
         }
         if (made.waiting > 0 || made.number !== text || made.site !== site) throw new Damaged(`what ${path} has isn't of one text`);
         return made;

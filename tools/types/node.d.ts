@@ -2,6 +2,7 @@
 declare module "node:assert";
 declare module "node:buffer";
 declare module "node:child_process";
+declare module "node:crypto";
 declare module "node:fs";
 declare module "node:module";
 declare module "node:os";

@@ -2,31 +2,19 @@
 // with the Python package, which has the same files. In Node alone.
 import { spawn, spawnSync } from 'node:child_process';
 import fs from 'node:fs';
-import os from 'node:os';
-import path from 'node:path';
-import { fileURLToPath, pathToFileURL } from 'node:url';
+import { fileURLToPath } from 'node:url';
 
-import { assert, Buffer, PACKAGE, part, vialshoal } from './here.js';
+import { INDEX, failing, failingAtRandom, fresh, fullAt, patched, put, sizeOf, untilKilled } from './files.js';
+import { assert, Buffer, part, vialshoal } from './here.js';
 import { drawn, edited } from './random.js';
 
 const { Damaged, FrontsDiffer, Text, UndoManager } = vialshoal;
 const { Journal } = await part('journal.js');
 const { calls } = await part('calls.js');
-const INDEX = pathToFileURL(path.join(PACKAGE, 'index.js')).href;
-const FOLDER = fs.mkdtempSync(path.join(os.tmpdir(), 'vialshoal-'));
 const LEAST = Journal.LEAST;
-let count = 0;
 
-const fresh = () => path.join(FOLDER, `note-${count += 1}`);
-// A file with these bytes.
-function put(data) {
-    const at = fresh();
-    fs.writeFileSync(at, data);
-    return at;
-}
 const state = (text) => [text.bytes().toString('hex'), text.runs(), [...text.fronts()], text.nameRanges(0, text.length), text.number, text.site];
 const seqOf = (message) => message.readUInt32BE(8);
-const sizeOf = (at) => fs.statSync(at).size;
 
 function within(at, use, options = {}) {
     const text = Text.open(at, options);
@@ -37,16 +25,6 @@ function within(at, use, options = {}) {
     }
 }
 
-// Does something while some calls of Node's are others.
-function patched(object, others, use) {
-    const were = Object.fromEntries(Object.keys(others).map((name) => [name, object[name]]));
-    Object.assign(object, others);
-    try {
-        return use(were);
-    } finally {
-        Object.assign(object, were);
-    }
-}
 const least = (length, use) => patched(Journal, { LEAST: length }, use);
 
 // -- as texts in memory
@@ -184,17 +162,6 @@ function grown() {
 
 // -- on bad disks: what was told as kept is there, and nothing is handed out that isn't
 
-// Has files grow no longer than this, as on a disk that is full then.
-function fullAt(length, use) {
-    const limit = (soft) => spawnSync('prlimit', ['--pid', `${process.pid}`, `--fsize=${soft}:`]).status;
-    assert.equal(limit(length), 0);
-    try {
-        return use();
-    } finally {
-        limit('unlimited');
-    }
-}
-
 function full() {
     const at = fresh(), other = new Text(1, 2), told = [];
     const text = Text.open(at, { site: 1 });
@@ -227,8 +194,6 @@ function full() {
     text.close();
     within(at, (again) => assert.deepEqual(state(again), now));
 }
-
-const failing = (name) => Object.assign(new Error(name), { code: 'ENOSPC' });
 
 // An edit is taken back as it was made, also where that couldn't be kept at once.
 function undone() {
@@ -267,17 +232,10 @@ function notRewritten() {
 function failsAtRandom(seed) {
     const draw = drawn(seed), at = fresh();
     const kept = () => within(put(fs.readFileSync(at)), (text) => text.front(1));
-    const fails = (name) => (were) => (...words) => {
-        if (draw(5) > 0) return were[name](...words);
-        if (name === 'writeSync') were[name](words[0], words[1], words[2], draw(words[3] + 1), words[4]);
-        throw failing(name);
-    };
-    const names = ['writeSync', 'fdatasyncSync', 'ftruncateSync', 'fsyncSync', 'renameSync'];
-    const were = Object.fromEntries(names.map((name) => [name, fs[name]]));
     least(20, () => within(at, (text) => {
         const sent = [];
         for (let turn = 0; turn < 20; turn += 1) {
-            patched(fs, Object.fromEntries(names.map((name) => [name, fails(name)(were)])), () => {
+            failingAtRandom(draw, () => {
                 try {
                     sent.push(...edited(draw, text));
                 } catch (why) {
@@ -393,15 +351,9 @@ async function killed() {
         }`;
     let front = 0;
     for (const size of [1, 1, 300, 3000, 1, 60_000]) {
-        const process_ = spawn(process.execPath, ['--input-type=module', '-e', program, at, `${size}`], { stdio: ['ignore', 'pipe', 'inherit'] });
-        let said = '';
-        const lines = 1 + Math.floor(7 * Math.random());
-        for await (const data of process_.stdout) {
-            said += data;
-            if (said.split('\n').length > lines && !process_.killed) setTimeout(() => process_.kill('SIGKILL'), 20 * Math.random());
-        }
-        // (the last line may be torn, too)
-        front = Math.max(front, ...said.split('\n').slice(0, -1).map(Number));
+        const words = ['--input-type=module', '-e', program, at, `${size}`];
+        const said = await untilKilled(spawn(process.execPath, words, { stdio: ['ignore', 'pipe', 'inherit'] }));
+        front = Math.max(front, ...said.map(Number));
         within(at, (text) => {
             assert.ok(text.front(1) >= front);
             front = text.front(1);
@@ -488,22 +440,18 @@ function withPython() {
     }
 }
 
-try {
-    for (let seed = 1; seed <= 40; seed += 1) asInMemory(seed);
-    for (let seed = 1; seed <= 2; seed += 1) cutOff(seed);
-    begun();
-    grown();
-    full();
-    undone();
-    notRewritten();
-    for (let seed = 1; seed <= 30; seed += 1) failsAtRandom(seed);
-    for (let seed = 1; seed <= 6; seed += 1) changed(seed);
-    byAnybody();
-    alone();
-    await killed();
-    copied();
-    withPython();
-} finally {
-    fs.rmSync(FOLDER, { recursive: true });
-}
+for (let seed = 1; seed <= 40; seed += 1) asInMemory(seed);
+for (let seed = 1; seed <= 2; seed += 1) cutOff(seed);
+begun();
+grown();
+full();
+undone();
+notRewritten();
+for (let seed = 1; seed <= 30; seed += 1) failsAtRandom(seed);
+for (let seed = 1; seed <= 6; seed += 1) changed(seed);
+byAnybody();
+alone();
+await killed();
+copied();
+withPython();
 console.log('kept texts: all is so');

@@ -69,3 +69,25 @@ export function said(site: number, key: Uint8Array, author: Uint8Array, came: En
     text.insert(text.length, '!');
     return note.say(author).filter(({ head, body }) => head.count > 0 && body.length > 0 && text.past(text.fronts()).length > 0);
 }
+
+export function opened(path: string, key: Uint8Array, author: Uint8Array, sent: (entries: Entry[]) => void): string {
+    using(Note.open(path, { site: 1, key, founder: author, number: 1, base: [] }), (note) => {
+        sent(note.kept());
+        note.text().insert(0, 'Oberon');
+        sent(note.say(author));
+    });
+    const again = Note.open(path, { site: 2, key, founder: author });
+    again.claim(author, 2, key);
+    again.update();
+    return `${again.text()} ${again.kept().map(({ body }) => body.length)}`;
+}
+
+function using(note: Note, use: (note: Note) => void): void {
+    try {
+        use(note);
+    } catch (why) {
+        if (why instanceof Damaged) console.log(why.code);
+    } finally {
+        note.close();
+    }
+}
