@@ -115,6 +115,11 @@ export class LockedFile {
         return data.subarray(0, end);
     }
 
+    // Has the disk have what it has.
+    sync() {
+        fs.fdatasyncSync(this.#file);
+    }
+
     // Has it end with these bytes, and the disk have them. Where this throws, it has what it had before this place.
     writeAt(at, data) {
         if (!hasName(this.#file, this.#path)) {

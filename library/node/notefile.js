@@ -119,6 +119,8 @@ export class NoteFile extends LockedFile {
 
     // The claims and entries that it has. One that has nothing yet is begun.
     records() {
+        // (a program that was killed may have written some and not waited for the disk)
+        this.sync();
         const data = this.contents();
         if (data.length < BEGIN && isAllOf(data, this.#head)) {
             this.writeAt(0, this.#head);

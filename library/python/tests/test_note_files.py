@@ -9,13 +9,14 @@ import signal
 import subprocess
 import sys
 import unittest
+import zlib
 from collections.abc import Iterable
 from pathlib import Path
 from typing import Any
 
 from test_kept import InAFolder, full_at
 from test_notes import ANN, BOB, KEY, RANK, opened
-from vialshoal import Damaged, Entry, Head, Note, NoteText
+from vialshoal import Damaged, Entry, Head, Note, NoteText, Refused
 
 # A program that types and says that, for ever.
 TYPES = """
@@ -124,19 +125,48 @@ class Files(InAFolder):
             except ValueError:
                 self.assertEqual(path.read_bytes(), flipped)
 
+    def test_whole_batches_behind_one_that_was_changed_are_damage(self) -> None:
+        self.typed(*(b"a" * 7_000 for _ in range(4)))
+        data = bytearray(self.path.read_bytes())
+        # (the length of the first one)
+        data[40 + 1] ^= 1
+        with self.assertRaises(Damaged):
+            of_ann(self.put(bytes(data)))
+
+    def test_a_body_that_no_file_has_is_refused_at_once(self) -> None:
+        with of_ann(self.path) as note:
+            with self.assertRaisesRegex(Refused, "no message"):
+                note.add(Entry(Head(BOB, bytes(32), 1, 1, 2, 1), bytes(70_000)))
+            self.assertEqual([entry.head.author for entry in self.say(note, b"on")], [ANN])
+
     def test_bytes_of_anybody_are_damage(self) -> None:
         chance = random.Random(3)
         for length in (1, 7, 40, 41, 300):
             with self.assertRaises(Damaged):
                 of_ann(self.put(chance.randbytes(length)))
         self.typed(b"a")
-        # A record that a note refuses, in a batch that is whole.
+        data = self.path.read_bytes()
+        # What is whole, but not made of records; and a record that a note refuses.
+        for batch in (b"\0\0", b"\0", b"\0\5ab", b"\0\1\2\0"):
+            check = zlib.crc32(batch, zlib.crc32(len(batch).to_bytes(4, "big")))
+            with self.assertRaises(Damaged):
+                of_ann(self.put(data + len(batch).to_bytes(4, "big") + check.to_bytes(4, "big") + batch))
         with of_ann(self.path) as note:
             file = note._file
             assert file
             file.keep([b"\x02" + b"x" * 200])
         with self.assertRaisesRegex(Damaged, "refused"):
             of_ann(self.path)
+
+    def test_records_of_a_later_version_are_left_as_they_are(self) -> None:
+        self.typed(b"a")
+        with of_ann(self.path) as note:
+            assert note._file
+            note._file.keep([b"\x03 of later"])
+        data = self.path.read_bytes()
+        with self.assertRaisesRegex(Damaged, "neither"):
+            of_ann(self.path)
+        self.assertEqual(self.path.read_bytes(), data)
 
     def test_on_a_full_disk_nothing_is_said_until_there_is_room(self) -> None:
         said = self.typed(b"before")

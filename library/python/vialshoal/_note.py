@@ -30,6 +30,8 @@ ZEROS = bytes(HASH)
 HEAD = struct.Struct("=32s32sIHHH2x")
 # As the file of an open note has what came to it.
 _CLAIM, _ENTRY = struct.Struct(">B32sH32s"), struct.Struct(">B32s32sIHHH")
+# No record there has a longer body, and no entry has one half as long.
+_LONGEST = 65_535 - _ENTRY.size
 
 
 def _hash(data: Buffer) -> bytes:
@@ -134,8 +136,10 @@ class Note:
                 if record[0] == CLAIM:
                     _, author, number, rank = _CLAIM.unpack(record)
                     self.claim(author, number, rank)
-                else:
+                elif record[0] == ENTRY:
                     self.add(_entry(record))
+                else:
+                    raise Damaged(f"{path} has a record that is neither a claim nor an entry")
         except (Refused, struct.error) as why:
             if isinstance(why, Refused) and why.number == c.OUT_OF_MEMORY:
                 raise
@@ -190,6 +194,8 @@ class Note:
         """An entry came, perhaps again, or an own one. It counts after the next `update`."""
         head, body = _packed(given.instance(entry, Entry).head), given.data(entry.body)
         with self._lock:
+            if self._file is not None and len(body) > _LONGEST:
+                done(c.MALFORMED)
             done(c.calls_for(64 * len(body)).vialshoal_note_add(self._handle, head, body, len(body)))
             if self._file is not None:
                 self._file.gather(_record(entry))

@@ -2,9 +2,11 @@
 from __future__ import annotations
 
 import hashlib
+import os
 import struct
 import zlib
 from collections.abc import Iterable, Iterator, Sequence
+from itertools import islice
 from typing import Optional
 
 from ._answers import Damaged
@@ -14,7 +16,7 @@ _TAG = b"OTN1"
 _HEAD, _SUM, _BATCH = struct.Struct(">4s32s"), struct.Struct(">I"), struct.Struct(">II")
 _BEGIN = _HEAD.size + _SUM.size
 _NUMBER, _LENGTH = struct.Struct(">H"), struct.Struct(">I")
-# How a record begins in its batch, and the most places at which a whole batch is looked for behind one that isn't.
+# How a record begins in its batch, and at how many places where one may begin a whole batch is looked for behind one that isn't.
 _FIRST, _MOST_TRIED = struct.Struct(">HB"), 1 << 12
 CLAIM, ENTRY = 1, 2
 
@@ -40,24 +42,21 @@ def _digest(record: bytes) -> bytes:
 
 def _batch(data: bytes, at: int) -> Optional[bytes]:
     """The records of the batch that begins here, if a whole one does."""
-    begin = at + _BATCH.size
-    if len(data) < begin + _FIRST.size:
+    if len(data) < at + _BATCH.size:
         return None
     length, check = _BATCH.unpack_from(data, at)
+    batch = data[at + _BATCH.size:at + _BATCH.size + length]
+    return batch if 0 < length == len(batch) and check == _check(batch) else None
+
+
+def _may_begin(data: bytes, at: int) -> bool:
+    """Whether a batch may begin here, but for its check, since to sum up many takes long."""
+    begin = at + _BATCH.size
+    if len(data) < begin + _FIRST.size:
+        return False
+    length, _ = _BATCH.unpack_from(data, at)
     size, kind = _FIRST.unpack_from(data, begin)
-    # (what can't be one isn't summed up, so that to look for one at many places takes no long)
-    if kind not in (CLAIM, ENTRY) or not _NUMBER.size + size <= length <= len(data) - begin:
-        return None
-    batch = data[begin:begin + length]
-    return batch if check == _check(batch) else None
-
-
-def _records(batch: bytes) -> Iterator[bytes]:
-    at = 0
-    while at < len(batch):
-        [size] = _NUMBER.unpack_from(batch, at)
-        at += _NUMBER.size + size
-        yield batch[at - size:at]
+    return kind in (CLAIM, ENTRY) and _NUMBER.size + size <= length <= len(data) - begin
 
 
 class NoteFile(LockedFile):
@@ -78,6 +77,8 @@ class NoteFile(LockedFile):
 
     def _begin(self, head: bytes) -> None:
         """Sees that it is this note's file, which is begun where nothing is there, or not all of the head."""
+        # (a program that was killed may have written some and not waited for the disk)
+        os.fdatasync(self._file)
         data = self._data()
         if len(data) < _BEGIN and head.startswith(data):
             self._write(0, head)
@@ -90,13 +91,23 @@ class NoteFile(LockedFile):
         """All that it has."""
         data, self._end = self._data(), _BEGIN
         while (batch := _batch(data, self._end)) is not None:
-            yield from _records(batch)
+            yield from self._records(batch)
             self._end += _BATCH.size + len(batch)
         torn = data[self._end:]
         length, _ = _BATCH.unpack_from(torn.ljust(_BATCH.size, b"\0"))
         is_longer = 0 < length < len(torn) - _BATCH.size
-        if is_longer or any(_batch(torn, at) is not None for at in range(1, min(len(torn), _MOST_TRIED))):
+        places = islice((at for at in range(1, len(torn)) if _may_begin(torn, at)), _MOST_TRIED)
+        if is_longer or any(_batch(torn, at) is not None for at in places):
             raise Damaged(f"{self._path} was changed at byte {self._end} or behind it, and has more after that")
+
+    def _records(self, batch: bytes) -> Iterator[bytes]:
+        at = 0
+        while at < len(batch):
+            size = int.from_bytes(batch[at:at + _NUMBER.size], "big")
+            at += _NUMBER.size + size
+            if not size or at > len(batch):
+                raise Damaged(f"{self._path} has something that isn't made of records")
+            yield batch[at - size:at]
 
     def gather(self, record: bytes) -> None:
         """Has a record be kept with the next batch, where it isn't there."""
