@@ -129,7 +129,7 @@ const does = {
         return true;
       },
     });
-    feed.sayings = /** @type {any} */ ({ claim() {}, anew() {}, add: ({ author, first }) => { said.push([author, first]); } });
+    feed.sayings = /** @type {any} */ ({ claim() {}, anew() {}, copies: { add() {} }, add: ({ author, first }) => { said.push([author, first]); } });
     await feed.next(() => {});
     const why = await orWhy(async () => feed.hand());
     feed.hand();

@@ -39,6 +39,7 @@ from share.text.errors import Trouble
 from share.text.looks import Looks
 
 HERE = pathlib.Path(__file__).parent
+PLAIN = {"font": "Oberon10.Scn.Fnt", "colour": 1, "offset": 0}
 VECTORS = json.loads((HERE / "data" / "second_form.json").read_bytes())
 KINDS = {"opening": 1, "claim": 2, "base": 3, "messages": 4, "anew": 5, "copies": 6, "renewed": 7}
 TURNS = 120
@@ -168,7 +169,8 @@ class Vectors(Modules):
         assert some
         for hides, word in (True, b"tXa"), (False, b"tXea"):
             self.assertEqual(self.asked("passages", chunk=some.chunk.hex(), hides=hides), [
-                {"cause": [5, 2], "bytes": word.hex()}, {"cause": None, "bytes": b"hi".hex()}, {"cause": [5, 2], "bytes": b"!".hex()}])
+                {"cause": cause, "bytes": data.hex(), "looks": [{"many": len(data), "look": PLAIN}]}
+                for cause, data in (([5, 2], word), (None, b"hi"), ([5, 2], b"!"))])
 
     def test_presence(self) -> None:
         one = VECTORS["presence"]
