@@ -37,7 +37,7 @@ export class Review {
   /** `ask` sends a request, and `askOf` one about places of the text, for an answer; `say` tells words; `settle` does what waits. */
   constructor(editor, { ask, askOf, say, settle }) {
     [this.#editor, this.#ask, this.#askOf, this.#say, this.#settle] = [editor, ask, askOf, say, settle];
-    this.#stretches = new Stretches(editor);
+    this.#stretches = new Stretches(editor, () => this.#threads.news());
     this.#threads = new Threads(editor, askOf, {
       came: () => this.#came(), isListed: () => this.isShown && this.#isList, kept: () => this.#cards.kept(),
     });

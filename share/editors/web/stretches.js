@@ -38,9 +38,12 @@ export class Stretches {
   #shown = new Map();
   #looked;
   #over;
+  #isLost;
 
-  constructor(editor) {
+  /** `isLost` is called where a stretch has lost its text: where that is back before the engine looks, it has no news. */
+  constructor(editor, isLost) {
     this.#editor = editor;
+    this.#isLost = isLost;
     editor.cm.on("changes", (_, changes) => this.#holds(changes));
   }
 
@@ -48,7 +51,10 @@ export class Stretches {
   #holds(changes) {
     const { cm } = this.#editor;
     for (const one of this.#shown.values()) {
-      if (!placeOf(one.mark)) Object.assign(one, { look: "", mark: cm.setBookmark(cm.clipPos(changes.at(-1).from)) });
+      if (!placeOf(one.mark)) {
+        Object.assign(one, { look: "", mark: cm.setBookmark(cm.clipPos(changes.at(-1).from)) });
+        this.#isLost();
+      }
     }
   }
 
