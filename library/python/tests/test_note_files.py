@@ -133,6 +133,19 @@ class Files(InAFolder):
         with self.assertRaises(Damaged):
             of_ann(self.put(bytes(data)))
 
+    def test_what_is_changed_while_it_is_open_is_damage_and_cuts_nothing_off(self) -> None:
+        self.typed(b"one")
+        with of_ann(self.path) as note:
+            self.say(note, b"two")
+            size = self.path.stat().st_size
+            with self.path.open("r+b") as file:
+                file.seek(size - 1)
+                file.write(b"?")
+            with self.assertRaisesRegex(Damaged, "while it was open"):
+                note.kept()
+            self.say(note, b"three")
+            self.assertGreater(self.path.stat().st_size, size)
+
     def test_a_body_that_no_file_has_is_refused_at_once(self) -> None:
         with of_ann(self.path) as note:
             with self.assertRaisesRegex(Refused, "no message"):

@@ -89,16 +89,20 @@ class NoteFile(LockedFile):
 
     def records(self) -> Iterator[bytes]:
         """All that it has."""
-        data, self._end = self._data(), _BEGIN
-        while (batch := _batch(data, self._end)) is not None:
+        data, at = self._data(), _BEGIN
+        while (batch := _batch(data, at)) is not None:
             yield from self._records(batch)
-            self._end += _BATCH.size + len(batch)
-        torn = data[self._end:]
+            at += _BATCH.size + len(batch)
+        torn = data[at:]
         length, _ = _BATCH.unpack_from(torn.ljust(_BATCH.size, b"\0"))
         is_longer = 0 < length < len(torn) - _BATCH.size
-        places = islice((at for at in range(1, len(torn)) if _may_begin(torn, at)), _MOST_TRIED)
-        if is_longer or any(_batch(torn, at) is not None for at in places):
-            raise Damaged(f"{self._path} was changed at byte {self._end} or behind it, and has more after that")
+        places = islice((place for place in range(1, len(torn)) if _may_begin(torn, place)), _MOST_TRIED)
+        if is_longer or any(_batch(torn, place) is not None for place in places):
+            raise Damaged(f"{self._path} was changed at byte {at} or behind it, and has more after that")
+        # (what is behind the end the next batch cuts off)
+        if self._end not in (0, at):
+            raise Damaged(f"{self._path} was changed while it was open")
+        self._end = at
 
     def _records(self, batch: bytes) -> Iterator[bytes]:
         at = 0
