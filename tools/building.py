@@ -136,12 +136,3 @@ def main(words: list[str]) -> int:
         say_why_not(why)
         return 2
     return subprocess.run([TOP / "bin" / "built", "--version"], env={**os.environ, VARIABLE: PROVED.name}).returncode
-
-
-if __name__ == "__main__":
-    # For bin/test: what the gate is about to prove, and, once it has passed, that the program was proved from that.
-    if sys.argv[1] == "sum":
-        print(PROVED.sum_of_sources())
-    elif sys.argv[1] == "note":
-        PROVED.note(sys.argv[2])
-        PROVED.take()

@@ -1,7 +1,7 @@
 """Checks that no code makes up refused memory. The prover lets no crate but looks write `Refusal::OutOfMemory`; here it is checked that
 
 - no code makes an `AllocError` or an `AllocFailed`, of which `Refusal::OutOfMemory` is made: their names stand as types;
-- no code but that of looks writes an `ErrorKind::OutOfMemory`, except a program of tests;
+- no code but that of looks writes an `ErrorKind::OutOfMemory`, except script_rows, a program of tests;
 - what else in looks gives `Refusal::OutOfMemory`, or its number, is used only in the files that are listed here, and a limit that stands
   for memory is tested only by the calls that are listed, word by word;
 - how much memory a call asks for is made of lengths and of what its caller names: a number above 1, a constant, a product, a shift or
@@ -23,7 +23,6 @@ CRATES = TOP / "crates"
 HOME = "looks/src/refusal.rt"
 PLAIN_NUMBERS = "vialshoal_c/"
 CONSTANTS = "vialshoal_c/src/numbers.rt"
-TESTS = "test_"
 
 # What isn't code: comments, lines of imports, and the text of literals.
 NO_CODE = re.compile(
@@ -132,9 +131,8 @@ def faults(name: str, text: str) -> list[str]:
         return []
     code = AS_TYPE.sub(">", NO_CODE.sub("", text))
     found = [m[0] for m in (*RENAMED.finditer(text), *MADE.finditer(code))]
-    if not name.startswith(TESTS):
-        found += [m[0] for word, files in GIVEN.items() if name not in files for m in re.finditer(word, code)]
-        found += unlisted(name, code)
+    found += [m[0] for word, files in GIVEN.items() if name not in files for m in re.finditer(word, code)]
+    found += unlisted(name, code)
     if name.startswith(PLAIN_NUMBERS) and name != CONSTANTS:
         found += ABOVE_1.findall(MAY_COUNT.sub("", text)) + [word for word in CHANGED.findall(code) if word]
     return found

@@ -2,24 +2,18 @@
 from __future__ import annotations
 
 import hashlib
-import importlib.util
-import os
-import shutil
 import subprocess
 import sys
 from collections.abc import Callable, Iterator
 from pathlib import Path
 from typing import NamedTuple
 
-TOP = Path(__file__).resolve().parent.parent
+from tools import TOP, cache_folder
+from tools.gate.packages import INSTALL, LINT, be_ready
+
 # The package's own file, and those that belong to it.
 EMACS_PACKAGE, EMACS_FILES = "editors/emacs/vialshoal.el", "editors/emacs/vialshoal-*.el"
 PACKAGE_LINT = Path("/usr/share/emacs/site-lisp/elpa-src")
-# The commands, the Python modules whose types are looked at, and the files; each with the package of Debian's that has it.
-COMMANDS = {"mypy": "mypy", "flake8": "flake8", "tsc": "node-typescript", "luacheck": "lua-check", "emacs": "emacs-nox"}
-MODULES = {"nacl": "python3-nacl", "hypothesis": "python3-hypothesis", "wcwidth": "python3-wcwidth", "regex": "python3-regex",
-           "aiohttp": "python3-aiohttp", "cryptography": "python3-cryptography", "selenium": "python3-selenium"}
-FILES = {"/usr/share/nodejs/@types/codemirror/index.d.ts": "libjs-codemirror"}
 # The folders that have Python, each with the tests in it.
 PYTHON = ("share", "tools", "editors", "bench", "bin")
 # Scripts whose names aren't each other's, so that one run of mypy can read them.
@@ -34,28 +28,9 @@ class Step(NamedTuple):
     words: list[str]
 
 
-def missing() -> list[str]:
-    """The packages that are needed and aren't here."""
-    found = [package for command, package in COMMANDS.items() if not shutil.which(command)]
-    found += [package for module, package in MODULES.items() if not importlib.util.find_spec(module)]
-    found += [package for path, package in FILES.items() if not Path(path).exists()]
-    return found if package_lint() else [*found, "elpa-package-lint"]
-
-
 def package_lint() -> Path | None:
     """The folder of Emacs's package-lint."""
     return next(iter(sorted(PACKAGE_LINT.glob("package-lint-*"))), None)
-
-
-def install() -> None:
-    """Installs what is missing, where that may be done."""
-    if missing() and os.geteuid() == 0 and shutil.which("apt-get"):
-        environment = {**os.environ, "DEBIAN_FRONTEND": "noninteractive"}
-        for words in ["update"], ["install", "-y", "--no-install-recommends", *missing()]:
-            subprocess.run(["apt-get", *words], env=environment, stdout=sys.stderr, check=False)
-        importlib.invalidate_caches()
-    if missing():
-        sys.exit(f"lint: these packages are missing, and the linters need them: {' '.join(missing())}")
 
 
 def scripts(folders: tuple[str, ...]) -> list[str]:
@@ -72,9 +47,8 @@ def is_python(path: Path) -> bool:
 
 
 def cache() -> Path:
-    """Where mypy keeps what it knows, outside the tree: each copy of the repository has a cache of its own."""
-    home = Path(os.environ.get("XDG_CACHE_HOME") or Path.home() / ".cache")
-    return home / "vialshoal" / f"mypy-{hashlib.sha256(bytes(TOP)).hexdigest()[:8]}"
+    """Return the folder of mypy's cache, outside the tree: each copy of the repository has its own."""
+    return cache_folder() / f"mypy-{hashlib.sha256(bytes(TOP)).hexdigest()[:8]}"
 
 
 def steps() -> Iterator[Step]:
@@ -100,8 +74,8 @@ def passes(step: Step, run: Callable[..., subprocess.CompletedProcess[str]] = su
 
 
 def main() -> int:
-    """The status: 1 where something is wrong."""
-    install()
+    """Run the linters. Return 1 if something is wrong."""
+    be_ready("lint", [LINT], INSTALL in sys.argv)
     results = [passes(step) for step in steps()]
     print(f"{sum(results)} passed, {len(results) - sum(results)} failed")
     return 0 if all(results) else 1

@@ -11,7 +11,8 @@ from enum import Enum
 from pathlib import Path
 from typing import Any, Union
 
-SECONDS = 60
+# After this long a run is ended, on however busy a machine.
+SECONDS = 600
 # Here a sync costs nothing.
 IN_MEMORY = Path("/dev/shm")
 

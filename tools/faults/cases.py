@@ -19,6 +19,8 @@ from tools.running import Ended, Files, Stream, files_below, run
 # The number of files that aren't whole with which no further one is made.
 MOST_BESIDE = 1000
 OUTSIDE = b"another's"
+# The most bytes of a file that are read.
+MOST_READ = 1 << 30
 
 KEEPS = events("keeps", "1 type 1 0 abc; 1 keep 1 s; 1 text 1; 1 reopen 2 s; 2 reopen 1 t; 1 front 1")
 STORES = events("stores", "1 type 1 0 Edit.Store s; 1 open user 1; 1 click 0 1; 1 text 1", *SCREEN)
@@ -102,6 +104,16 @@ def long_file(inserts: int) -> Callable[[Player], None]:
     return holds
 
 
+def too_long(player: Player) -> None:
+    """A file of more bytes than are read is read as a file that is absent, and a write takes its place."""
+    clean = ended(player, USES, {})
+    with player.folder({}) as folder:
+        with open(folder / "s", "wb") as file:
+            file.truncate(MOST_READ + 1)
+        with player.begun(USES, Mode.AT_HAND, folder) as begun:
+            hold(begun.ended(), 0, clean.wrote, [clean.files])
+
+
 def size_limit(player: Player) -> None:
     """Where the system lets no file grow so long, a write stops short, and the next one fails."""
     whole = site_file(25)
@@ -151,6 +163,7 @@ CASES: dict[str, Callable[[Player], None]] = {
     "socket": no_plain_file(named_socket),
     "two-sites": equal_lengths,
     "past-4-mib": long_file(1100),
+    "too-long": too_long,
     "past-16-mib": long_file(4096),
     "size-limit": size_limit,
     "closed-output": closed_output,

@@ -1,11 +1,8 @@
-"""Tests of packed histories: lists.txt both ways, lists drawn at random, changed bytes, and all short strings; and of chunks.
-
-`python3 -B -m tools.packed.tests` ends with the line 'N passed, M failed'."""
+"""Tests of packed histories: lists.txt both ways, lists drawn at random, changed bytes, and all short strings; and of chunks."""
 from __future__ import annotations
 
 import itertools
 import random
-import sys
 import unittest
 from dataclasses import dataclass, field
 from pathlib import Path
@@ -330,17 +327,3 @@ class Files(Packed):
         self.assertEqual(self.operations("01 01 00 61 62 01 02 02 0c 00 01 00 01"), 3)
         self.assertEqual(self.operations("01 01 00 61 62 01 02 01 0c 00 01 00 00"), 3)
         self.refused("4f545031 0001 0001 01 01 00 61 01 02 00 05 01 00 62", "4f545031 0001 0001 01 01 00 61 62 01 02 01 0c 00 01 00 01")
-
-
-def main() -> int:
-    tested = ["packed.tests", "packed.chunk_tests", "converging.tests", "rust.tests", "build_tests"]
-    tested += ["chain_tests", "counts_tests", "doors_tests", "mutants_tests"]
-    modules = [f"tools.{name}" for name in tested]
-    result = unittest.TextTestRunner().run(unittest.defaultTestLoader.loadTestsFromNames(modules))
-    failed = len({str(test) for test, _ in [*result.failures, *result.errors]})
-    print(f"{result.testsRun - failed} passed, {failed} failed")
-    return 1 if failed or not result.testsRun else 0
-
-
-if __name__ == "__main__":
-    sys.exit(main())

@@ -1,9 +1,8 @@
 """Refuses each allocation of a script alone, the first, the second and so on up to the last, and compares what is answered.
 
-`bin/refusals` plays all scripts, `bin/refusals NAME..` some; `bin/refusals --calls [CRATE..]` runs the tests of test crates
-so, and prints which of their assertions fail. The program is built once, by the toolchain's `rt try --fail-alloc`: unproved,
-and with checks of each access to memory. `--keep FILE` keeps it for the next time. All else lies in a folder that is removed.
-The gate doesn't run this; the whole takes some twenty minutes on two processors. tools/README.md says how it works.
+`bin/refusals` plays all scripts, `bin/refusals NAME..` some. The program is built once, by the toolchain's `rt try --fail-alloc`:
+unproved, and with checks of each access to memory. `--keep FILE` keeps it for the next time. All else lies in a folder that is
+removed. The gate doesn't run this; the whole takes some twenty minutes on two processors. tools/README.md says how it works.
 
 Ends with 0 where nothing differs."""
 from __future__ import annotations
@@ -14,9 +13,7 @@ import tempfile
 from collections.abc import Sequence
 from pathlib import Path
 
-from tools import TOP
 from tools.refusals.building import Unbuilt, build
-from tools.refusals.calls import Limits, try_tests
 from tools.refusals.playing import Play, Player
 from tools.refusals.program import Programs
 from tools.refusals.scripts import Script, scripts
@@ -64,8 +61,9 @@ def play_scripts(names: Sequence[str], program: bytes, room: Path, jobs: int) ->
         in_all.add(tally)
     if not names or COUNT in names:
         failed += not count_in_lines(programs, folder)
+        played += 1
     print(f"in all: {in_all}")
-    print(f"{played} scripts, {failed} with a difference")
+    print(f"{played - failed} passed, {failed} failed")
     return failed == 0
 
 
@@ -78,23 +76,11 @@ def kept_or_built(keep: Path | None, room: Path) -> bytes:
     return program
 
 
-def try_crates(names: Sequence[str], limits: Limits) -> bool:
-    crates = names or sorted(path.name for path in (TOP / "crates").glob("test_*"))
-    is_good = True
-    for crate in crates:
-        with tempfile.TemporaryDirectory(prefix="refusals-") as room:
-            is_good &= try_tests(crate, Path(room), limits)
-    return is_good
-
-
 def parser() -> argparse.ArgumentParser:
     words = argparse.ArgumentParser(prog="refusals", description=__doc__, formatter_class=argparse.RawDescriptionHelpFormatter)
     words.add_argument("--keep", metavar="FILE", type=Path, help="take the built program from this file, or keep it there")
     words.add_argument("--jobs", type=int, default=2, help="how many runs go side by side (2)")
-    words.add_argument("--calls", action="store_true", help="run the tests of test crates in place of scripts")
-    words.add_argument("--most", type=int, default=2000, help="with --calls: the last allocation that is tried (2000)")
-    words.add_argument("--seconds", type=int, default=60, help="with --calls: how long one test is tried (60)")
-    words.add_argument("names", nargs="*", help="scripts, or with --calls crates")
+    words.add_argument("names", nargs="*", help="scripts")
     return words
 
 
@@ -102,8 +88,6 @@ def main(words: Sequence[str]) -> int:
     given = parser().parse_args(words)
     jobs = max(1, given.jobs)
     try:
-        if given.calls:
-            return 0 if try_crates(given.names, Limits(jobs, given.most, given.seconds)) else 1
         known = [script.name for script in scripts()] + [COUNT]
         unknown = [name for name in given.names if name not in known]
         if unknown:

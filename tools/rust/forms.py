@@ -15,16 +15,12 @@ FORMS = (
     (r"(?m)^[ \t]*[\w.:\[\]()]*\blemma_\w+\([^;]*\);\n", ""),
     # What is proved where it stands, is tested where it runs.
     (r"\bprove!", "assert!"),
-    # A test is given no runtime: the allocator is there.
-    (r"\(_?rt: HostRuntime\)", "()"),
-    (r"\brt\.alloc\(\)", f"{FALLIBLE}::Global"),
     # A byte that is a signed number of eight bits, and back: Rust 1.85 has no word for it.
     (r"\b([\w.]+)\.cast_unsigned\(\)", r"\1 as u8"),
     (r"\b([\w.]+)\.cast_signed\(\)", r"\1 as i8"),
     # A list, or a text, made in memory that may be refused.
     (r"\.collect\(alloc\)", ".collect_in(alloc)"),
     (r"\bformat!\(in alloc;", f"{FALLIBLE}::format!(alloc,"),
-    (r"\bvec!\[in ([\w:]+);", rf"{FALLIBLE}::vec![\1;"),
 )
 
 

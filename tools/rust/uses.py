@@ -19,7 +19,6 @@ ELSEWHERE: dict[str, str | None] = {
     "std::marker::Model": None,
     "std::mem::align_of": None,
     "std::mem::size_of": None,
-    "std::test::Fail": f"{FALLIBLE}::Fail",
 }
 # What each source of the kit has without a `use`, where Rust's own is another.
 UNNAMED = ("Box", "String", "Vec")

@@ -16,11 +16,8 @@ from tools.rust.tokens import text_of, tokens_of
 from tools.rust.uses import paths_of, rewritten, without_names
 
 RUST = TOP / "rust"
-# What is made: the program, the library for C, and what counts of a note, which nothing of these uses yet.
-WANTED = ("site_cli", "vialshoal_c", "note")
-# How the names of crates begin that have tests alone, and those of them that test what was written anew.
-TESTS = "test_"
-TESTS_OF_PLACES = ("test_folder_shelf",)
+# The program, the library for C, and what neither uses: the rules of a note, and the slow calls that tests compare with.
+WANTED = ("site_cli", "vialshoal_c", "note", "tree_order")
 LIBRARY = "vialshoal_c"
 PROGRAM = "site_cli"
 # What was written by hand and has unsafe code.
@@ -135,7 +132,7 @@ def needs(crate: Crate, known: frozenset[str]) -> list[str]:
 def all_crates(names: frozenset[str]) -> dict[str, Crate]:
     """The crates that the wanted ones are made of."""
     found: dict[str, Crate] = {}
-    left = [*WANTED, *(name for name in names if name.startswith(TESTS) and name not in TESTS_OF_PLACES)]
+    left = [*WANTED]
     while left:
         name = left.pop()
         if name not in found:
@@ -151,7 +148,7 @@ def manifest(crate: Crate, names: frozenset[str]) -> str:
         *(f"{it}.workspace = true" for it in ("version", "edition", "rust-version", "publish")),
     ]
     if crate.name != PROGRAM:
-        lines += ["", "[lib]", "doctest = false", *(["test = false"] if not crate.name.startswith(TESTS) else [])]
+        lines += ["", "[lib]", "doctest = false", "test = false"]
     if crate.name == LIBRARY:
         lines.append('crate-type = ["staticlib", "cdylib", "lib"]')
     if crate.name == PROGRAM:
