@@ -1,5 +1,5 @@
 -- How a desk's texts grow by what they do.
-use Rattle.std.proofs.Common.{◌⊎◌, ℕ, List, Result, refl, sym, subst, ◌∙◌, inl, inr}
+use Rattle.std.proofs.Common.{ℕ, List, Result, refl, sym, subst, ◌∙◌, inl, inr}
 use Rattle.std.specs.Prelude.{Bool}
 use Rattle.std.proofs.lemmas.Option.{same_Some}
 use Rattle.looks.specs.declared.refusal.Refusal.{Refusal}
@@ -16,17 +16,11 @@ use Rattle.text_chunks.specs.declared.unpacked.UnpackRefusal.{UnpackRefusal}
 use Rattle.text_chunks.specs.declared.unpacked.Unpacked.{Unpacked}
 use Rattle.machine.specs.SiteTexts.{SiteTexts, InText, IsTextOf}
 use Rattle.machine.specs.Events.{edit_reply, settles, take_reply, unpack_reply}
-use Rattle.machine.specs.OnTexts.{CopiesSite, EditsNamesSite, EditsSite, EditsText, EditsTextShort, MergesSite, SettlesSite, TakesSite, UnpacksSite}
+use Rattle.machine.specs.OnTexts.{CopiesSite, EditsNamesSite, EditsSite, MergesSite, SettlesSite, TakesSite, UnpacksSite}
 use Rattle.machine_laws.proofs.Growing.{copies_grow, copies_short_grow, edits_grow, edits_short_grow, merges_grow}
 use Rattle.machine_laws.proofs.Growing.{merges_short_grow, named_edits_grow, named_edits_short_grow, settles_grow, takes_grow, takes_short_grow}
 use Rattle.machine_laws.proofs.Unpacking.{unpacks_grow, unpacks_short_grow}
 use Rattle.machine_laws.specs.Growing.{Grows}
-
--- what an edit did to the text that it is for, with the messages that it sent
-pub edited_in : (d d' : SiteTexts) (text : ℕ) (e : Edit) (result : Result ℕ EditRefusal) (before after : List (List ℕ))
-    → EditsSite d text e result d' before after → (messages : List (List ℕ))
-    × InText (λ t u. EditsText e (edit_reply result messages) t u ⊎ EditsTextShort e (edit_reply result messages) t u) d text d'
-edited_in d d' text e result before after (t, u, at, (messages, count, sent, did), is) = (messages, (t, u, at, did, is))
 
 -- a text of a desk is what its operations define
 abbrev pub HasText : SiteTexts → ℕ → Type 0

@@ -1,19 +1,18 @@
 -- What the machine says of a call, where the viewers did it.
-use Rattle.std.proofs.Common.{◌≡◌, ℕ, ◌-◌, ◌<◌, List, [], ◌∷◌, ◌++◌, Bool, true, false, cond, eqb, is_some, refl, sym, ap, ◌∙◌, arith, Option, Some, None, Result, Ok, Err}
+use Rattle.std.proofs.Common.{◌≡◌, ℕ, ◌-◌, ◌<◌, List, [], ◌∷◌, Bool, true, false, cond, eqb, is_some, refl, sym, ap, ◌∙◌, arith, Option, Some, None, Result, Ok, Err}
 use Rattle.std.specs.Prelude.{not, ◌||◌, ◌&&◌, nat_le, filter, ◌==◌, if◌then◌else◌}
 use Rattle.std.specs.Option.{ok_or, option_and_then}
 use Rattle.std.proofs.lemmas.Bool.{leb-true}
 use Rattle.looks.specs.declared.refusal.Refusal.{Refusal}
 use Rattle.looks.specs.declared.refusal.Refusal.TheVariants.{NoRoom, NoViewer, OutOfRange}
-use Rattle.char_files.specs.declared.name.Anchor.TheVariants.{Root}
 use Rattle.viewers.specs.declared.screen.Area.{Area}
 use Rattle.viewers.specs.declared.screen.Track.{Track}
 use Rattle.viewers.specs.declared.screen.Track.TheVariants.{User, System}
 use Rattle.viewers.specs.Screen.{ScreenSeen, after_closing, after_close, after_move, after_moving, area_in, has, move_answer, moving, seats_of, user_width, with_seats}
 use Rattle.viewers.specs.Tracks.{can_move, closed, moved, seat_index}
-use Rattle.viewers.specs.Viewers.{AreViewers, ViewersSeen, content_of, contents_without, has_room, with_top, with_viewer, without_viewer}
+use Rattle.viewers.specs.Viewers.{AreViewers, ViewersSeen, content_of, contents_without, with_top, without_viewer}
 use Rattle.viewers.proofs.Others.{show_where_they_stand}
-use Rattle.machine.specs.Windows.{Arranged, Caret, Screened, Selected, closed_at, is_open, is_row_below, moved_to, opened_at}
+use Rattle.machine.specs.Windows.{Arranged, Caret, Screened, Selected, closed_at, is_open, moved_to}
 use Rattle.desk_windows.specs.Windows.{AreSameWindows, WindowSeen, WindowsSeen, screened, seen_window, windows_of}
 use Rattle.desk_windows.proofs.Comes.{screened_same}
 
@@ -99,46 +98,6 @@ closed_is w v stands = when_true (is_open (screened w) v) _ (Err NoViewer) stand
 
 pub closed_not : (w : WindowsSeen) (v : ℕ) → is_open (screened w) v ≡ false → closed_at (screened w) v ≡ Err NoViewer
 closed_not w v shut = when_false (is_open (screened w) v) _ (Err NoViewer) shut
-
--- a viewer with a next one opens
-windows_after : (contents : List (ℕ × WindowSeen)) (n : ℕ) (c : WindowSeen)
-    → windows_of (contents ++ (n, c) ∷ []) ≡ windows_of contents ++ (n, seen_window c) ∷ []
-windows_after [] n c = refl
-windows_after (entry ∷ rest) n c = ap (λ l. (entry.0, seen_window entry.1) ∷ l) (windows_after rest n c)
-
-pub opened_is : (w : WindowsSeen) (track : Track) (row : Option ℕ) (c : WindowSeen) → is_row_below (screened w) row ≡ false
-    → has_room w.viewers track row ≡ true → c.frame.anchor ≡ Root
-    → opened_at (screened w) track c.text row
-    ≡ Ok (screened (record w { viewers = with_viewer w.viewers track row c }), Some w.viewers.next)
-opened_is w track row c above room root =
-    when_false (is_row_below (screened w) row) (Err OutOfRange) _ above ∙ (when_true (has_room w.viewers track row) _ (Err NoRoom) room
-    ∙ (λ i. Ok (
-      record (screened (record w { viewers = with_viewer w.viewers track row c })) {
-        windows = ((λ j. windows_of w.viewers.contents ++ (w.viewers.next, record { text = c.text; anchor = sym root j }) ∷ [])
-            ∙ sym (windows_after w.viewers.contents w.viewers.next c)) i;
-      },
-      Some w.viewers.next,
-    )))
-
-pub opened_below : (w : WindowsSeen) (track : Track) (text : ℕ) (row : Option ℕ) → is_row_below (screened w) row ≡ true
-    → opened_at (screened w) track text row ≡ Err OutOfRange
-opened_below w track text row below = when_true (is_row_below (screened w) row) (Err OutOfRange) _ below
-
-pub opened_full : (w : WindowsSeen) (track : Track) (text : ℕ) (row : Option ℕ) → is_row_below (screened w) row ≡ false
-    → has_room w.viewers track row ≡ false → opened_at (screened w) track text row ≡ Err NoRoom
-opened_full w track text row above full =
-    when_false (is_row_below (screened w) row) (Err OutOfRange) _ above
-    ∙ when_false (has_room w.viewers track row) _ (Err NoRoom) full
-
--- a top is moved
-pub moved_below : (w : WindowsSeen) (v row : ℕ) → is_open (screened w) v ≡ true → nat_le w.viewers.tracks.height row ≡ true
-    → moved_to (screened w) v row ≡ Err OutOfRange
-moved_below w v row stands below =
-    when_true (is_open (screened w) v) _ (Err NoViewer) stands
-    ∙ when_true (nat_le w.viewers.tracks.height row) (Err OutOfRange) _ below
-
-pub moved_not : (w : WindowsSeen) (v row : ℕ) → is_open (screened w) v ≡ false → moved_to (screened w) v row ≡ Err NoViewer
-moved_not w v row shut = when_false (is_open (screened w) v) _ (Err NoViewer) shut
 
 answers_ok : (h m : Bool) (u : Unit) → ◌≡◌ {A = Result Unit Refusal} (cond h (cond m (Ok tt) (Err NoRoom)) (Err NoViewer)) (Ok u)
     → (h ≡ true) × (m ≡ true)

@@ -104,9 +104,6 @@ abbrev pub IsLeft : (whole rest : Option (List ℕ)) → (site : ℕ) → Type 0
 IsLeft whole rest site = (fronts : List Front) → fronts_in whole ≡ Some fronts
     → (others : List Front) × (fronts_in rest ≡ Some others) × (has_front fronts site ≡ has_front others site)
 
-pub is_left : (whole : Option (List ℕ)) (site : ℕ) → IsLeft whole whole site
-is_left whole site fronts is = (fronts, is, refl)
-
 one_more : (front : Front) (others : List Front) (site : ℕ) (test : Bool) → (front.site == site) ≡ test
     → has_front (front ∷ others) site ≡ (test || has_front others site)
 one_more front others site test is = ap (λ (b : Bool). b || has_front others site) is

@@ -1,12 +1,11 @@
 -- The words of a line, one after the other, and what they spell, whatever that is.
-use Rattle.std.proofs.Common.{◌≡◌, Bor, ℕ, ◌+◌, ◌<◌, ◌≤◌, List, [], ◌∷◌, ◌++◌, length, length-append, Bool, true, false, ◌==◌, Option, Some, None, option_map, refl, sym, ap, ◌∙◌, append-nil, append_assoc, arith}
-use Rattle.std.specs.Prelude.{IfSome, IsSome, nat_lt, unwrap_or}
+use Rattle.std.proofs.Common.{◌≡◌, Bor, ℕ, ◌+◌, ◌<◌, ◌≤◌, List, [], ◌∷◌, ◌++◌, length, length-append, Bool, true, false, ◌==◌, Option, Some, None, option_map, refl, sym, ap, ◌∙◌, append_assoc, arith}
+use Rattle.std.specs.Prelude.{IfSome, nat_lt}
 use Rattle.std.specs.List.{position_or_len}
 use Rattle.std.specs.Option.{option_map_or}
 use Rattle.std.proofs.lemmas.Bool.Decides.{nat_tests}
 use Rattle.std.proofs.lemmas.List.Splits.{slice_split_first, slice_split_none}
 use Rattle.std.proofs.lemmas.List.Sums.{fails_before_first}
-use Rattle.std.proofs.lemmas.Option.{same_Some}
 use Rattle.script_events.specs.FrontWords.{words_of}
 use Rattle.script_events.specs.Words.{front_word}
 
@@ -80,45 +79,15 @@ all_read : {A : Type 0} (reads : Reading A) (whole : Option (List ℕ)) (to : Is
     → reads whole ≡ Some (to.read ++ [])
 all_read {A} reads whole to none = to.same ∙ ap (option_map (λ (others : List A). to.read ++ others)) none
 
-some_read : {A : Type 0} (o : Option (List A)) (all : List A) → o ≡ Some all → Some (unwrap_or o []) ≡ o
-some_read None all is = absurd cc
-some_read (Some others) all is = refl
-
--- nothing is left, so there is what was read
-pub ends_well : {A : Type 0} (reads : Reading A) (whole : Option (List ℕ)) → IsReadTo reads whole None → reads None ≡ Some []
-    → Some (unwrap_or (reads whole) []) ≡ reads whole
-ends_well reads whole to none = some_read (reads whole) (to.read ++ []) (all_read reads whole to none)
-
 within : (whole : Option (List ℕ)) (count len : ℕ) → count ≤ left_len whole → IfSome whole (λ words. length words ≤ len) → count ≤ len
 within None count len few fits = omega (arith, few)
 within (Some words) count len few fits = omega (arith, few, fits)
-
--- and no more than there are bytes
-pub are_short : {A : Type 0} (reads : Reading A) (whole : Option (List ℕ)) → IsReadTo reads whole None → reads None ≡ Some []
-    → (len : ℕ) → IfSome whole (λ words. length words ≤ len) → length (unwrap_or (reads whole) []) ≤ len
-are_short {A} reads whole to none len fits =
-    let all : unwrap_or (reads whole) [] ≡ to.read ++ [] =
-    ap (λ (o : Option (List A)). unwrap_or o []) (all_read reads whole to none) in
-    within whole (length (unwrap_or (reads whole) [])) len
-    (omega (arith, to.short, ap length all, length-append to.read [])) fits
 
 -- these were put there, and what is left makes all of it
 pub record IsDecodedTo {A : Type 0} (reads : Reading A) (all out : List A) (rest : Option (List ℕ)) : Type 0 where
   pub others : List A
   pub left : reads rest ≡ Some others
   pub all_is : out ++ others ≡ all
-
-pub decodes : {A : Type 0} (reads : Reading A) (out : List A) (o : Option (List ℕ)) → IsSome (reads o)
-    → IsDecodedTo reads (out ++ unwrap_or (reads o) []) out o
-decodes {A} reads out o some = of_some (reads o) some refl
-  where
-    of_some : (read : Option (List A)) → IsSome read → reads o ≡ read → IsDecodedTo reads (out ++ unwrap_or (reads o) []) out o
-    of_some None some is = absurd cc
-    of_some (Some others) some is = record {
-      others = others;
-      left = is;
-      all_is = ap (λ (read : Option (List A)). out ++ unwrap_or read []) (sym is);
-    }
 
 -- one is there, so it was read
 pub is_read : {A : Type 0} (reads : Reading A) (all out : List A) (left : List ℕ) → IsDecodedTo reads all out (Some left)
@@ -142,19 +111,9 @@ decodes_on {A} reads all out left one after to cuts =
       omega (arith, length-append out (one ∷ parts.0), ap length whole),
     )
 
-pub all_decoded : {A : Type 0} (reads : Reading A) (all out : List A) → IsDecodedTo reads all out None → reads None ≡ Some []
-    → out ≡ all
-all_decoded {A} reads all out to none =
-    sym (append-nil out) ∙ ap (λ (xs : List A). out ++ xs) (same_Some [] to.others (sym none ∙ to.left)) ∙ to.all_is
-
 -- how long it goes on at most
 abbrev pub steps_left : Option (List ℕ) → ℕ
 steps_left rest = option_map_or (λ words. length words + 1) rest 0
-
-pub fewer_steps : (left : List ℕ) (after : Option (List ℕ)) → IfSome after (λ rest. length rest < length left)
-    → steps_left after < steps_left (Some left)
-fewer_steps left None shorter = omega arith
-fewer_steps left (Some rest) shorter = omega (arith, shorter)
 
 -- so it is of what is borrowed
 pub shorter_now : (after : Option (Bor (List ℕ))) (n : ℕ) → IfSome after (λ rest. length rest.now < n)

@@ -135,10 +135,6 @@ found_at desks at op stands =
 pub told_at : (desks : List SiteTexts) (at : SentAt) (op : Operation) → IsOperationAt desks at op → sent_message desks at ≡ spelling op
 told_at desks at op stands = ap (λ (o : Option Operation). option_map_or spelling o []) (found_at desks at op stands)
 
--- two operations that stand at one place are one
-pub one_at : (desks : List SiteTexts) (at : SentAt) (op other : Operation) → IsOperationAt desks at op → IsOperationAt desks at other → op ≡ other
-one_at desks at op other a b = same_Some op other (sym (found_at desks at op a) ∙ found_at desks at other b)
-
 -- what is held of the messages is held after each event, and they are the same
 pub still_held : (s new : State) → TextsGo s new → AreTexts s → (sent : List SentAt) → AreSentOperations s.desks sent → AreSentOperations new.desks sent
 still_held s new go are sent held = All-weaker (IsSentOperation s.desks) (IsSentOperation new.desks)

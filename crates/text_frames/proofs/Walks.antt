@@ -249,7 +249,3 @@ pub rows-wide : (bytes : List ℕ) (width k n : ℕ) → All (λ r. length r.cel
 rows-wide bytes width k zero i row lt = absurd (omega (arith, lt))
 rows-wide bytes width k (suc n) zero row lt = cells-length width _
 rows-wide bytes width k (suc n) (suc i) row lt = rows-wide bytes width (suc k) n i row (omega (arith, lt))
-
-pub rows-length : (bytes : List ℕ) (width k n : ℕ) → length (rows_from bytes width k n) ≡ n
-rows-length bytes width k zero = refl
-rows-length bytes width k (suc n) = ap suc (rows-length bytes width (suc k) n)

@@ -132,18 +132,17 @@ struct Folder {
 impl Folder {
     fn new() -> io::Result<Folder> {
         static COUNT: AtomicUsize = AtomicUsize::new(0);
-        let memory = Path::new("/dev/shm");
         let mut name = OsString::from("vialshoal-");
         name.push(format!(
             "{}-{}",
             std::process::id(),
             COUNT.fetch_add(1, Ordering::Relaxed)
         ));
-        // Where it can be had, a folder in memory, in which a sync costs nothing.
-        let path = if memory.is_dir() {
-            memory.join(name)
-        } else {
-            std::env::temp_dir().join(name)
+        // If possible a folder in memory, in which a sync costs nothing.
+        let in_memory = Path::new("/dev/shm").join(&name);
+        let path = match fs::create_dir(&in_memory) {
+            Ok(()) => in_memory,
+            Err(_) => std::env::temp_dir().join(&name),
         };
         fs::create_dir_all(&path)?;
         Ok(Folder { path })

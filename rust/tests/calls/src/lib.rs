@@ -1,5 +1,4 @@
-//! What the tests of this package share. They call what neither a script nor the library for C reaches: written by hand, since a test that
-//! is proved costs the more the larger what it owns is.
+//! Shared by the tests of this package. They call what neither a script nor the library for C reaches, and compare with plain programs.
 #![forbid(unsafe_code)]
 use fallible::Fail;
 

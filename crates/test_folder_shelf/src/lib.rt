@@ -1,5 +1,0 @@
-//! Tests of `folder_shelf`, in a crate of their own so that it is proved once.
-#![tactic(auto)]
-
-#[cfg(test)]
-mod tests;
