@@ -122,11 +122,18 @@ With a numeric prefix argument, since so many HOURS ago."
     (overlay-put mark 'help-echo (vialshoal--in-help words))
     mark))
 
+(defun vialshoal-changed--whose (stretch)
+  "Return of whom STRETCH is, and by whom it came or went, where that differs."
+  (let ((by (plist-get stretch :by)))
+    (concat "of " (vialshoal--author stretch)
+            (unless (equal (plist-get by :site) (plist-get stretch :site))
+              (concat ", by " (vialshoal--author by))))))
+
 (defun vialshoal-changed--came (stretch)
   "Return an overlay for STRETCH, which came."
   (let ((mark (vialshoal-changed--mark
                (plist-get stretch :begin) (plist-get stretch :end)
-               (format "Came, of %s" (vialshoal--author stretch)))))
+               (format "Came, %s" (vialshoal-changed--whose stretch)))))
     (overlay-put mark 'face 'vialshoal-came)
     mark))
 
@@ -135,7 +142,7 @@ With a numeric prefix argument, since so many HOURS ago."
   (let* ((text (vialshoal-review--shown (plist-get stretch :text)))
          (at (plist-get stretch :at))
          (mark (vialshoal-changed--mark
-                at at (format "Went, of %s: %s" (vialshoal--author stretch)
+                at at (format "Went, %s: %s" (vialshoal-changed--whose stretch)
                               text))))
     (overlay-put mark 'before-string
                  (propertize (vialshoal-review--shown

@@ -523,8 +523,8 @@ With a prefix argument it is written in a buffer."
 ;;;###autoload
 (defun vialshoal-accept (thread)
   "Accept THREAD, the suggestion at point.
-Where its text has changed since, both are shown, and
-`vialshoal-accept-anyway' accepts it.  `vialshoal-undo' takes it back."
+Where its text has changed since, it is shown what that would become, and
+`vialshoal-accept-anyway' accepts it so.  `vialshoal-undo' takes it back."
   (interactive (list (vialshoal-review--open-suggestion)))
   (vialshoal-review--accept thread))
 
@@ -541,6 +541,9 @@ Where its text has changed since, both are shown, and
 
 (defvar-local vialshoal-review--changed nil
   "The suggestion whose text has changed, as this buffer shows.")
+
+(defvar-local vialshoal-review--becomes nil
+  "The text that comes if the suggestion is accepted, as this buffer shows.")
 
 (defvar vialshoal-accept-mode-map
   (let ((map (make-sparse-keymap)))
@@ -566,39 +569,42 @@ The user may be typing, so nothing is asked, and no other window selected."
       (with-current-buffer shown
         (vialshoal-accept-mode)
         (setq vialshoal-review--note note
-              vialshoal-review--changed thread)
+              vialshoal-review--changed thread
+              vialshoal-review--becomes (plist-get line :becomes))
         (let ((inhibit-read-only t))
           (erase-buffer)
           (pcase-dolist (`(,what ,words) '((:was "It was:")
                                            (:now "It is now:")
-                                           (:new "Suggested is:")))
+                                           (:becomes "It would be:")))
             (insert words "\n" (vialshoal-review--shown (plist-get line what))
                     "\n\n"))
           (insert (substitute-command-keys
-                   "\\[vialshoal-accept-anyway] accepts it, \\[quit-window] \
+                   "\\[vialshoal-accept-anyway] accepts this, \\[quit-window] \
 leaves it open.\n")))
         (goto-char (point-min)))
       (display-buffer shown '(nil (inhibit-same-window . t)
                                   (inhibit-switch-frame . t)))
       (with-current-buffer note
-        (vialshoal--say (concat (plist-get line :words) "  Accept it anyway: "
-                                "M-x vialshoal-accept-anyway"))))))
+        (vialshoal--say (concat (plist-get line :words) "  Accept what is "
+                                "shown: M-x vialshoal-accept-anyway"))))))
 
 ;;;###autoload
 (defun vialshoal-accept-anyway (thread)
   "Accept THREAD, the suggestion at point, although its text has changed.
-`vialshoal-accept' has shown how."
+`vialshoal-accept' has shown what that becomes; if it has changed again,
+that is shown anew."
   (interactive (list (or vialshoal-review--changed
                          (vialshoal-review--open-suggestion))))
   (let ((note (vialshoal-review--here))
         (shown (get-buffer (vialshoal-review--name-of-changed thread))))
     (unless shown
       (user-error "First M-x vialshoal-accept"))
-    (if-let ((window (get-buffer-window shown t)))
-        (quit-window t window)
-      (kill-buffer shown))
-    (with-current-buffer note
-      (vialshoal-review--accept thread :anyway t))))
+    (let ((becomes (buffer-local-value 'vialshoal-review--becomes shown)))
+      (if-let ((window (get-buffer-window shown t)))
+          (quit-window t window)
+        (kill-buffer shown))
+      (with-current-buffer note
+        (vialshoal-review--accept thread :becomes becomes)))))
 
 ;;;###autoload
 (defun vialshoal-revise (record &optional body)

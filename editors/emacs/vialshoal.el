@@ -150,7 +150,9 @@ are made with no hook called.")
   "Whether the engine was told which version is here while lines wait.")
 (vialshoal--defvar vialshoal--joins nil
   "Whether the next edit is undone with the one before it.
-What a command does that holds places is one edit.")
+The symbol next says that only those behind it are, and begins that it
+isn't, either.  Nil leaves it to the engine.  What a command does that
+holds places is one edit.")
 (vialshoal--defvar vialshoal--wanted-place nil
   "Where point is to be once the note is open.")
 
@@ -162,6 +164,8 @@ What a command does that holds places is one edit.")
 
 (defvar vialshoal--applying nil
   "The buffer that is being changed as the engine says.")
+
+(defvar evil-state)
 
 (defconst vialshoal--most-unanswered 10
   "With so many edits unanswered, changes are gathered.")
@@ -485,11 +489,14 @@ It is MOST characters at most."
   "Have TEXT in the place of what is from BEG to END.
 Point and the mark stay behind the characters that are before them, as
 others see them do; at a line's begin they go with the line where whole
-lines come in there."
-  (let ((places (and (= beg end) (> (buffer-size) 0)
-                     (string-suffix-p "\n" text)
-                     (or (= beg (point-min)) (eq (char-before beg) ?\n))
-                     (vialshoal--places beg))))
+lines come in there.  One that is on a character goes with that."
+  (let* ((is-on (vialshoal--is-on-character beg))
+         (places (and (= beg end) (> (buffer-size) 0)
+                      (or is-on
+                          (and (string-suffix-p "\n" text)
+                               (or (= beg (point-min))
+                                   (eq (char-before beg) ?\n))))
+                      (vialshoal--places beg is-on))))
     (save-excursion
       (goto-char end)
       (if (= beg end)
@@ -499,11 +506,20 @@ lines come in there."
     (dolist (move places)
       (funcall move (+ beg (length text))))))
 
-(defun vialshoal--places (place)
+(defun vialshoal--is-on-character (place)
+  "Say whether a cursor at PLACE is on a character, as in Vim.
+Where one types, as in all of Emacs, it is between two of them."
+  (and (bound-and-true-p evil-local-mode)
+       (memq evil-state '(normal visual motion operator))
+       (not (memq (char-after place) '(nil ?\n)))))
+
+(defun vialshoal--places (place is-on-character)
   "Return functions that move what of the user is at PLACE.
-What comes in where the region ends isn't in it, so that stays."
+What comes in where the region ends isn't in it, so that stays, unless
+what is there IS-ON-CHARACTER."
   (let* ((mark (mark t))
          (is-end (and mark-active mark (/= mark (point))
+                      (not is-on-character)
                       (= place (max mark (point)))))
          (windows (cl-remove-if-not
                    (lambda (window)
@@ -566,8 +582,7 @@ Then it is sent with what follows, before the next line is looked at."
               vialshoal--made (+ made (length edits)))
         (dolist (edit edits)
           (vialshoal--send-edit (cl-incf made) edit
-                                (or (eq vialshoal--joins t)
-                                    (not (eq edit (car edits))))))
+                                (if (eq edit (car edits)) vialshoal--joins t)))
         (when vialshoal--joins
           (setq vialshoal--joins t))))))
 
@@ -587,10 +602,13 @@ Positions make lines long, too, where there are many changes."
 
 (defun vialshoal--send-edit (number edit joins)
   "Send EDIT, a list, as that of this NUMBER.
-It is undone with the one before where JOINS."
+Whether it is undone with the one before is what JOINS says, which has
+the values of `vialshoal--joins'."
   (apply #'vialshoal--send :do "edit" :version vialshoal--version
          :edits number :changes (vconcat edit)
-         (and joins '(:join t))))
+         (pcase joins
+           ('t '(:join t))
+           ('begins '(:join :false)))))
 
 (defun vialshoal--soon ()
   "Send soon what was gathered, where no command does it."
@@ -636,16 +654,22 @@ Half a second without all edits answered is how a macro types."
 
 (defun vialshoal--pre-command ()
   "Let others' text in before a command, where it was held back too long."
+  (vialshoal--record-nothing)
   (vialshoal--flush-command)
   (vialshoal--in-note
     (when (vialshoal--is-behind)
-      (vialshoal--catch-up))))
+      (vialshoal--catch-up)))
+  (when (bound-and-true-p evil-local-mode)
+    (vialshoal-evil--pre-command)))
 (put 'vialshoal--pre-command 'permanent-local-hook t)
 
 (defun vialshoal--post-command ()
   "Send what a command has changed, and where point is."
+  (vialshoal--record-nothing)
   (when (and vialshoal--overlays (buffer-base-buffer))
     (vialshoal--cloned))
+  (when (bound-and-true-p evil-local-mode)
+    (vialshoal-evil--post-command))
   (vialshoal--flush-command)
   (vialshoal--tell-place))
 (put 'vialshoal--post-command 'permanent-local-hook t)
@@ -676,7 +700,7 @@ before others' text came in."
   (with-current-buffer buffer
     (when (zerop vialshoal--holds)
       (vialshoal--flush)
-      (setq vialshoal--joins 'next
+      (setq vialshoal--joins (or vialshoal--joins 'next)
             vialshoal--has-told-version nil))
     (cl-incf vialshoal--holds)))
 
@@ -687,21 +711,27 @@ before others' text came in."
       (setq vialshoal--holds (max 0 (1- vialshoal--holds)))
       (when (zerop vialshoal--holds)
         (vialshoal--flush)
-        (setq vialshoal--joins nil)
+        ;; Evil's commands say themselves what is undone together.
+        (unless (bound-and-true-p evil-local-mode)
+          (setq vialshoal--joins nil))
         (vialshoal--take-lines)))))
 
 (defvar vialshoal--asking nil
-  "The commands that ask and hold a region, the last one first.
-Each has the depth of its minibuffer and the note's buffer.")
+  "The commands for which lines wait, the last one first.
+Each has the depth at which it goes on, and the note's buffer.")
 
 (defun vialshoal--hold-region ()
   "Have lines wait while a command asks which has the region's ends.
 It goes on with these numbers when it was answered."
   (let ((buffer (vialshoal--asking-buffer)))
     (when buffer
-      (vialshoal--begin-hold buffer)
-      (push (cons (recursion-depth) buffer) vialshoal--asking)
-      (add-hook 'post-command-hook #'vialshoal--has-asked))))
+      (vialshoal--hold-at (recursion-depth) buffer))))
+
+(defun vialshoal--hold-at (depth buffer)
+  "Have lines of BUFFER wait until a command has ended above DEPTH."
+  (vialshoal--begin-hold buffer)
+  (push (cons depth buffer) vialshoal--asking)
+  (add-hook 'post-command-hook #'vialshoal--has-asked))
 
 (defun vialshoal--has-asked ()
   "Have lines come in that waited for commands which have ended."
@@ -763,7 +793,9 @@ Where a region isn't shown as one, every command may work on it."
     (pcase-dolist (`(,begin ,end ,text) list)
       (vialshoal--replace (1+ begin) (1+ end) text)
       (with-current-buffer vialshoal--mirror
-        (vialshoal--replace (1+ begin) (1+ end) text)))))
+        (vialshoal--replace (1+ begin) (1+ end) text))))
+  (when (bound-and-true-p evil-local-mode)
+    (vialshoal-evil--changed)))
 
 (defun vialshoal--become (text)
   "Have TEXT, and keep what differed here in another buffer."
@@ -888,6 +920,9 @@ Nothing is sent over 20 times a second."
     (define-key map [remap undo] #'vialshoal-undo)
     (define-key map [remap undo-only] #'vialshoal-undo)
     (define-key map [remap undo-redo] #'vialshoal-redo)
+    (define-key map [remap undo-tree-undo] #'vialshoal-undo)
+    (define-key map [remap undo-tree-redo] #'vialshoal-redo)
+    (define-key map [remap undo-tree-visualize] #'vialshoal-history)
     (define-key map (kbd "C-/") #'vialshoal-undo)
     (define-key map (kbd "C-M-_") #'vialshoal-redo)
     (define-key map [remap save-buffer] #'vialshoal-save)
@@ -923,8 +958,12 @@ its text."
   (add-hook 'minibuffer-setup-hook #'vialshoal--hold-region)
   (dolist (command vialshoal--holding)
     (advice-add command :around #'vialshoal--hold))
+  (advice-add 'primitive-undo :before #'vialshoal--refuse-undo)
+  (add-hook 'evil-local-mode-hook #'vialshoal-evil--set-up)
   (pcase-dolist (`(,hook . ,function) vialshoal--hooks)
     (add-hook hook function nil t))
+  (when (bound-and-true-p evil-local-mode)
+    (vialshoal-evil--set-up))
   (vialshoal--guard))
 
 (defun vialshoal--guard ()
@@ -937,6 +976,20 @@ there is no undo that knows the places of before."
   (setq-local desktop-save-buffer #'vialshoal--for-desktop)
   (buffer-disable-undo))
 (put 'vialshoal--guard 'permanent-local-hook t)
+
+(defun vialshoal--record-nothing ()
+  "Have no undo list here, which a package may have begun.
+Others' text is in none, so the places in a list become wrong."
+  (unless (eq buffer-undo-list t)
+    (buffer-disable-undo)))
+
+(defun vialshoal--refuse-undo (&rest _)
+  "Refuse to play an undo list back in a note."
+  (when (buffer-local-value 'vialshoal--note
+                            (or (buffer-base-buffer) (current-buffer)))
+    (user-error "%s" (concat "Emacs's own undo was refused in this note, and "
+                             "nothing is lost.  `vialshoal-undo' takes back "
+                             "your last edit"))))
 
 (defun vialshoal--cloned ()
   "Have an indirect buffer of a note show no cursors, which would stay.
@@ -1401,13 +1454,15 @@ STRETCH, a property list, says where, as the text is here."
   (message "%s" (substitute-command-keys
                  "All is kept; \\[vialshoal-save-as] saves it as a file")))
 
-(defun vialshoal-save-as (path)
-  "Save the text as the file PATH."
+(defun vialshoal-save-as (path &optional replaces)
+  "Save the text as the file PATH.
+If there is one, ask before it is replaced, unless REPLACES."
   (interactive "FSave the text as: ")
   (when (file-remote-p path)
     (user-error "The engine writes on this machine only"))
   (let ((is-there (file-exists-p path)))
-    (when (and is-there (not (y-or-n-p (format "Replace %s? " path))))
+    (when (and is-there (not replaces)
+               (not (y-or-n-p (format "Replace %s? " path))))
       (user-error "Nothing was saved"))
     (apply #'vialshoal--ask
            (lambda (line)
@@ -1630,6 +1685,9 @@ STRETCH, a property list, says where, as the text is here."
 (when load-file-name
   (add-to-list 'load-path (file-name-directory load-file-name)))
 (autoload 'vialshoal-review--noticed "vialshoal-review")
+(dolist (function '(vialshoal-evil--set-up vialshoal-evil--pre-command
+                    vialshoal-evil--post-command vialshoal-evil--changed))
+  (autoload function "vialshoal-evil"))
 (pcase-dolist (`(,file . ,commands)
                '(("vialshoal-review"
                   vialshoal-remark vialshoal-suggest vialshoal-reply

@@ -8,7 +8,7 @@ const PIECES = ['a', 'bc', '\n', 'x\ny', '\u00e9', '\u20ac', '\ud83d\ude00', '\u
 const HALF = /[\ud800-\udbff](?![\udc00-\udfff])|(?<![\ud800-\udbff])[\udc00-\udfff]/g;
 const LOOKS = [{ font: 'Oberon10b.Scn.Fnt' }, { font: 'Syntax12i.Scn.Fnt' }, { font: 'Oberon10.Scn.Fnt', colour: 1, offset: 0 }, { colour: 2 },
     { colour: 15 }, { offset: -3 }];
-const PATIENCE = 60_000;
+const PATIENCE = 300_000;
 const WAIT = 5;
 
 const sleep = (time) => new Promise((done) => { setTimeout(done, time); });

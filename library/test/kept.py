@@ -5,7 +5,6 @@ import os
 import random
 import subprocess
 import tempfile
-import time
 import unittest
 from pathlib import Path
 
@@ -28,13 +27,12 @@ class Files(unittest.TestCase):
         return int(front), shown
 
     def test_all_that_a_killed_program_was_told_is_kept_is_there(self) -> None:
-        front = 0
+        front, chance = 0, random.Random(1)
         for size in (1, 1, 30, 300, 1, 6000):
             with subprocess.Popen([PROGRAM, "types", self.path, str(size)], stdout=subprocess.PIPE, text=True) as process:
                 assert process.stdout
-                for _ in range(random.randrange(1, 8)):
+                for _ in range(chance.randrange(1, 8)):
                     self.assertTrue(process.stdout.readline(), "the program ended by itself")
-                time.sleep(random.random() / 50)
                 process.kill()
                 said = process.stdout.read().split("\n")
             # (the last line may be torn, too)
@@ -47,11 +45,12 @@ class Files(unittest.TestCase):
                 self.assertEqual((text.front(1), bytes(text)), (now, shown))
 
     def test_each_opens_the_others(self) -> None:
+        chance = random.Random(2)
         for turn in range(3):
             with Text.open(self.path, site=1) as text:
                 # (so many that the list becomes one packed file)
                 for _ in range(90):
-                    text.insert(len(text), random.randbytes(1000))
+                    text.insert(len(text), chance.randbytes(1000))
                 shown = bytes(text)
                 self.assertEqual(subprocess.run([PROGRAM, "shows", self.path], stderr=subprocess.DEVNULL).returncode, 1)
             self.assertEqual(self.in_c(), (90 * (turn + 1), shown))
@@ -60,11 +59,11 @@ class Files(unittest.TestCase):
         with Text.open(self.path, site=1) as text:
             for _ in range(8):
                 text.insert(0, b"abc")
-        whole = self.path.read_bytes()
+        whole, chance = self.path.read_bytes(), random.Random(3)
         for _ in range(150):
-            changed = bytearray(whole[:random.randrange(len(whole) // 2, len(whole) + 1)])
-            for _ in range(random.randrange(3)):
-                changed[random.randrange(len(changed))] ^= 1 << random.randrange(8)
+            changed = bytearray(whole[:chance.randrange(len(whole) // 2, len(whole) + 1)])
+            for _ in range(chance.randrange(3)):
+                changed[chance.randrange(len(changed))] ^= 1 << chance.randrange(8)
             self.path.write_bytes(changed)
             ran = subprocess.run([PROGRAM, "shows", self.path], stdout=subprocess.PIPE, stderr=subprocess.DEVNULL)
             try:

@@ -29,7 +29,7 @@ DOCS = LIBRARY.parent / "docs" / "LIBRARY.md"
 CHROMIUM, DRIVER = shutil.which("chromium"), shutil.which("chromedriver")
 WORDS = ["--headless=new", "--no-sandbox", "--disable-gpu", "--disable-dev-shm-usage", "--no-first-run", "--disable-extensions",
          "--no-proxy-server"]
-PATIENCE = 120
+PATIENCE = 300
 MOST_SHOWN = 2_000
 # What runs in pages too, of library/node/tests.
 TESTS = ("text", "note", "delta", "versions", "undo", "presence", "backlog", "merging")

@@ -75,6 +75,24 @@
                (equal (vialshoal-terminal--eval '(buffer-string))
                       "keep foo\nfoo\nfoo\n")))))))))
 
+(ert-deftest vialshoal-habits-a-rectangle-is-in-its-lines ()
+  (vialshoal-engine-with-folder
+    (let ((log (expand-file-name "shared/note.log" vialshoal-engine--folder)))
+      (vialshoal-terminal-with "Ada" (log)
+        (let ((bo (vialshoal-engine--open
+                   "Bo" nil (vialshoal-engine--link "Ada"))))
+          (vialshoal-terminal--type child "a\rb\rc\rd\r")
+          (vialshoal-engine--shows bo "a\nb\nc\nd\n")
+          (vialshoal-terminal--type child "\e<\C-n\C-@\C-n\C-n\C-xrt")
+          (vialshoal-terminal--waits-for "String rectangle")
+          ;; Another opens a line just where the rectangle begins.
+          (with-current-buffer bo
+            (goto-char 3)
+            (vialshoal-engine--command #'insert "NEW\n"))
+          (vialshoal-terminal--has-heard "NEW")
+          (vialshoal-terminal--type child "> \r")
+          (vialshoal-engine--shows bo "a\nNEW\n> b\n> c\n> d\n"))))))
+
 (defconst vialshoal-habits--speller
   "#!/bin/sh
 case \"$*\" in *-vv*) echo '@(#) International Ispell Version 3.3.02'; exit;; esac

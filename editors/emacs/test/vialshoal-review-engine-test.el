@@ -126,7 +126,7 @@
                    (overlay-get (car vialshoal-review--marks)
                                 'vialshoal-thread)))))
       (vialshoal-engine--wait (lambda () (get-buffer name)))
-      (should (string-match-p "was:\njam\n\n.*now:\njXam\n\n.*is:\nhoney\n"
+      (should (string-match-p "was:\njam\n\n.*now:\njXam\n\n.*be:\nXhoney\n"
                               (vialshoal-support--text name))))
     (should-not (string-search "honey" (vialshoal-support--text bo)))
     (vialshoal-review-engine--do ada 10 #'vialshoal-accept-anyway)
@@ -282,7 +282,7 @@
                                  (list (overlay-start mark) (overlay-end mark)
                                        (overlay-get mark 'vialshoal-words)))
                                vialshoal-changed--marks)
-                       '((4 6 "Came, of Bo") (7 7 "Went, of you: and "))))))))
+                       '((4 6 "Came, of Bo") (7 7 "Went, of you, by Bo: and "))))))))
 
 (provide 'vialshoal-review-engine-test)
 ;;; vialshoal-review-engine-test.el ends here

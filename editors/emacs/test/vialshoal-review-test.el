@@ -269,7 +269,7 @@
       (vialshoal-support--sent)
       (vialshoal-review-test--answer
        :answer "accept" :error "changed" :words "It has changed."
-       :was "tea" :now "te\e[1ma" :new "jam")
+       :was "tea" :now "te\e[1ma" :new "jam" :becomes "jam1")
       (should (string-prefix-p "It has changed." vialshoal--words))
       ;; The user types on in the note, and nothing is asked.
       (should (eq (current-buffer) note))
@@ -279,14 +279,14 @@
       (with-current-buffer "*accept 8:1*"
         (should (get-buffer-window))
         (should (string-match-p
-                 "was:\ntea\n\n.*now:\nte\ufffd\\[1ma\n\n.*is:\njam"
+                 "was:\ntea\n\n.*now:\nte\ufffd\\[1ma\n\n.*be:\njam1"
                  (buffer-string)))
         (should (eq (lookup-key (current-local-map) "a")
                     #'vialshoal-accept-anyway))
         (call-interactively #'vialshoal-accept-anyway))
       (should-not (get-buffer "*accept 8:1*"))
       (should (equal (vialshoal-review-test--sent)
-                     '(:do "accept" :to "8:1" :anyway t))))))
+                     '(:do "accept" :to "8:1" :becomes "jam1"))))))
 
 (ert-deftest vialshoal-review-one-goes-from-remark-to-remark ()
   (vialshoal-support-with-note vialshoal-support--open
@@ -424,8 +424,10 @@
              (vialshoal-review-test--told
                (vialshoal-review-test--answer
                 :answer "changed" :since 0
-                :came [(:begin 1 :end 2 :site 8 :name "Bo")]
-                :went [(:at 3 :text "50% \e[1m" :site 9 :name "\\[x]")]))))
+                :came [(:begin 1 :end 2 :site 8 :name "Bo"
+                              :by (:site 8 :name "Bo"))]
+                :went [(:at 3 :text "50% \e[1m" :site 9 :name "\\[x]"
+                             :by (:site 8 :name "Bo"))]))))
     (should vialshoal-changed-mode)
     (should (eq (overlay-get (car vialshoal-changed--marks) 'face)
                 'vialshoal-came))
@@ -438,7 +440,7 @@
     (should (= (point) 2))
     (should (equal (vialshoal-review-test--told
                      (call-interactively (key-binding "n")))
-                   "Went, of \\[x]: 50% \ufffd[1m"))
+                   "Went, of \\[x], by Bo: 50% \ufffd[1m"))
     (should (= (point) 4))
     (vialshoal-review-test--told (call-interactively (key-binding "p")))
     (should (= (point) 2))

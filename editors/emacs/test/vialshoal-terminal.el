@@ -10,6 +10,9 @@
 (require 'server)
 (require 'vialshoal-engine-support)
 
+(defvar vialshoal-terminal--prepares nil
+  "What the Emacs evaluates before it opens the note.")
+
 (defmacro vialshoal-terminal-with (person arguments &rest body)
   "Run BODY with an Emacs in which PERSON has opened the note picnic.
 ARGUMENTS are the log and the link."
@@ -49,6 +52,7 @@ LOG and LINK are as for `vialshoal-open'."
                                        inhibit-startup-screen t
                                        vialshoal-command ',vialshoal-command)
                                  (server-start)
+                                 ,vialshoal-terminal--prepares
                                  (vialshoal-open "picnic" ,log ,link)))))))
     (set-process-window-size child 24 100)
     child))

@@ -44,6 +44,22 @@ with_folder('a command line says what was seen as it was typed', function(open, 
   Child.meet({ ada, bo })
 end)
 
+with_folder('what a command puts into lines is in these beside another\'s new one', function(open, folder)
+  local ada, bo = two(open, folder)
+  -- This editor shows what Ada's engine has.
+  local beside = open('Ada')
+  ada:type('ia<CR>b<CR>c<CR>d<Esc>gg')
+  bo:shows('a\nb\nc\nd')
+  beside:shows('a\nb\nc\nd')
+  ada:type(':2,4s/^/> /')
+  bo:type('2GONEW<Esc>')
+  beside:shows('a\nNEW\nb\nc\nd')
+  waits(ada)
+  ada:type('<CR>')
+  bo:shows('a\nNEW\n> b\n> c\n> d')
+  Child.meet({ ada, bo })
+end)
+
 with_folder('a replacement that asks is where it was asked for', function(open, folder)
   local ada, bo = two(open, folder)
   -- Who sees what the engine has sent to Ada's other editor, too.
@@ -144,9 +160,9 @@ with_folder('however much waits, a command is carried over', function(_, folder)
   bo:run([[
     for number = 1, 400 do
       vim.api.nvim_buf_set_text(0, 0, 0, 0, 0, { 'x' })
-      vim.wait(120000, function() return v.note().made == v.note().answered and #v.note().changes == 0 end, 1)
+      assert(vim.wait(..., function() return v.note().made == v.note().answered and #v.note().changes == 0 end, 1))
     end
-  ]])
+  ]], support.PATIENCE)
   waits(ada)
   ada:type('h')
   support.same(('x'):rep(400) .. '!.b', Child.meet({ ada, bo }))
@@ -321,17 +337,16 @@ with_folder('who is offline is told, once', function(open, folder)
     told = {}
     vim.notify = function(words) table.insert(told, words) end
   ]])
-  vim.fn.rename(folder .. '/shared', folder .. '/away')
   -- Not a folder in which a new log could be made.
-  vim.fn.writefile({}, folder .. '/shared')
+  vim.fn.writefile({}, folder .. '/away')
+  support.exchange(folder .. '/shared', folder .. '/away')
   ada:type('ione<Esc>')
   local offline = 'Offline, all is kept and sent later: picnic'
   support.wait(function() return vim.deep_equal({ offline }, ada:run('return told')) end, 'words')
   ada:type('otwo<Esc>')
   support.wait(function() return ada:run('return v.note().state.unsent > 1') end, 'what is unsent')
   support.same({ offline }, ada:run('return told'))
-  vim.fn.delete(folder .. '/shared')
-  vim.fn.rename(folder .. '/away', folder .. '/shared')
+  support.exchange(folder .. '/shared', folder .. '/away')
   support.wait(function()
     return vim.deep_equal({ offline, 'Online again, all is sent: picnic' }, ada:run('return told'))
   end, 'words')

@@ -284,18 +284,19 @@ test('what changed is accepted by a command, and by nothing that is typed', func
   give(note, 'accept')
   fake.sent(note)
   local window = vim.api.nvim_get_current_win()
-  answer(note, { answer = 'accept', error = 'changed', words = 'It has changed.', was = 'tea', now = 'te\27a', new = 'jam' })
+  answer(note, { answer = 'accept', error = 'changed', words = 'It has changed.', was = 'tea', now = 'te\27a', new = 'jam',
+    becomes = 'jam1' })
   support.wait(function() return note.shown_changed end, 'what has changed')
   same('It has changed.', note.told.words)
   -- The user goes on where he is.
   same({ window, note.buffer }, { vim.api.nvim_get_current_win(), vim.api.nvim_get_current_buf() })
   local shown = note.shown_changed.window
-  same({ 'It was:', 'tea', '', 'It is now:', 'te\239\191\189a', '', 'Suggested is:', 'jam', '', ':VialshoalAccept! accepts it' },
+  same({ 'It was:', 'tea', '', 'It is now:', 'te\239\191\189a', '', 'It would be:', 'jam1', '', ':VialshoalAccept! accepts this' },
     vim.api.nvim_buf_get_lines(vim.api.nvim_win_get_buf(shown), 0, -1, false))
   same({}, sent(note))
   give(note, 'accept', { bang = true })
   same(false, vim.api.nvim_win_is_valid(shown))
-  same({ { ['do'] = 'accept', to = '8:1', anyway = true } }, sent(note))
+  same({ { ['do'] = 'accept', to = '8:1', becomes = 'jam1' } }, sent(note))
 end)
 
 test('one goes from remark to remark', function()
@@ -461,10 +462,11 @@ test('what changed is shown', function()
   local note = fake.with('tea\nmilk\n')
   give(note, 'changed')
   same({ { ['do'] = 'changed', version = 0, since = 'looked' } }, sent(note))
-  answer(note, { answer = 'changed', since = 0, came = { { begin = 4, ['end'] = 6, site = 8, name = 'Bo' } },
-    went = { { at = 1, text = 'x\27y', site = 9 } } })
+  answer(note, { answer = 'changed', since = 0,
+    came = { { begin = 4, ['end'] = 6, site = 8, name = 'Bo', by = { site = 8, name = 'Bo' } } },
+    went = { { at = 1, text = 'x\27y', site = 9, by = { site = 8, name = 'Bo' } } } })
   same({ { 0, 1, nil, nil, nil, ' x\239\191\189y' }, { 1, 0, 1, 2, 'VialshoalCame' } }, behind(note, 'vialshoal_changed'))
-  same({ 'Went, of site 9: x\239\191\189y', 'Came, of Bo' }, vim.tbl_map(function(item) return item.text end, vim.fn.getqflist()))
+  same({ 'Went, of site 9, by Bo: x\239\191\189y', 'Came, of Bo' }, vim.tbl_map(function(item) return item.text end, vim.fn.getqflist()))
   assert(note.told.words:find('2 changed', 1, true))
   give(note, 'changed', { bang = true })
   same({}, behind(note, 'vialshoal_changed'))

@@ -58,6 +58,14 @@ function M.with(owner, name, other, body)
   assert(is_done, why)
 end
 
+--- Has two paths be each other's, at once: between two steps an engine could make a new folder.
+function M.exchange(one, other)
+  local ffi = require('ffi')
+  ffi.cdef('int renameat2(int, const char *, int, const char *, unsigned int);')
+  local here, at_once = -100, 2
+  assert(ffi.C.renameat2(here, one, here, other, at_once) == 0, one .. ' can\'t be exchanged')
+end
+
 --- The text of a note's buffer.
 function M.text(note)
   return require('vialshoal.text').join(vim.api.nvim_buf_get_lines(note.buffer, 0, -1, false), note.has_end)

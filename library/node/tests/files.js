@@ -6,8 +6,10 @@ import path from 'node:path';
 import { pathToFileURL } from 'node:url';
 
 import { assert, PACKAGE } from './here.js';
+import { drawn } from './random.js';
 
 export const INDEX = pathToFileURL(path.join(PACKAGE, 'index.js')).href;
+const draw = drawn(1);
 const FOLDER = fs.mkdtempSync(path.join(os.tmpdir(), 'vialshoal-'));
 let count = 0;
 
@@ -57,13 +59,13 @@ export function failingAtRandom(draw, use) {
     return patched(fs, Object.fromEntries(names.map((name) => [name, fails(name)])), use);
 }
 
-// What a program that is killed writes, line by line: the last one may be torn, and is left out.
+// What a program writes that is killed after some lines, line by line: the last one may be torn, and is left out.
 export async function untilKilled(child) {
-    const lines = 1 + Math.floor(7 * Math.random());
+    const lines = 1 + draw(7);
     let said = '';
     for await (const data of child.stdout) {
         said += data;
-        if (said.split('\n').length > lines && !child.killed) setTimeout(() => child.kill('SIGKILL'), 20 * Math.random());
+        if (said.split('\n').length > lines) child.kill('SIGKILL');
     }
     return said.split('\n').slice(0, -1);
 }

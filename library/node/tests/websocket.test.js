@@ -14,7 +14,7 @@ const { FrontsDiffer, Presence, Text } = vialshoal;
 const { WebSocketProvider } = await part('websocket.js');
 const { Relay } = await part('relay.js');
 const UTF_16 = { units: 'utf-16' };
-const PATIENCE = 60_000;
+const PATIENCE = 300_000;
 let ws;
 
 // Waits until something is so.
@@ -82,6 +82,13 @@ const inMemory = () => new Text(1, 60_000);
 const areSame = (...all) => all.every((one) => `${one}` === `${all[0]}` && `${[...one.fronts()]}` === `${[...all[0].fronts()]}`);
 const synced = (...providers) => until(() => providers.every(({ isSynced }) => isSynced), 'all are synced');
 
+// Has what one types come to the relay, which has done by then with all that came before it; its text.
+async function goesRound(server, text) {
+    text.insert(0, 'round ');
+    await until(() => server.text.front(text.site) === text.front(text.site), 'the relay has it');
+    return `${text}`;
+}
+
 async function meet() {
     const server = await Server.made(inMemory), [a, b] = texts(2);
     a.insert(0, 'before ');
@@ -117,8 +124,9 @@ async function meet() {
     assert.ok(server.came.filter(([kind]) => kind === 2).length === 1 && server.came.every(([, size]) => size < 300), JSON.stringify(server.came));
     one.close();
     a.insert(0, 'alone');
-    await sleep(20);
-    assert.ok(!areSame(a, b));
+    // (what another one makes goes round meanwhile)
+    await goesRound(server, b);
+    assert.ok(!areSame(a, b) && !`${b}`.includes('alone'));
     other.close();
     await server.close();
 }
@@ -237,8 +245,7 @@ async function stored() {
     await synced(one, other);
     a.insert(0, 'one');
     await until(() => asked.length === 1, 'the store is asked');
-    await sleep(20);
-    assert.equal(`${b}`, '');
+    assert.equal(await goesRound(server, b), 'round ');
     asked[0].resolve();
     await until(() => areSame(a, b), 'it comes');
     a.insert(0, 'two ');
@@ -259,10 +266,14 @@ async function full(folder) {
     const [one, other] = [server.provider(a), server.provider(b)];
     await synced(one, other);
     const { fdatasyncSync } = fs;
-    fs.fdatasyncSync = () => { throw Object.assign(new Error('full'), { code: 'ENOSPC' }); };
+    let tried = 0;
+    fs.fdatasyncSync = () => {
+        tried += 1;
+        throw Object.assign(new Error('full'), { code: 'ENOSPC' });
+    };
     a.insert(0, 'kept later');
     await until(() => !one.isSynced, 'it is cut off');
-    await sleep(50);
+    await until(() => tried > 2, 'it is tried again');
     assert.equal(`${b}`, '');
     fs.fdatasyncSync = fdatasyncSync;
     await synced(one, other);

@@ -7,9 +7,10 @@ from __future__ import annotations
 import unittest
 from typing import Any, cast
 
-from hypothesis import given, settings
+from hypothesis import given
 from hypothesis import strategies as st
 
+from examples import tries
 from vialshoal import Anchor, Misused, Text
 
 # (of one to four bytes)
@@ -18,7 +19,7 @@ LETTERS = "abc\N{LATIN SMALL LETTER E WITH ACUTE}\N{EURO SIGN}def\N{GRINNING FAC
 
 class Anchors(unittest.TestCase):
     @given(st.integers(1, 8), st.data())
-    @settings(max_examples=150, deadline=None)
+    @tries(150)
     def test_each_stays_with_its_character(self, length: int, data: st.DataObject) -> None:
         with Text(1, site=1, units="code points") as text, Text(1, site=2, units="code points") as other:
             text.insert(0, LETTERS[:length])

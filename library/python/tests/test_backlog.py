@@ -7,9 +7,10 @@ from __future__ import annotations
 import random
 import unittest
 
-from hypothesis import given, settings
+from hypothesis import given
 from hypothesis import strategies as st
 
+from examples import tries
 from test_kept import InAFolder
 from test_past import Sites, Steps, steps
 from vialshoal import Backlog, Received, Refused, Text
@@ -28,7 +29,7 @@ def pieces(text: Text[bytes], chance: random.Random) -> list[bytes]:
 
 class AnyOrder(InAFolder):
     @given(steps, st.randoms(use_true_random=False))
-    @settings(max_examples=60, deadline=None)
+    @tries(60)
     def test_it_brings_a_text_to_what_the_other_has(self, given_steps: Steps, chance: random.Random) -> None:
         sites = Sites(3)
         sites.do(given_steps)

@@ -9,8 +9,9 @@ import threading
 import unittest
 from unittest import mock
 
-from hypothesis import given, settings
+from hypothesis import given
 
+from examples import tries
 from test_chunks import shown
 from test_kept import InAFolder
 from test_text import Edit, edited, edits
@@ -19,7 +20,7 @@ from vialshoal import Looks, Refused, Text
 
 class Batches(InAFolder):
     @given(edits, edits)
-    @settings(max_examples=60, deadline=None)
+    @tries(60)
     def test_its_chunks_are_what_the_messages_would_be(self, here: list[Edit], there: list[Edit]) -> None:
         with Text(1, site=1) as a, Text(1, site=1) as b, Text(1, site=2) as c, Text(1, site=3) as other:
             for edit in there:

@@ -8,9 +8,10 @@ import unittest
 from collections.abc import Callable
 from typing import Any
 
-from hypothesis import given, settings
+from hypothesis import given
 from hypothesis import strategies as st
 
+from examples import tries
 from test_past import Fronts, Sites, Steps, fronts, steps
 from vialshoal import Misused, Refused, TakingKind, Text, Unpacking
 
@@ -25,7 +26,7 @@ def shown(text: Text[Any]) -> tuple[bytes, object, dict[int, int], int]:
 
 class InChunks(unittest.TestCase):
     @given(steps, fronts)
-    @settings(max_examples=100, deadline=None)
+    @tries(100)
     def test_chunks_do_what_the_messages_do(self, given_steps: Steps, after: Fronts) -> None:
         sites = Sites(3)
         sites.do(given_steps)
@@ -80,7 +81,7 @@ class Refusals(unittest.TestCase):
         self.assertEqual((caught.exception.number, caught.exception.done), (number, 0))
 
     @given(st.integers(0, len(ALL)), st.binary(max_size=20))
-    @settings(max_examples=300, deadline=None)
+    @tries(300)
     def test_other_bytes_are_refused_or_another_chunk(self, at: int, data: bytes) -> None:
         with Text(1, site=1) as text:
             self.refused(text, b"OTC2" + data, 1)

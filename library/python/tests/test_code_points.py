@@ -10,9 +10,10 @@ from bisect import bisect_left
 from dataclasses import replace
 from typing import Callable, Optional
 
-from hypothesis import given, settings
+from hypothesis import given
 from hypothesis import strategies as st
 
+from examples import tries
 from test_text import IS_BUILT, PROGRAM, spelled
 from vialshoal import ChangeKind, Misused, Name, Run, Text
 from vialshoal import _code_points as code_points
@@ -88,7 +89,7 @@ class SmallBlocks(unittest.TestCase):
 
 class AgainstAString(SmallBlocks):
     @given(edits)
-    @settings(max_examples=200, deadline=None)
+    @tries(200)
     def test_edits_are_those_of_a_string(self, given_edits: list[Edit]) -> None:
         plain, reader = "", Reader()
         with Text(1, site=1, units="code points") as text:
@@ -110,7 +111,7 @@ class AgainstAString(SmallBlocks):
             self.assertTrue(reader.follow(text))
 
     @given(edits, edits, edits)
-    @settings(max_examples=100, deadline=None)
+    @tries(100)
     def test_texts_of_either_units_are_one(self, here: list[Edit], there: list[Edit], then: list[Edit]) -> None:
         with Text(1, site=1, units="code points") as a, Text(1, site=2) as b, Text(1, site=3) as joined:
             reader = Reader()
@@ -149,7 +150,7 @@ class AgainstAString(SmallBlocks):
 
 class AgainstTheProgram(SmallBlocks):
     @given(edits)
-    @settings(max_examples=25, deadline=None)
+    @tries(25)
     def test_messages_are_those_of_byte_positions(self, given_edits: list[Edit]) -> None:
         if not IS_BUILT:
             self.skipTest("the program isn't built")

@@ -12,10 +12,11 @@ from collections.abc import Callable
 from pathlib import Path
 from typing import Any
 
-from hypothesis import given, settings
+from hypothesis import given
 from hypothesis import strategies as st
 
 import vialshoal
+from examples import tries
 from vialshoal import Misused, Text
 
 PROJECT = Path(__file__).resolve().parents[1] / "pyproject.toml"
@@ -48,7 +49,7 @@ class AsInPython(unittest.TestCase):
                 self.assertRaises(TypeError, wrong)
 
     @given(st.binary(max_size=12), st.slices(14), st.integers(-14, 13))
-    @settings(max_examples=200, deadline=None)
+    @tries(200)
     def test_slices_are_those_of_bytes(self, plain: bytes, where: slice, at: int) -> None:
         with Text(1, site=1) as text:
             text.insert(0, plain)

@@ -10,9 +10,10 @@ from collections.abc import Callable
 from functools import partial
 from typing import Any, Literal
 
-from hypothesis import given, settings
+from hypothesis import given
 from hypothesis import strategies as st
 
+from examples import tries
 from test_code_points import edits as string_edits
 from test_code_points import edited as string_edited
 from test_text import edited, edits
@@ -91,13 +92,13 @@ class Deltas(unittest.TestCase):
             self.assertEqual(put, [(None, True, [b"a"]), ("keys", True, [b"cb"]), ("keys", False, [b"others"]), (None, True, [b"d"])])
 
     @given(edits, turns)
-    @settings(max_examples=100, deadline=None)
+    @tries(100)
     def test_they_lead_from_what_was_shown_to_what_is(self, given_edits: list[Any], given_turns: list[Turn]) -> None:
         with Text(1, site=1) as text:
             self.play(text, edited, given_edits, given_turns)
 
     @given(string_edits, turns)
-    @settings(max_examples=100, deadline=None)
+    @tries(100)
     def test_they_do_in_code_points(self, given_edits: list[Any], given_turns: list[Turn]) -> None:
         with Text(1, site=1, units="code points") as text:
             self.play(text, string_edited, given_edits, given_turns)
@@ -124,7 +125,7 @@ class Deltas(unittest.TestCase):
 
 class Listening(unittest.TestCase):
     @given(edits, turns)
-    @settings(max_examples=60, deadline=None)
+    @tries(60)
     def test_each_change_is_told_as_it_is_made(self, given_edits: list[Any], given_turns: list[Turn]) -> None:
         with Text(1, site=1) as text, Text(1, site=2) as other:
             text.insert(0, b"Oberon")

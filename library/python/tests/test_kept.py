@@ -23,9 +23,10 @@ from pathlib import Path
 from typing import Any
 from unittest import mock
 
-from hypothesis import given, settings
+from hypothesis import given
 from hypothesis import strategies as st
 
+from examples import tries
 from test_text import Edit, edited, edits, one_edit
 from test_threads import seq_of, side_by_side
 from vialshoal import Damaged, FrontsDiffer, Misused, Refused, Text
@@ -115,7 +116,7 @@ class Played:
 
 class AsInMemory(InAFolder):
     @given(steps, st.booleans())
-    @settings(max_examples=60, deadline=None)
+    @tries(60)
     def test_it_is_the_same_text_whenever_it_is_opened(self, given_steps: list[tuple[str, Edit]], is_small: bool) -> None:
         # (with the limit of 0, the file is written anew after nearly each call)
         with mock.patch.object(journal, "_LEAST", 0 if is_small else 1 << 16):
@@ -130,7 +131,7 @@ class AsInMemory(InAFolder):
             played.close()
 
     @given(steps, st.data())
-    @settings(max_examples=60, deadline=None)
+    @tries(60)
     def test_cut_off_anywhere_it_has_what_was_kept_before(self, given_steps: list[tuple[str, Edit]], data: st.DataObject) -> None:
         played = Played(self.path)
         for verb, edit in given_steps:
@@ -205,12 +206,12 @@ class OnBadDisks(InAFolder):
 
     def test_a_full_one_is_told_and_loses_nothing(self) -> None:
         with Text.open(self.path, site=1) as text, Text(1, site=2) as other:
-            sent = text.insert(0, b"kept")
+            sent, chance = text.insert(0, b"kept"), random.Random(1)
             for room in range(0, 60, 7):
                 before = self.path.read_bytes()
                 with full_at(len(before) + room):
                     with self.assertRaisesRegex(OSError, f"File too large: '{self.path}'"):
-                        text.insert(0, random.randbytes(60))
+                        text.insert(0, chance.randbytes(60))
                     calls: list[Callable[[], object]] = [text.pack, text.store, partial(other.merge, text), partial(next, text.since({}))]
                     for call in calls:
                         self.assertRaises(OSError, call)
@@ -249,7 +250,7 @@ class OnBadDisks(InAFolder):
             self.assertEqual(state(text), now)
 
     @given(edits, st.randoms(use_true_random=False))
-    @settings(max_examples=60, deadline=None)
+    @tries(60)
     def test_calls_that_fail_at_random(self, given_edits: list[Edit], chance: random.Random) -> None:
         self.path.unlink(missing_ok=True)
         fails = {name: getattr(os, name) for name in ("pwrite", "fdatasync", "ftruncate", "fsync", "replace")}
@@ -287,7 +288,7 @@ class ByAnybody(InAFolder):
     """Bytes that something else has changed."""
 
     @given(steps, st.data())
-    @settings(max_examples=150, deadline=None)
+    @tries(150)
     def test_a_change_is_told_or_is_in_what_was_last(self, given_steps: list[tuple[str, Edit]], data: st.DataObject) -> None:
         played = Played(self.path)
         for verb, edit in given_steps:
@@ -400,14 +401,13 @@ class Alone(InAFolder):
 
 class Killed(InAFolder):
     def test_all_that_it_was_told_is_kept_is_there(self) -> None:
-        front = 0
+        front, chance = 0, random.Random(1)
         for size in (1, 1, 300, 3000, 1, 60_000):
             program = [sys.executable, "-B", "-c", TYPES, str(self.path), str(size)]
             with subprocess.Popen(program, stdout=subprocess.PIPE, text=True) as process:
                 assert process.stdout
-                for _ in range(random.randrange(1, 8)):
+                for _ in range(chance.randrange(1, 8)):
                     self.assertTrue(process.stdout.readline(), "the program ended by itself")
-                time.sleep(random.random() / 50)
                 process.kill()
                 said = process.stdout.read().split("\n")
             # (the last line may be torn, too)

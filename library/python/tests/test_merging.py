@@ -7,9 +7,10 @@ from __future__ import annotations
 import unittest
 from typing import Any, Literal
 
-from hypothesis import given, settings
+from hypothesis import given
 from hypothesis import strategies as st
 
+from examples import tries
 from test_text import Edit, edited, one_edit
 from vialshoal import Backlog, Refused, Text, merge_chunks
 
@@ -53,7 +54,7 @@ class Merging(unittest.TestCase):
             text.close()
 
     @given(steps, st.data())
-    @settings(max_examples=150, deadline=None)
+    @tries(150)
     def test_all_is_there_once_and_ready(self, given_steps: list[Step], data: st.DataObject) -> None:
         with Text(1, site=1) as a, Text(1, site=2) as b, Text(1, site=3) as d, Text(1, site=9) as taking:
             chunks = chunks_of([a, b, d], given_steps)
@@ -67,7 +68,7 @@ class Merging(unittest.TestCase):
             self.assertEqual(merge_chunks(merged, taking.fronts()), [])
 
     @given(steps, st.data())
-    @settings(max_examples=150, deadline=None)
+    @tries(150)
     def test_some_do_what_they_did_apart(self, given_steps: list[Step], data: st.DataObject) -> None:
         with Text(1, site=1) as a, Text(1, site=2) as b, Text(1, site=3) as d:
             chunks = chunks_of([a, b, d], given_steps)
@@ -75,7 +76,7 @@ class Merging(unittest.TestCase):
             self.assertEqual(log_of(merge_chunks(some)), log_of(some))
 
     @given(steps, st.data())
-    @settings(max_examples=100, deadline=None)
+    @tries(100)
     def test_one_who_is_so_far_gets_the_rest(self, given_steps: list[Step], data: st.DataObject) -> None:
         with Text(1, site=1) as a, Text(1, site=2) as b, Text(1, site=3) as d, Text(1, site=9) as far:
             half = data.draw(st.integers(0, len(given_steps)))

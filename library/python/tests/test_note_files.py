@@ -212,11 +212,11 @@ class Files(InAFolder):
 
     def test_what_a_killed_program_has_said_is_there(self) -> None:
         signal.signal(signal.SIGXFSZ, signal.SIG_IGN)
-        length = 0
+        length, chance = 0, random.Random(1)
         for _ in range(4):
             with subprocess.Popen([sys.executable, "-c", TYPES, self.path], stdout=subprocess.PIPE, text=True) as process:
                 assert process.stdout
-                for _ in range(random.randrange(1, 9)):
+                for _ in range(chance.randrange(1, 9)):
                     told = int(process.stdout.readline())
                 process.kill()
                 told = max([told, *map(int, process.stdout.read().split("\n")[:-1])])

@@ -12,9 +12,10 @@ import unittest
 from pathlib import Path
 from typing import Any, Callable, Literal, Union
 
-from hypothesis import given, settings
+from hypothesis import given
 from hypothesis import strategies as st
 
+from examples import tries
 from test_text import IS_BUILT, PROGRAM, Edit, edited, edits, one_edit, put_in, spelled
 from vialshoal import Looks, Misused, Name, Past, Place, Refused, Run, Shown, TakingKind, Text
 
@@ -122,7 +123,7 @@ def all_of(shown: Shown[Any], names: list[Name]) -> list[object]:
 
 class AgainstLists(unittest.TestCase):
     @given(st.integers(2, 3), steps, st.randoms(use_true_random=False))
-    @settings(max_examples=150, deadline=None)
+    @tries(150)
     def test_sites_meet_by_what_they_have_past_fronts(self, count: int, given_steps: Steps, chance: random.Random) -> None:
         sites = Sites(count)
         sites.do(given_steps)
@@ -140,7 +141,7 @@ class AgainstLists(unittest.TestCase):
             self.assertEqual([*text.since(text.fronts())], [])
 
     @given(edits, fronts)
-    @settings(max_examples=50, deadline=None)
+    @tries(50)
     def test_it_brings_another_to_what_this_one_has(self, given_edits: list[Edit], after: Fronts) -> None:
         with Text(1, site=1) as a, Text(1, site=9) as b:
             log = [message for edit in given_edits for message in edited(a, edit)[1]]
@@ -152,7 +153,7 @@ class AgainstLists(unittest.TestCase):
 
 class AgainstFreshTexts(unittest.TestCase):
     @given(steps, fronts)
-    @settings(max_examples=150, deadline=None)
+    @tries(150)
     def test_the_past_is_a_text_that_took_the_messages_up_to_it(self, given_steps: Steps, last: Fronts) -> None:
         sites = Sites(3)
         sites.do([*given_steps, ("bring", 1, 0, ("type", 0, 0, b"")), ("bring", 2, 0, ("type", 0, 0, b""))])
@@ -171,7 +172,7 @@ class AgainstFreshTexts(unittest.TestCase):
                 self.assertEqual(all_of(all_now, names), all_of(copy, names))
 
     @given(edits, edits, fronts)
-    @settings(max_examples=100, deadline=None)
+    @tries(100)
     def test_it_counts_as_its_text_does(self, here: list[Edit], there: list[Edit], last: Fronts) -> None:
         with Text(1, site=1, units="code points") as a, Text(1, site=2) as b, Text(1, site=9, units="code points") as fresh:
             a.insert(0, "a\u20acb\U0001f600c")
@@ -202,7 +203,7 @@ looks = st.builds(Looks, st.from_regex(r"[A-Za-z][A-Za-z0-9.]{0,30}", fullmatch=
 
 class InLooks(unittest.TestCase):
     @given(edits, st.lists(st.tuples(st.integers(0, 2**16), st.binary(max_size=5), looks), max_size=8))
-    @settings(max_examples=100, deadline=None)
+    @tries(100)
     def test_it_is_an_insertion_and_a_change(self, given_edits: list[Edit], put: list[tuple[int, bytes, Looks]]) -> None:
         with Text(1, site=1) as a, Text(1, site=2) as b:
             for edit in given_edits:
@@ -240,7 +241,7 @@ class AgainstTheProgram(unittest.TestCase):
             self.skipTest("the program isn't built")
 
     @given(steps, st.lists(st.tuples(st.integers(0, 2), fronts), max_size=6))
-    @settings(max_examples=40, deadline=None)
+    @tries(40)
     def test_past_fronts_and_up_to_them(self, given_steps: Steps, asked: list[tuple[int, Fronts]]) -> None:
         sites = Sites(3)
         sites.do(given_steps)
@@ -253,7 +254,7 @@ class AgainstTheProgram(unittest.TestCase):
         self.assertEqual(lines, sites.answers.splitlines())
 
     @given(edits)
-    @settings(max_examples=25, deadline=None)
+    @tries(25)
     def test_texts_are_saved_as_it_stores_them(self, given_edits: list[Edit]) -> None:
         # (a text that begins with the command to store it, which a click does)
         command = b"Edit.Store f\r"

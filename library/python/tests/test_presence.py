@@ -10,9 +10,10 @@ import random
 import re
 import unittest
 
-from hypothesis import given, settings
+from hypothesis import given
 from hypothesis import strategies as st
 
+from examples import tries
 from vialshoal import Anchor, Presence, Refused, Text
 
 ANN, BOB, EVE = (f"00000000000000{it}" for it in ("aa", "bb", "ee"))
@@ -98,7 +99,7 @@ class There(unittest.TestCase):
         self.assertRaises(TypeError, self.bob.take, "none")
 
     @given(st.binary(max_size=40), st.integers(0, 40), st.integers(0, 40))
-    @settings(max_examples=200, deadline=None)
+    @tries(200)
     def test_anybodys_bytes_are_states_or_refused(self, other: bytes, beg: int, many: int) -> None:
         said = self.ann.set({"site": 1})
         wrong = said[:beg] + other + said[beg + many:]
@@ -108,7 +109,7 @@ class There(unittest.TestCase):
             self.assertNotEqual(wrong, said)
 
     @given(st.randoms(use_true_random=False))
-    @settings(max_examples=100, deadline=None)
+    @tries(100)
     def test_who_got_all_shows_the_same_in_whatever_order(self, draw: random.Random) -> None:
         everybody = [self.made(it) for it in (ANN, BOB, EVE)]
         sent = [draw.choice(everybody).set(None if draw.randrange(4) == 0 else {"turn": turn}) for turn in range(20)]

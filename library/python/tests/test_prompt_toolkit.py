@@ -21,9 +21,10 @@ from functools import partial
 from typing import Any
 from unittest import mock
 
-from hypothesis import given, settings
+from hypothesis import given
 from hypothesis import strategies as st
 
+from examples import tries
 from test_text import TOP
 from test_threads import often_switching, side_by_side
 from vialshoal import Misused, Text
@@ -43,7 +44,7 @@ try:
 except ImportError as why:
     raise unittest.SkipTest(f"there is no prompt_toolkit (python3-prompt-toolkit): {why}") from why
 
-PATIENCE = 60.0
+PATIENCE = 300.0
 LETTERS = st.text("ab \n\N{LATIN SMALL LETTER E WITH ACUTE}\N{EURO SIGN}\N{GRINNING FACE}", max_size=4)
 VERBS = ("type", "type", "put", "cut", "erase", "undo", "redo", "part", "other", "other cuts", "program")
 steps = st.lists(st.tuples(st.sampled_from(VERBS), st.integers(0, 100), st.integers(0, 6), LETTERS), max_size=25)
@@ -322,7 +323,7 @@ class Player:
 
 class AtRandom(unittest.TestCase):
     @given(steps)
-    @settings(max_examples=150, deadline=None)
+    @tries(150)
     def test_against_plain_ones(self, given_steps: list[tuple[str, int, int, str]]) -> None:
         player = Player(self)
         for step in given_steps:

@@ -7,12 +7,12 @@ from __future__ import annotations
 import random
 import subprocess
 import sys
-import time
 import unittest
 
-from hypothesis import given, settings
+from hypothesis import given
 from hypothesis import strategies as st
 
+from examples import tries
 from test_kept import InAFolder, full_at
 from test_threads import side_by_side
 from vialshoal.site_numbers import SiteNumbers
@@ -42,7 +42,7 @@ class Given(InAFolder):
             self.assertRaises(ValueError, SiteNumbers, self.path, wrong)
 
     @given(st.lists(st.one_of(st.binary(max_size=8), st.integers(0, 12)), max_size=12))
-    @settings(max_examples=100, deadline=None)
+    @tries(100)
     def test_none_that_stands_whole_is_given_again_whatever_is_torn(self, ends: list[bytes | int]) -> None:
         self.path.write_bytes(b"")
         given_out: list[int] = []
@@ -82,14 +82,13 @@ class Asked(InAFolder):
         self.assertEqual(sorted(found), [*range(1, 81)])
 
     def test_by_processes_that_are_killed(self) -> None:
-        found: list[int] = []
+        found, chance = list[int](), random.Random(1)
         for _ in range(2):
             programs = [subprocess.Popen([sys.executable, "-B", "-c", ASKS, str(self.path)], stdout=subprocess.PIPE, text=True)
                         for _ in range(3)]
             for program in programs:
                 assert program.stdout
-                found += [int(program.stdout.readline()) for _ in range(5)]
-                time.sleep(random.random() / 20)
+                found += [int(program.stdout.readline()) for _ in range(chance.randrange(1, 20))]
                 program.kill()
                 found += map(int, program.stdout.read().split("\n")[:-1])
                 program.stdout.close()

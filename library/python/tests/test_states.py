@@ -9,9 +9,10 @@ import unittest
 from collections.abc import Callable
 from typing import Optional
 
-from hypothesis import given, settings
+from hypothesis import given
 from hypothesis import strategies as st
 
+from examples import tries
 from test_chunks import shown
 from test_kept import InAFolder
 from test_past import Sites, Steps, site_of, steps
@@ -27,7 +28,7 @@ def first_that_differs(here: list[bytes], there: list[bytes], site: int) -> Opti
 
 class States(unittest.TestCase):
     @given(steps)
-    @settings(max_examples=60, deadline=None)
+    @tries(60)
     def test_sites_that_made_all_once_agree_whenever_they_meet(self, given_steps: Steps) -> None:
         sites = Sites(3)
         for at in range(0, len(given_steps) + 1, 5):
@@ -46,7 +47,7 @@ class States(unittest.TestCase):
                 self.assertEqual((again.state(), shown(again), bytes(past)), (text.state(), shown(text), bytes(text)))
 
     @given(edits, edits, edits)
-    @settings(max_examples=100, deadline=None)
+    @tries(100)
     def test_two_copies_that_went_on_are_told(self, before: list[Edit], here: list[Edit], there: list[Edit]) -> None:
         with Text(1, site=1) as one:
             for edit in before:
@@ -88,7 +89,7 @@ class States(unittest.TestCase):
             self.assertRaises(TypeError, text.check, 5)
 
     @given(st.binary(max_size=60))
-    @settings(max_examples=200, deadline=None)
+    @tries(200)
     def test_other_bytes_are_refused_or_another_state(self, data: bytes) -> None:
         with Text(1, site=1) as text:
             text.insert(0, b"x")

@@ -13,9 +13,10 @@ from pathlib import Path
 from typing import Optional
 from unittest import mock
 
-from hypothesis import given, settings
+from hypothesis import given
 from hypothesis import strategies as st
 
+from examples import tries
 from vialshoal import _library as library
 from vialshoal import ChangeKind, Misused, Name, NameRange, Refused, Replacement, TakingKind, Text
 
@@ -83,7 +84,7 @@ def followed(shown: bytes, text: Text[bytes]) -> bytes:
 
 class AgainstAList(unittest.TestCase):
     @given(edits)
-    @settings(max_examples=200, deadline=None)
+    @tries(200)
     def test_edits_are_those_of_a_list(self, given_edits: list[Edit]) -> None:
         plain = b""
         with Text(1, site=1) as text:
@@ -99,7 +100,7 @@ class AgainstAList(unittest.TestCase):
                 self.assertEqual(text[beg:end], plain[beg:end])
 
     @given(edits, edits)
-    @settings(max_examples=100, deadline=None)
+    @tries(100)
     def test_two_that_meet_show_the_same(self, here: list[Edit], there: list[Edit]) -> None:
         with Text(1, site=1) as a, Text(1, site=2) as b, Text(1, site=3) as c:
             sent = [message for edit in here for message in edited(a, edit)[1]]
@@ -122,7 +123,7 @@ class AgainstAList(unittest.TestCase):
 
 class NotingEnds(unittest.TestCase):
     @given(edits, edits)
-    @settings(max_examples=100, deadline=None)
+    @tries(100)
     def test_what_was_reported_gives_way_to_what_is_shown(self, here: list[Edit], there: list[Edit]) -> None:
         with Text(1, site=1) as a, Text(1, site=2) as b:
             for edit in here:
@@ -151,7 +152,7 @@ class NotingEnds(unittest.TestCase):
 
 class Kept(unittest.TestCase):
     @given(edits, edits)
-    @settings(max_examples=100, deadline=None)
+    @tries(100)
     def test_its_site_goes_on_from_either_form(self, here: list[Edit], there: list[Edit]) -> None:
         with Text(1, site=1) as a, Text(1, site=2) as b:
             for text, other, all_edits in ((a, b, here), (b, a, there)):
@@ -207,7 +208,7 @@ class ByNames(unittest.TestCase):
 
 class AgainstTheProgram(unittest.TestCase):
     @given(edits, edits)
-    @settings(max_examples=25, deadline=None)
+    @tries(25)
     def test_messages_and_text_are_the_programs(self, here: list[Edit], there: list[Edit]) -> None:
         if not IS_BUILT:
             self.skipTest("the program isn't built")

@@ -17,7 +17,7 @@ from unittest import mock
 from vialshoal import Misused, TakingKind, Text
 from vialshoal import _library as library
 
-PATIENCE = 120
+PATIENCE = 300
 
 
 def side_by_side(*jobs: Callable[[], object]) -> None:

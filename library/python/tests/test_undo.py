@@ -8,9 +8,10 @@ import unittest
 from collections.abc import Callable
 from typing import Any, Literal
 
-from hypothesis import given, settings
+from hypothesis import given
 from hypothesis import strategies as st
 
+from examples import tries
 from test_text import Edit, edited, one_edit
 from vialshoal import Backlog, Name, Text, Undone, UndoManager
 
@@ -229,7 +230,7 @@ class Model:
 
 class AtRandom(WithAClock):
     @given(steps)
-    @settings(max_examples=200, deadline=None)
+    @tries(200)
     def test_it_shows_and_hides_what_the_edits_hid_and_showed(self, given_steps: list[Step]) -> None:
         with Text(1, site=1) as text, Text(1, site=2) as other:
             undo, model = self.managed(text, capture_time=0), Model(text)

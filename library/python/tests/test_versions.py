@@ -7,9 +7,10 @@ from __future__ import annotations
 import unittest
 from typing import Any
 
-from hypothesis import given, settings
+from hypothesis import given
 from hypothesis import strategies as st
 
+from examples import tries
 from test_code_points import edited as string_edited
 from test_code_points import edits as string_edits
 from test_text import edited, edits
@@ -61,7 +62,7 @@ class Differences(unittest.TestCase):
         self.assertEqual((gone, come), (len({*before} - {*after}), len({*after} - {*before})))
 
     @given(edits, turns, pairs)
-    @settings(max_examples=120, deadline=None)
+    @tries(120)
     def test_they_make_one_version_of_another(self, given_edits: list[Any], given_turns: list[Any], given_pairs: list[Any]) -> None:
         with Text(1, site=1) as text, Text(1, site=2) as other:
             fronts = versions([text, other], edited, given_edits, given_turns)
@@ -75,7 +76,7 @@ class Differences(unittest.TestCase):
                 self.assertEqual(text.diff(first, first), Delta(False, ()))
 
     @given(string_edits, turns, pairs)
-    @settings(max_examples=120, deadline=None)
+    @tries(120)
     def test_they_do_in_code_points(self, given_edits: list[Any], given_turns: list[Any], given_pairs: list[Any]) -> None:
         with Text(1, site=1, units="code points") as text, Text(1, site=2, units="code points") as other:
             fronts = versions([text, other], string_edited, given_edits, given_turns)
@@ -87,7 +88,7 @@ class Differences(unittest.TestCase):
                 self.assertEqual(text.diff(first, first), Delta(False, ()))
 
     @given(edits)
-    @settings(max_examples=60, deadline=None)
+    @tries(60)
     def test_stretches_of_names_are_the_names(self, given_edits: list[Any]) -> None:
         with Text(1, site=1) as text:
             for edit in given_edits:

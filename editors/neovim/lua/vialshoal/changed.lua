@@ -14,6 +14,12 @@ function M.clear(note)
   api.nvim_buf_clear_namespace(note.buffer, SPACE, 0, -1)
 end
 
+--- Of whom a stretch is, and by whom it came or went, where that is somebody else.
+local function whose(stretch)
+  local by = stretch.by.site ~= stretch.site and ', by ' .. history.author(stretch.by) or ''
+  return 'of ' .. history.author(stretch) .. by
+end
+
 --- Marks a stretch that came; returns it as a list of places has it.
 local function came(note, stretch, position)
   local row, column = position(stretch.begin)
@@ -21,7 +27,7 @@ local function came(note, stretch, position)
   api.nvim_buf_set_extmark(note.buffer, SPACE, row, column, {
     end_row = last_row, end_col = last_column, hl_group = 'VialshoalCame', strict = false,
   })
-  return { bufnr = note.buffer, lnum = row + 1, col = column + 1, text = 'Came, of ' .. history.author(stretch) }
+  return { bufnr = note.buffer, lnum = row + 1, col = column + 1, text = 'Came, ' .. whose(stretch) }
 end
 
 --- Shows a stretch that went; returns it as a list of places has it.
@@ -30,7 +36,7 @@ local function went(note, stretch, position)
   api.nvim_buf_set_extmark(note.buffer, SPACE, row, column, {
     virt_text = { { ' ' .. text.line(stretch.text, MOST_CELLS), 'VialshoalWent' } }, virt_text_pos = 'eol', strict = false,
   })
-  local words = ('Went, of %s: %s'):format(history.author(stretch), text.line(stretch.text, MOST_CELLS))
+  local words = ('Went, %s: %s'):format(whose(stretch), text.line(stretch.text, MOST_CELLS))
   return { bufnr = note.buffer, lnum = row + 1, col = column + 1, text = words }
 end
 

@@ -1,7 +1,10 @@
 --- The engine's process: lines to it, and lines from it.
 local M = {}
 
--- The engines that were told to end, and run still.
+-- How often it is looked whether they run still.
+local LOOK_MILLISECONDS = 10
+
+-- The processes of engines that were told to end, by their jobs.
 local ending = {}
 
 --- Starts an engine. `took` is called with each line that it says, `ended` with what it wrote of its own trouble.
@@ -40,17 +43,23 @@ end
 
 --- Says that no more lines come.
 function M.close(job)
-  ending[job] = true
+  local is_there, process = pcall(vim.fn.jobpid, job)
+  ending[job] = is_there and process or nil
   M.send(job, { ['do'] = 'close' })
   pcall(vim.fn.chanclose, job, 'stdin')
 end
 
---- Waits a moment until all that were told to end have read all: Neovim's own end would kill them.
+--- Waits a moment until all that were told to end have read all: Neovim's own end would kill them. Not by jobwait(), which
+--- holds on to the job: where the terminal is gone meanwhile, Neovim's end would wait for that without end.
 function M.wait(patience)
-  -- While Neovim ends, jobwait() doesn't wait for several.
-  for _, job in ipairs(vim.tbl_keys(ending)) do
-    vim.fn.jobwait({ job }, patience)
-  end
+  vim.wait(patience, function()
+    for _, process in pairs(ending) do
+      if vim.loop.kill(process, 0) then
+        return false
+      end
+    end
+    return true
+  end, LOOK_MILLISECONDS)
 end
 
 return M

@@ -236,21 +236,21 @@ local function show(words)
   return buffer
 end
 
---- Puts away what is shown of how the text of a suggestion has changed; whether that was this suggestion's.
+--- Puts away what is shown of how the text of a suggestion has changed; what that would become, if it was this suggestion's.
 local function put_away(note, thread)
   local shown = note.shown_changed or {}
   note.shown_changed = nil
   if shown.window and api.nvim_win_is_valid(shown.window) then
     api.nvim_win_close(shown.window, true)
   end
-  return shown.id == thread.id
+  return shown.id == thread.id and shown.becomes or nil
 end
 
 --- Shows how the text of a suggestion has changed, in a window beside: the user may be typing, so nothing is asked.
 local function show_changed(note, thread, answer)
   put_away(note, thread)
-  local words = ('It was:\n%s\n\nIt is now:\n%s\n\nSuggested is:\n%s\n\n:VialshoalAccept! accepts it'):format(
-    text.words(answer.was), text.words(answer.now), text.words(answer.new))
+  local words = ('It was:\n%s\n\nIt is now:\n%s\n\nIt would be:\n%s\n\n:VialshoalAccept! accepts this'):format(
+    text.words(answer.was), text.words(answer.now), text.words(answer.becomes))
   local lines, buffer = vim.split(words, '\n', { plain = true }), api.nvim_create_buf(false, true)
   vim.bo[buffer].bufhidden = 'wipe'
   api.nvim_buf_set_lines(buffer, 0, -1, false, lines)
@@ -259,13 +259,15 @@ local function show_changed(note, thread, answer)
   for _, line in ipairs(lines) do
     width = math.max(width, vim.fn.strdisplaywidth(line))
   end
-  note.shown_changed = { id = thread.id, window = api.nvim_open_win(buffer, false, { relative = 'editor', anchor = 'NE', row = 0,
+  local window = api.nvim_open_win(buffer, false, { relative = 'editor', anchor = 'NE', row = 0,
     col = vim.o.columns, width = math.max(1, math.min(width, vim.o.columns - 2)),
-    height = math.max(1, math.min(#lines, vim.o.lines - 4)), style = 'minimal', border = 'single' }) }
+    height = math.max(1, math.min(#lines, vim.o.lines - 4)), style = 'minimal', border = 'single' })
+  note.shown_changed = { id = thread.id, becomes = answer.becomes, window = window }
 end
 
-local function accept(note, thread, anyway)
-  note:ask({ ['do'] = 'accept', to = thread.id, anyway = anyway }, function(answer)
+--- Accepts a suggestion, by which the passage becomes this text, where one was shown.
+local function accept(note, thread, becomes)
+  note:ask({ ['do'] = 'accept', to = thread.id, becomes = becomes }, function(answer)
     if answer.error == 'changed' then
       -- Not while lines are taken in.
       vim.schedule(function() show_changed(note, thread, answer) end)
@@ -280,10 +282,11 @@ function M.accept(note, given)
     if not given.bang then
       return accept(note, thread)
     end
-    if not put_away(note, thread) then
+    local becomes = put_away(note, thread)
+    if not becomes then
       return note.shows.words('First :VialshoalAccept, which shows what has changed.')
     end
-    accept(note, thread, true)
+    accept(note, thread, becomes)
   end)
 end
 
