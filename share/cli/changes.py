@@ -26,7 +26,7 @@ from share.text.units import UNITS
 AROUND = 3
 # What stands in a line's place where nothing of it is left to be marked.
 NEWLINE = "\N{DOWNWARDS ARROW WITH CORNER LEFTWARDS}"
-# What stands around what came, what went, and whose that is: in CriticMarkup, and in a terminal's colours.
+# What stands around what came, what went, and who did that: in CriticMarkup, and in a terminal's colours.
 IN_SIGNS = {"came": ("{++", "++}"), "went": ("{--", "--}"), "who": ("{>>", "<<}")}
 IN_COLOURS = {"came": ("\x1b[32;4m", "\x1b[m"), "went": ("\x1b[31;9m", "\x1b[m"), "who": ("\x1b[2m (", ")\x1b[m")}
 
@@ -41,7 +41,7 @@ class _Since(NamedTuple):
 
 
 class _Piece(NamedTuple):
-    """A part of the text: what stayed, came, or went, and who wrote what did."""
+    """A part of the text: what stayed, came, or went, and by whom."""
 
     kind: str
     text: str
@@ -65,8 +65,8 @@ def print_changes(given: argparse.Namespace) -> int:
     text, who = readable(swapped(found.text)), _who_wrote(given.name)
     if given.json:
         line: Line = {"note": given.name, "since": since.since, "text": text, "left_out": left_out}
-        line["came"] = [who(one.site) | {"begin": one.begin, "end": one.end} for one in found.came]
-        line["went"] = [who(one.site) | {"at": one.at, "text": readable(swapped(one.data))} for one in found.went]
+        line["came"] = [who(one.site) | {"begin": one.begin, "end": one.end, "by": who(one.by)} for one in found.came]
+        line["went"] = [who(one.site) | {"at": one.at, "text": readable(swapped(one.data)), "by": who(one.by)} for one in found.went]
         return print_json(line, missing)
     is_coloured = sys.stdout.isatty() and "NO_COLOR" not in os.environ
     rows = [*_rows(_in_pieces(found, text, lambda site: _whose(who(site))), IN_COLOURS if is_coloured else IN_SIGNS)]
@@ -107,9 +107,9 @@ def _whose(of: Line) -> str:
 
 
 def _in_pieces(found: WhatChanged, text: str, who: Callable[[int], str]) -> Iterator[_Piece]:
-    """The text with what came to it and what went from it."""
-    went = [(one.at, one.at, _Piece("went", readable(swapped(one.data)), who(one.site))) for one in found.went]
-    came = [(one.begin, one.end, _Piece("came", text[one.begin:one.end], who(one.site))) for one in found.came]
+    """The text with what came to it and what went from it, and who did that."""
+    went = [(one.at, one.at, _Piece("went", readable(swapped(one.data)), who(one.by))) for one in found.went]
+    came = [(one.begin, one.end, _Piece("came", text[one.begin:one.end], who(one.by))) for one in found.came]
     at = 0
     for begin, end, piece in sorted(went + came, key=lambda one: one[:2]):
         yield _Piece("stayed", text[at:begin])

@@ -14,7 +14,7 @@ from share.text.errors import Trouble, counted
 from share.text.line import Line
 
 # What is told of a suggestion whose passage was changed since.
-WHAT_CHANGED = {"was": "The passage was", "now": "It is now", "new": "Suggested is"}
+WHAT_CHANGED = {"was": "The passage was", "now": "It is now", "becomes": "It would be"}
 
 
 def remark(given: argparse.Namespace) -> int:
@@ -52,13 +52,18 @@ def change_state(given: argparse.Namespace) -> int:
 def accept(given: argparse.Namespace) -> int:
     """Does what is suggested."""
     def accepted(note: ScriptNote) -> str:
-        try:
-            note.write("accept", to=given.id, anyway=given.anyway)
-        except RequestRefused as why:
-            if why.line["error"] == "changed":
+        shown = dict[str, str]()
+        while True:
+            try:
+                note.write("accept", to=given.id, **shown)
+                return str(given.id)
+            except RequestRefused as why:
+                if why.line["error"] != "changed":
+                    raise
                 report(f"{what} {quoted(str(why.line.get(name, '')))}" for name, what in WHAT_CHANGED.items())
-            raise
-        return str(given.id)
+                if not given.anyway:
+                    raise
+                shown = {"becomes": why.line["becomes"]}
 
     return say(given, accepted, "accept")
 

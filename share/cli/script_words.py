@@ -69,7 +69,7 @@ def _add_verbs_of_the_past(verb: Callable[..., argparse.ArgumentParser]) -> None
          more="Before each step is the N with which bin/note history prints the text as it was then. At the end is what was\n"
               "left out for good, since others hold its place; bin/note recover --lost NAME types it again.\n")
     one = verb("changed", "says what changed of a note, and by whom, with the lines around; with --json with all of the text",
-               more="What came is between {++ and ++}, what went between {-- and --}, or in colours, with whose it is.\n")
+               more="What came is between {++ and ++}, what went between {-- and --}, or in colours, with who did that.\n")
     one.add_argument("--since", metavar="looked|TIME|N", type=_since, default={},
                      help="since you looked last, as an editor was closed or left alone for five minutes, which is meant without it; since "
                           "you had looked at a TIME as 2030-12-31T23:59; or since the first N messages, as bin/note log tells it")

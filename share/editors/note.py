@@ -154,11 +154,11 @@ class EngineNote:
         return self._by_names("redo")
 
     def say(self, what: str, **more: object) -> Line | None:
-        """Says something of the text, or does what was suggested; the answer, None where it was refused, which the notice says."""
+        """Says something of the text, or accepts; the answer (`changed` is one), None where it was refused, which the notice says."""
         self._goes_on = False
         self._send({"do": what, "id": what, **({"version": self.mirror.version} if "begin" in more else {}), **more})
         answer = self._until(what)
-        if "error" not in answer:
+        if answer.get("error", "changed") == "changed":
             return answer
         self.notice, self.mirror.words = answer["words"], ""
         return None

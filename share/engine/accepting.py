@@ -15,6 +15,9 @@ from share.text.line import Line
 from share.text.names import united
 from share.text.rope import readable, swapped
 
+TOO_LONG_TO_SHOW = f"What this would become is longer than {MOST_ANCHORED:,} bytes, so nothing was done. Make the change yourself."
+PASSAGE_CHANGED = "The passage has changed since this was shown, so nothing was done. Accept it again if it may become what is shown now."
+
 
 class Accepting:
     """The request `accept`. The engine's thread alone calls it."""
@@ -23,20 +26,18 @@ class Accepting:
         self._session, self._text, self._arrivals, self._by_name, self._writing = session, text, arrivals, by_name, writing
         by_name.accepted = writing.accepted
 
-    def accept(self, peer: Peer, shown: Stood, is_anyway: bool) -> Line:
-        """Accepts a suggestion, which has this place now; or tells how the passage was changed since, but where it is asked for anyway."""
+    def accept(self, peer: Peer, shown: Stood, becomes: str | None) -> Line:
+        """Accept a suggestion, which has this place now, if the passage becomes the text that its user was shown: `becomes`, or without
+        it the suggested text, for the passage as it was. Otherwise do nothing, and report what the passage would become."""
         thread, spot = shown.thread, shown.spot
         if not spot.holds or spot.begin is None:
             raise Wrong("elsewhere", "The text that this is about isn't here.")
         if spot.is_accepted:
             return {"done": False}
-        if spot.is_changed and not is_anyway:
-            raise self._changed(shown, *((0, 0) if spot.is_gone else (spot.begin, spot.end)))
 
         def sees(site: Site, edited: Edited) -> None:
             see_all_done(site, edited)
-            if not is_anyway:
-                self._see_in_its_place(site, shown)
+            self._see_that_it_becomes(site, shown, becomes)
 
         self._arrivals.check_typing()
         peer.coalescing.stop()
@@ -48,20 +49,23 @@ class Accepting:
             self._writing.accepted(peer, thread.first.name, True)
         return {"done": changed.does_something()}
 
-    def _see_in_its_place(self, site: Site, shown: Stood) -> None:
-        """Raises Wrong where a replacement, which is shown now, doesn't stand where what it replaces was: its author may have typed it
-        anywhere, and others something between."""
+    def _see_that_it_becomes(self, site: Site, shown: Stood, wanted: str | None) -> None:
+        """Raise Wrong if the passage, which a site shows with the suggestion accepted, isn't the wanted text. A replacement may stand
+        beside the passage, because its author may have typed it anywhere, and others something between."""
         begin, end = shown.spot.begin or 0, shown.spot.end
+        before, after = self._text.measured.slice(0, self._text.measured.size), site.text()
         found = [one for some in site.where(shown.thread.new) for one in some]
         size = sum(len(one.data) for one in found)
-        first, last = (min(one.position for one in found), max(one.position + len(one.data) for one in found)) if found else (begin, begin)
-        if first < begin or last > begin + size:
-            # What is hidden since stood there, and the replacement didn't.
-            raise self._changed(shown, min(first, begin), max(end, last - size + end - begin))
-
-    def _changed(self, shown: Stood, begin: int, end: int) -> Wrong:
-        """What is told of a passage that is otherwise than it was, from here to there."""
+        hidden = len(before) + size - len(after)
+        places = [place for one in found for place in (one.position, one.position + len(one.data))]
+        first, last = min(places, default=begin), max(places, default=begin)
+        low, high = min(begin, first), max(end - hidden + size, last)
+        becomes, now = after[low:high], before[low:high - size + hidden]
+        is_as_suggested = not shown.spot.is_changed and first >= begin and last <= begin + size
+        if is_as_suggested if wanted is None else wanted == readable(swapped(becomes)):
+            return
+        if high - low > MOST_ANCHORED:
+            raise Wrong("long", TOO_LONG_TO_SHOW)
         data, thread = self._session.margin.knows().data, shown.thread
         was, new = (readable(swapped(b"".join(data(one) or b"" for one in names))) for names in (thread.anchor.at, thread.new))
-        now = readable(swapped(self._text.measured.slice(begin, end)))[:MOST_ANCHORED]
-        return Wrong("changed", "The text has changed since this was suggested.", was=was, now=now, new=new)
+        raise Wrong("changed", PASSAGE_CHANGED, was=was, now=readable(swapped(now)), new=new, becomes=readable(swapped(becomes)))

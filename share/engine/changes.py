@@ -12,8 +12,7 @@ from share.engine.shared_text import SharedText
 from share.engine.track import MovedPlaces
 from share.format.history import Messages
 from share.program import replay
-from share.program.changed import WhatChanged, Went, changed
-from share.program.replay import Wrote
+from share.program.changed import WhatChanged, changed
 from share.review.hidden import before_hidden
 from share.sync.session import Session
 from share.text.change import boundary
@@ -95,18 +94,19 @@ class Changes:
 
     def _told(self, found: WhatChanged) -> Line:
         """What changed, as editors are told it."""
-        return {"came": self._authors.stretches(found.came),
-                "went": [{"at": at, "text": readable(swapped(data)), **self._authors.of(site)} for at, data, site in found.went]}
+        of = self._authors.of
+        return {"came": [{"begin": one.begin, "end": one.end, **of(one.site), "by": of(one.by)} for one in found.came],
+                "went": [{"at": one.at, "text": readable(swapped(one.data)), **of(one.site), "by": of(one.by)} for one in found.went]}
 
 
 def changed_in_units(found: WhatChanged, units: Units) -> WhatChanged:
     """What changed, with positions in units."""
     measured = Measured(found.text)
-    went = [Went(measured.position(boundary(found.text, one.at), units), one.data, one.site) for one in found.went]
+    went = [one._replace(at=measured.position(boundary(found.text, one.at), units)) for one in found.went]
     return WhatChanged(found.text, replay.in_units(measured, found.came, units), went)
 
 
 def _moved(found: WhatChanged, moves: MovedPlaces) -> WhatChanged:
     """What changed, where it is after the text went on."""
-    came = [Wrote(*part, one.site) for one in found.came for part in moves.stretch(one.begin, one.end)]
+    came = [one._replace(begin=begin, end=end) for one in found.came for begin, end in moves.stretch(one.begin, one.end)]
     return found._replace(came=came, went=[one._replace(at=moves.place(one.at)) for one in found.went])

@@ -112,8 +112,9 @@ class EditRequests:
         if gap and gap.takes(places):
             own, changes, made, refused = self._type_in(gap, peer, own, changes[0], places, site)
         else:
-            if len(places) > 1 and text.has_lines(places.start, places.stop - 1):
-                own, changes = self._behind(peer, own, changes[0], places.stop - 1)
+            if behind := self._lines_met(transformer):
+                own = transformer.moved_behind(behind)
+                changes = text.changes_of(own, transformer.units)
             made = []
             cut = cut_by(changes, text.measured, site)
             refused = _made(site, [rewrite_of(one, text.measured) for one in changes], made)
@@ -124,24 +125,29 @@ class EditRequests:
     def _places(self, transformer: Transformer, changes: list[Change]) -> range:
         """The places at which an edit types that was counted just now, and deletes nothing: before, within or behind what was put
         there that its editor hasn't seen; none of other edits."""
-        if [one.end - one.begin for one in changes] != [0]:
+        if [one.end - one.begin for one in changes] != [0] or not transformer.is_one_change:
             return range(0)
-        begin, measured = changes[0].begin, self._text.measured
-        met = transformer.met()
-        end = measured.place(measured.position(begin, transformer.units) + met, transformer.units) if met else begin
+        begin, end = changes[0].begin, max((self._place(one.end, transformer) for one in transformer.met()), default=changes[0].begin)
         return range(begin, end + 1)
 
-    def _behind(self, peer: Peer, own: Op, one: Change, place: int) -> tuple[Op, list[Change]]:
-        """An edit that types behind what it met at its place, or a part of that; and its change."""
-        measured, units = self._text.measured, peer.transformer.units
-        if place > one.begin:
-            own = peer.transformer.moved_behind(measured.position(place, units) - measured.position(one.begin, units))
-        return own, [Change(place, place, one.new)]
+    def _place(self, position: int, transformer: Transformer) -> int:
+        """Where a position in the engine's text is in bytes, in an editor's units."""
+        return self._text.measured.place(position, transformer.units)
+
+    def _lines_met(self, transformer: Transformer) -> dict[int, int]:
+        """By the places of the last edit's insertions, how many units these met there, where that are whole lines at a line's begin:
+        what is typed at the begin of a line stays in that."""
+        return {one.place: one.end - one.begin for one in transformer.met()
+                if self._text.has_lines(self._place(one.begin, transformer), self._place(one.end, transformer))}
 
     def _type_in(self, gap: Gap, peer: Peer, own: Op, one: Change, places: range, site: Site) -> Filled:
         """Types in the place of what the editor deleted before. What others put before that stays before it."""
         edited, place = site.insert_behind(gap.before, one.new, places)
-        return *self._behind(peer, own, one, place), [edited.messages], edited.refused
+        transformer, position = peer.transformer, self._text.measured.position
+        if place > one.begin:
+            many = position(place, transformer.units) - position(one.begin, transformer.units)
+            own = transformer.moved_behind({met.place: many for met in transformer.met()})
+        return own, [Change(place, place, one.new)], [edited.messages], edited.refused
 
     def _show(self, peer: Peer, own: Op, changes: list[Change], site: Site, join: object, made: list[list[Operation]],
               refused: int | None) -> Line:

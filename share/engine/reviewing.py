@@ -242,7 +242,8 @@ class Reviewing:
 
     def _accept(self, peer: Peer, request: Line) -> Line:
         """Does the request `accept`."""
-        done = self._accepting.accept(peer, self._suggestion(request), request.get("anyway") is True)
+        becomes = protocol.string(request, "becomes") if "becomes" in request else None
+        done = self._accepting.accept(peer, self._suggestion(request), becomes)
         self.shown.look()
         return done
 

@@ -5,10 +5,11 @@ This is operational transformation with two counters, as in Jupiter (D. Nichols,
 transforms. It numbers what it sends. An editor takes a notice over where that counts all edits which it has made, and drops
 it otherwise; its next edit names the version in which it was made, and so says which notices it had taken over.
 """
-from collections.abc import Sequence
+from collections.abc import Mapping, Sequence
 
 from share.engine.protocol import Wrong
-from share.text.delta import NOTHING, Op, all_composed, brought_to, growth, in_turn, kept_between, moved, of_change, of_changes, transformed
+from share.text.delta import (NOTHING, Met, Op, all_composed, growth, in_text, in_turn, kept_between, met_by, moved, of_change, of_changes,
+                              transformed)
 from share.text.units import Units
 
 # The most notices that are kept one by one because an editor may not have taken them over.
@@ -137,18 +138,19 @@ class Transformer:
         self._sent, self._unsent = [], [left] if left else []
         self.edits += 1
 
-    def met(self) -> int:
-        """How many units the last edit met at its place, where it is one insertion and was counted just now."""
-        if not self._unsent:
-            return 0
-        # What is to be sent counts in the editor's text, after its edit.
-        ends = [begin + self.units.count(data) for begin, _, data in in_turn(self._last[0], self.units) if data]
-        return sum(brought_to(ends[-1], op, self.units) for op in self._unsent)
+    def met(self) -> list[Met]:
+        """What the insertions of the last edit met at their places, as the engine's text had it before that edit."""
+        return met_by(*self._last, self.units)
 
-    def moved_behind(self, many: int) -> Op:
-        """Has what the last edit, which was counted just now, inserted stand behind so many units of what it met at its place; the
-        edit then."""
-        own, left = transformed(*self._last, self.units, many)
+    @property
+    def is_one_change(self) -> bool:
+        """Whether the last edit was one change in its editor's text."""
+        return len(in_text(self._last[0], self.units)) == 1
+
+    def moved_behind(self, behind: Mapping[int, int]) -> Op:
+        """Has what the last edit, which was counted just now, inserted stand behind so many units of what it met at each place;
+        the edit then."""
+        own, left = transformed(*self._last, self.units, behind)
         self._unsent = [left] if left else []
         return own
 

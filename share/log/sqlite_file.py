@@ -161,6 +161,9 @@ def fault_in(why: BaseException) -> BaseException:
     if isinstance(why, sqlite3.DatabaseError) and not isinstance(why, sqlite3.ProgrammingError):
         is_busy = isinstance(why, sqlite3.OperationalError) and not OTHER_TABLES.search(str(why))
         return (Busy if is_busy else Malformed)(str(why))
+    if isinstance(why, UnicodeDecodeError):
+        # Python reads the names of columns by itself, as UTF-8 only.
+        return Malformed(f"a name in it is no text: {why}")
     return why
 
 

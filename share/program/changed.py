@@ -4,7 +4,8 @@ The messages of the earlier time are handed to a run of the program, and then th
 show is the same in both, so what was cut and put elsewhere went and came.
 """
 import re
-from collections.abc import Mapping, Sequence
+from array import array
+from collections.abc import Iterator, Mapping, Sequence
 from contextlib import closing
 from dataclasses import dataclass
 from itertools import count, groupby
@@ -12,8 +13,9 @@ from typing import NamedTuple
 
 from share.admission.fronts import sites_of
 from share.format.history import Messages
+from share.format.operation import DELETE, RESTORE
 from share.program.difference import shown_by
-from share.program.replay import Wrote
+from share.program.replay import Came
 from share.program.site import Site
 from share.text.names import Names
 
@@ -22,19 +24,21 @@ ALIKE = re.compile(rb"\x00+|\x01+")
 
 
 class Went(NamedTuple):
-    """Characters that aren't shown any more: where they stood in the later text, their bytes, and the site that wrote them."""
+    """Characters that aren't shown any more: where they stood in the later text, their bytes, the site that wrote them, and the site
+    that deleted them."""
 
     at: int
     data: bytes
     site: int
+    by: int
 
 
 class WhatChanged(NamedTuple):
-    """The later text, what came of it, by who wrote it, and what went. All that went between the same two characters that stay
-    is where the first of it stood: what replaces a passage stands inside that."""
+    """The later text, what came of it, and what went, both by who wrote them and who did that. All that went between the same two
+    characters that stay is where the first of it stood: what replaces a passage stands inside that."""
 
     text: bytes
-    came: list[Wrote]
+    came: list[Came]
     went: list[Went]
 
 
@@ -65,9 +69,48 @@ def changed(then: Messages, since: Messages) -> WhatChanged:
         came = _apart(now.names, before.names)
         gaps = _gaps(_apart(before.names, now.names), came)
         _look_where([gap for gap in gaps if gap.has_new], site)
-    went = [Went(gap.place, before.text[one.position:one.position + one.names.length], one.names.site)
-            for gap in gaps for one in gap.gone]
-    return WhatChanged(now.text, _came_by_author(came), _went_by_author(went))
+    doers = _Doers(since)
+    went = [Went(gap.place, before.text[one.position + part.begin:one.position + part.end], one.names.site, part.by)
+            for gap in gaps for one in gap.gone for part in doers.of(one.names)]
+    return WhatChanged(now.text, _came_by_author(came, doers), _went_by_author(went))
+
+
+class _Part(NamedTuple):
+    """A part of a stretch of characters, and the site that showed or hid these last."""
+
+    begin: int
+    end: int
+    by: int
+
+
+class _Doers:
+    """Who hid characters, or showed them again, by some messages: the last one to do so has them be so."""
+
+    def __init__(self, messages: Messages):
+        # By the characters' sites, a number for each of these up to the last one: that of a site among those that did something, or 0.
+        self._done, self._sites = dict[int, "array[int]"](), [0]
+        numbers = dict[int, int]()
+        for one in sorted((one for one in messages.runs() if one.kind in (DELETE, RESTORE)), key=lambda one: (one.stamp, one.site)):
+            if one.site not in numbers:
+                numbers[one.site] = len(self._sites)
+                self._sites.append(one.site)
+            for names in one.mentions:
+                self._mark(names, numbers[one.site])
+
+    def _mark(self, names: Names, number: int) -> None:
+        done = self._done.setdefault(names.site, array("I"))
+        done.frombytes(bytes(done.itemsize * max(0, names.at + names.length - len(done))))
+        done[names.at:names.at + names.length] = array("I", [number]) * names.length
+
+    def of(self, names: Names) -> Iterator[_Part]:
+        """A stretch in parts, by who did this; where nobody did, its author."""
+        done = self._done.get(names.site, array("I"))[names.at:names.at + names.length]
+        done.frombytes(bytes(done.itemsize * (names.length - len(done))))
+        begin = 0
+        for number, some in groupby(done):
+            end = begin + len([*some])
+            yield _Part(begin, end, self._sites[number] or names.site)
+            begin = end
 
 
 def _free_number(messages: Messages) -> int:
@@ -124,18 +167,20 @@ def _look_where(gaps: Sequence[_Gap], site: Site) -> None:
             shown += 1
 
 
-def _came_by_author(came: Sequence[_Apart]) -> list[Wrote]:
-    """What came, what one has written and stands one after the other in one."""
-    out: list[Wrote] = []
-    for _, begin, names in came:
-        end = begin + names.length
-        if out and (out[-1].end, out[-1].site) == (begin, names.site):
-            out[-1] = out[-1]._replace(end=end)
-        else:
-            out.append(Wrote(begin, end, names.site))
+def _came_by_author(came: Sequence[_Apart], doers: _Doers) -> list[Came]:
+    """What came. What one has written, and one has brought, is in one where it stands one after the other."""
+    out: list[Came] = []
+    for _, position, names in came:
+        for part in doers.of(names):
+            one = Came(position + part.begin, position + part.end, names.site, part.by)
+            if out and (out[-1].end, *out[-1][2:]) == (one.begin, *one[2:]):
+                out[-1] = out[-1]._replace(end=one.end)
+            else:
+                out.append(one)
     return out
 
 
 def _went_by_author(went: Sequence[Went]) -> list[Went]:
     """The same of what went."""
-    return [Went(at, b"".join(one.data for one in some), site) for (at, site), some in groupby(went, lambda one: (one.at, one.site))]
+    return [Went(at, b"".join(one.data for one in some), site, by)
+            for (at, site, by), some in groupby(went, lambda one: (one.at, one.site, one.by))]

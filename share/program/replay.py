@@ -43,8 +43,18 @@ class Wrote(NamedTuple):
     site: int
 
 
+class Came(NamedTuple):
+    """A stretch of a later text, in bytes, that an earlier one doesn't show, the site that wrote it, and the site that typed it
+    since, or brought it back."""
+
+    begin: int
+    end: int
+    site: int
+    by: int
+
+
 # A stretch of a text, with who wrote it or with its looks.
-Of = TypeVar("Of", Wrote, Dressed)
+Of = TypeVar("Of", Wrote, Came, Dressed)
 
 
 class Past(NamedTuple):

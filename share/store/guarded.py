@@ -9,9 +9,8 @@ from share.log.sqlite_file import Busy, Malformed, SqliteFile, application_witho
 from share.store import unchanged
 
 
-# The pages that SQLite's log has before they go into the file: all of it is looked at for each key. While there is time they go there as
-# soon as it has this many bytes more.
-LOG_PAGES, LOG_BYTES = 250, 2**18
+# All of SQLite's log is looked at for each key. While there is time its pages go into the file as soon as it has this many bytes more.
+LOG_BYTES = 2**18
 
 
 class Unkept(Exception):
@@ -59,7 +58,7 @@ class GuardedFile:
         if self.sql.application() not in self._applications:
             raise Damaged(f"{self.path} isn't a note's file")
         self.sql.safe()
-        self.sql.keep_log_short(LOG_PAGES)
+        self.sql.keep_log_short(unchanged.LOG_PAGES)
         if not self.sql.has_tables(tables):
             raise Damaged(f"{self.path} lacks some of its tables")
         # Read once, it has beside it what belongs to it.
@@ -127,7 +126,7 @@ class GuardedFile:
         log was looked at just now."""
         if self._left:
             self._shortened = self._left.ahead()
-            with self._reading, self._left.written():
+            with self._reading, self._left.written(moves=True):
                 self.sql.shorten_log()
 
     def check(self) -> None:

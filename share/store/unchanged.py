@@ -27,6 +27,8 @@ SUMMED_HEAD, SUMMED_FRAME, WORD = 24, 8, 0xFFFFFFFF
 SALTS_OF_LOG, SALTS_OF_FRAME, COMMITS = slice(16, 24), slice(8, 16), slice(4, 8)
 # How it begins says in which order bytes are summed.
 ORDERS = {0x377F0682: "<", 0x377F0683: ">"}
+# SQLite moves the log's pages into the file after a commit with which the log has this many, and then alone.
+LOG_PAGES = 250
 # Of how many pages that is looked at each time, which takes a tenth of a millisecond a page.
 SUMMED_AT_ONCE = 4
 # How much of it is compared in one go, and how many pages are read.
@@ -71,6 +73,11 @@ class Ahead:
 
     def __len__(self) -> int:
         return len(self._seen)
+
+    def is_full(self) -> bool:
+        """Whether it has so many pages that SQLite moves them into the file with each commit."""
+        page: int = LOG_HEAD.unpack_from(self._seen)[2] if self._seen else 0
+        return page > 0 and len(self._seen) >= LOG_HEAD.size + LOG_PAGES * (FRAME.size + page)
 
     def note(self) -> bool:
         """Takes over what was committed since, all of it where the log begins anew; whether something was."""
@@ -241,10 +248,10 @@ class FileWatch:
                 self._sizes[path] = found.st_size
         return None
 
-    def written(self) -> "Written":
-        """Takes note of what is written meanwhile. Only one thread writes at a time; what another program writes meanwhile isn't taken
-        over."""
-        return Written(self)
+    def written(self, moves: bool = False) -> "Written":
+        """Takes note of what is written meanwhile, and whether the log's pages are moved into the file. Only one thread writes at a time;
+        what another program writes meanwhile isn't taken over."""
+        return Written(self, moves)
 
     def begin_writing(self) -> tuple[bool, int]:
         """Waits until no other thread writes; whether the file is as it was left, and when the log was written to last."""
@@ -255,15 +262,15 @@ class FileWatch:
             self._writing.release()
             raise
 
-    def end_writing(self, is_known: bool, before: int, is_done: bool) -> None:
+    def end_writing(self, is_known: bool, before: int, is_done: bool, moves: bool) -> None:
         """Lets others write, and notes what was written since the beginning, which gave the first two."""
         try:
             if is_done:
                 self._awaits |= not self._ahead.note() and self._ahead.written_at() != before
         finally:
             try:
-                # SQLite itself may have moved pages of the log into the file.
-                if is_known and self._state != (now := self._now()):
+                # Where SQLite moved no pages of the log into the file, another program wrote there.
+                if is_known and (moves or self._ahead.is_full()) and self._state != (now := self._now()):
                     self._knows(now)
             finally:
                 self._writing.release()
@@ -337,15 +344,15 @@ class FileWatch:
 class Written(contextlib.AbstractContextManager[None]):
     """What this process writes to a file."""
 
-    def __init__(self, watch: FileWatch):
-        self._watch = watch
+    def __init__(self, watch: FileWatch, moves: bool):
+        self._watch, self._moves = watch, moves
         self._began = False, 0
 
     def __enter__(self) -> None:
         self._began = self._watch.begin_writing()
 
     def __exit__(self, _: object, why: BaseException | None, where: object) -> None:
-        self._watch.end_writing(*self._began, why is None)
+        self._watch.end_writing(*self._began, why is None, self._moves)
 
 
 _known: "weakref.WeakValueDictionary[Inode, FileWatch]" = weakref.WeakValueDictionary()

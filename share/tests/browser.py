@@ -36,10 +36,11 @@ const holds = () => {
     return false;
   }
 };
+let pause = 5;
 (function look() {
   if (holds()) done(true);
   else if (Date.now() > end) done(why);
-  else setTimeout(look, 10);
+  else setTimeout(look, pause = Math.min(1.2 * pause, 100));
 })();"""
 # An element, once two frames in a row show it at the same place; a window that is behind others may draw none.
 STILL = """const [done, end] = [arguments[arguments.length - 1], Date.now() + 1000 * arguments[0]];
@@ -59,6 +60,28 @@ const place = (one) => ((box) => [box.x, box.y, box.width, box.height].join())(o
 # The page's clock stands still, and goes on: on a busy machine it could take what is composed for forgotten.
 CLOCK_STANDS = "(performance.now = ((now) => () => now)(performance.now()))"
 CLOCK_GOES_ON = "delete performance.now"
+# Timers of these lengths, in ms, go by a clock of the test's own, and others by the browser's.
+HOLDS_TIMERS = """((lengths) => {
+  const { setTimeout, clearTimeout } = window;
+  const { later, clear, held } = window.timers ??= { later: setTimeout, clear: clearTimeout, held: new Map(), now: 0, last: 0 };
+  window.setTimeout = (call, length, ...words) => {
+    if (!lengths.includes(length)) return later(call, length, ...words);
+    window.timers.last -= 1;
+    held.set(window.timers.last, { at: window.timers.now + length, call: () => call(...words) });
+    return window.timers.last;
+  };
+  window.clearTimeout = (id) => { if (!held.delete(id)) clear(id); };
+})(arguments[0])"""
+TIMERS_RUN = """(({ later, clear, held }) => {
+  Object.assign(window, { setTimeout: later, clearTimeout: clear });
+  for (const { call } of held.values()) later(call, 0);
+  held.clear();
+})(window.timers)"""
+TIME_GOES_ON = """((ms) => {
+  const { held } = window.timers;
+  window.timers.now += ms;
+  for (const [id, { at, call }] of [...held]) if (at <= window.timers.now && held.delete(id)) call();
+})(arguments[0])"""
 IS_CLICKED = """((one) => {
   window.isClicked = false;
   one.addEventListener("click", () => { window.isClicked = true; }, { capture: true, once: true });
@@ -68,6 +91,9 @@ STARTS = 5
 # So much is shown of a text where something is wrong.
 MOST_SHOWN = 2_000
 MIRROR = "document.querySelector('#text .CodeMirror').CodeMirror"
+# The page has read what the browser has of its keys, and each edit is answered: it is on the disk. Whoever leaves it is asked before that.
+IS_SETTLED = f"""(({{ composing, readDOMTimeout }}) => !composing && readDOMTimeout === null
+  && dispatchEvent(new Event("beforeunload", {{ cancelable: true }})))({MIRROR}.display.input)"""
 
 
 class Browser:
@@ -255,6 +281,22 @@ class Window:
     def shows(self, text: str) -> None:
         """Waits until the page shows a text."""
         self.wait_for(f"{MIRROR}.getValue() === words[0]", text)
+
+    def settles(self) -> None:
+        """Waits until all that was typed is in the text and on the disk."""
+        self.wait_for(IS_SETTLED)
+
+    def holds_timers(self, *lengths: int) -> None:
+        """Has the page's timers of these lengths, in ms, go by a clock of the test's own, until it is loaded anew."""
+        self.run(HOLDS_TIMERS, lengths)
+
+    def time_goes_on(self, ms: int) -> None:
+        """Has that clock go on, and call whose time has come."""
+        self.run(TIME_GOES_ON, ms)
+
+    def lets_timers_run(self) -> None:
+        """Has all of the page's timers go by the browser's clock again; those that were held end at once."""
+        self.run(TIMERS_RUN)
 
     def to(self, index: int) -> None:
         """Moves the cursor, as a click does."""

@@ -20,6 +20,8 @@ IS_IN_TEXT = "document.activeElement.getAttribute('role') === 'textbox'"
 IS_WRITTEN = "document.activeElement.tagName === 'TEXTAREA'"
 MARKED = """JSON.stringify([...document.querySelectorAll('main .remarked')].map((one) => one.textContent)) === JSON.stringify(words[0])"""
 STATE = "document.querySelector('.card.active .state')?.textContent === words[0]"
+# After how long, in ms, what is suggested is sent because one rests.
+REST_MS = 4_000
 
 
 class Cards:
@@ -42,7 +44,8 @@ class Cards:
         window.select(at, at + len(words))
         window.chord(Keys.CONTROL, Keys.ALT, "s")
         window.wait_for("document.activeElement.tagName === 'TEXTAREA' && document.activeElement.value === words[0]", words)
-        window.type(Keys.CONTROL, "a", Keys.NULL, put or Keys.DELETE)
+        # What is typed replaces the passage, which is selected.
+        window.type_over(put or Keys.DELETE)
         window.type(Keys.TAB)
         window.type(body, Keys.CONTROL, Keys.ENTER)
         window.wait_for(f"{IS_IN_TEXT} && !document.querySelector('.draft')")

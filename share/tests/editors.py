@@ -18,6 +18,12 @@ from share.tests.waiting import wait_for
 from share.text.line import Line
 
 
+def accepted(ask: Callable[..., Line], *whose: int, **more: object) -> Line:
+    """What `accept` is answered once it names what is shown."""
+    answer = ask("accept", *whose, **more)
+    return ask("accept", *whose, **more, becomes=answer["becomes"]) if answer.get("error") == "changed" else answer
+
+
 class Editor:
     """An editor without a screen."""
 

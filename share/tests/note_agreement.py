@@ -48,4 +48,5 @@ if __name__ == "__main__":
     status = main(int(sys.argv[1]), int(sys.argv[2]))
     print(f"{sys.argv[1]} sets by seed {sys.argv[2]}, {'all agreed' if status == 0 else 'not all agreed'}: {time.monotonic() - began:.0f} s"
           f" ({time.process_time() - cpu:.0f} s of a processor, {os.times().children_user:.0f} s of the core)")
+    print(f"{sys.argv[1]} passed, 0 failed" if status == 0 else "0 passed, 1 failed")
     sys.exit(status)

@@ -14,6 +14,7 @@ from typing import TYPE_CHECKING, Any
 import aiohttp
 
 from share.log.polling import can_read
+from share.tests.servers import held_port, port_of
 from share.tests.support import NOTE, Case, Person, wait_for
 from share.tests.waiting import PATIENCE
 from share.text.rope import swapped
@@ -59,6 +60,19 @@ FAULTS_OF_LOOKS = """((isPhone) => {
 # Whether a window has a width, and light or dark colours.
 LOOKS_SO = "innerWidth === words[0] && matchMedia(`(prefers-color-scheme: ${words[1]})`).matches"
 FOUND = re.compile(r'url=(http://127\.0\.0\.1:(\d+)/#([0-9a-f]+))"')
+
+
+def looks_well(window: "Window", is_phone: bool) -> None:
+    """Waits until all of a page is laid out so that it can be read and touched."""
+    faults = list[str]()
+
+    def are_none() -> bool:
+        faults[:] = window.run(FAULTS_OF_LOOKS, is_phone)
+        return not faults
+    try:
+        wait_for(are_none, "nothing of the page to be too small, too wide or hard to read")
+    except AssertionError as why:
+        raise AssertionError(f"{why}: {faults}") from why
 
 
 class Server:
@@ -116,6 +130,17 @@ def is_fault(line: str) -> bool:
 def kept(data: pathlib.Path) -> str:
     """What the note's file says."""
     return swapped(Person(data).text()).decode()
+
+
+def keep_place(case: Case, data: pathlib.Path) -> int:
+    """Has the server of a note's page find a port kept that nobody else gets while the test runs, also while no server is at it; which."""
+    held = held_port()
+    case.addCleanup(held.close)
+    kept_at = data / "run" / "note.web"
+    kept_at.parent.mkdir(parents=True, exist_ok=True)
+    key = json.loads(kept_at.read_bytes())["key"] if kept_at.exists() else "5" * 64
+    kept_at.write_text(json.dumps({"port": port_of(held), "key": key}))
+    return port_of(held)
 
 
 class Pages(Case):

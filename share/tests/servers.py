@@ -1,6 +1,6 @@
 """Redis servers for tests, each in a folder of its own: by a port, with TLS, or by a Unix socket; and a log in a file that goes away."""
 import contextlib
-import os
+import ctypes
 import pathlib
 import shutil
 import socket
@@ -28,6 +28,13 @@ def port_of(held: socket.socket) -> int:
     return port
 
 
+def exchange(one: pathlib.Path, other: pathlib.Path) -> None:
+    """Has two paths be each other's, at once."""
+    here, at_once = -100, 2
+    if ctypes.CDLL(None, use_errno=True).renameat2(here, bytes(one), here, bytes(other), at_once):
+        raise OSError(ctypes.get_errno(), f"{one} and {other} can't be exchanged")
+
+
 class FileLog:
     """A log in a file, whose folder goes away and comes back."""
 
@@ -36,14 +43,14 @@ class FileLog:
         self.url = str(self._shared / "note.log")
 
     def kill(self) -> None:
-        """Has nobody reach the log."""
-        os.rename(self._shared, self._away)
-        self._shared.write_text("no folder")
+        """Has nobody reach the log. In two steps somebody could make a new one between them."""
+        self._away.write_text("no folder")
+        exchange(self._shared, self._away)
 
     def start(self) -> None:
         """Has all reach it again."""
-        self._shared.unlink()
-        os.rename(self._away, self._shared)
+        exchange(self._shared, self._away)
+        self._away.unlink()
 
 
 class RedisServer:

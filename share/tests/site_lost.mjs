@@ -68,7 +68,7 @@ class Person {
   constructor(keys, store) {
     [this.store, this.said, this.edits] = [store, [], 0];
     const nothing = () => {};
-    this.whole = new Whole(core, store, keys, store.kept, { isBusy: () => false, settle: nothing, changed: nothing, unkept: nothing, kept: nothing,
+    this.whole = new Whole(core, store, keys, store.kept, { isBusy: () => false, changed: nothing, unkept: nothing, kept: nothing,
       reads: nothing, stands: nothing, says: (words) => this.said.push(words) });
   }
 

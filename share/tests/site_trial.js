@@ -100,6 +100,31 @@ const does = {
     const note = await keys.NoteKeys.of(ofHex(key));
     return Promise.all(raws.map((raw) => orWhy(() => entry.opened(note, ofHex(raw), bits))));
   },
+  async recovered({ key, numbers, said }) {
+    globalThis.localStorage = new Beside();
+    // The module looks for localStorage as it is loaded, so it is loaded once more.
+    const { keepUnkept, sitesUnkept, writeUnkept } = await import('./unkept.js?with-storage');
+    const note = { author: null, numbers: numbers.map(({ secret, counter, ...one }) => (
+      { ...one, secret: ofHex(secret), counter: BigInt(counter) })) };
+    const raws = [];
+    const store = {
+      note: async () => note,
+      async keep(_, entries, changes) {
+        raws.push(...entries.map(({ raw }) => raw));
+        Object.assign(note, changes(note));
+      },
+    };
+    const ofKey = await keys.NoteKeys.of(ofHex(key));
+    for (const { words, before, body, ...place } of said) {
+      const saying = { ...place, before: ofHex(before), body: ofHex(body), author: new Uint8Array(32) };
+      writeUnkept('note', { saying, words: words.map((one) => ({ ...one, before: ofHex(one.before) })) });
+    }
+    const found = [];
+    for (const site of [...sitesUnkept('note'), ...sitesUnkept('note')]) {
+      found.push(await keepUnkept(/** @type {any} */ (store), ofKey, 'note', site));
+    }
+    return { raws, found, claimed: note.numbers.filter(({ isClaimed }) => isClaimed).map(({ site }) => site), left: sitesUnkept('note').size };
+  },
   async sealed({ key, kind, secret, place, body }) {
     const note = await keys.NoteKeys.of(ofHex(key));
     const where = { ...place, before: ofHex(place.before) };
@@ -278,6 +303,15 @@ async function keptOf(note, numbers, said) {
     why = wrong.message;
   }
   return { raws, why, claimed: held.numbers.filter(({ isClaimed }) => isClaimed).length, locked: [until, locked.size] };
+}
+
+/** A localStorage for Node. */
+class Beside {
+  setItem(name, value) { this[name] = value; }
+
+  getItem(name) { return this[name] ?? null; }
+
+  removeItem(name) { delete this[name]; }
 }
 
 /** Has nobody else hold a lock, and nothing but these: a Node of before has none. */

@@ -1,5 +1,6 @@
 """What was left out and is one text with other messages, as entries of copies say, is typed again once, and not beside what counts."""
 import contextlib
+import itertools
 import shutil
 import unittest
 from collections.abc import Sequence
@@ -186,7 +187,7 @@ class Words(unittest.TestCase):
         messages, made = self.typed_again(entries)
         self.assertEqual((len(messages), self.is_hidden(entries, made)), (1, [False]))
         # And again where that is left out, by another one.
-        other = next(one for one in (FORM.claim(4, FORM.new_author()) for _ in range(10_000)) if rank(one) < rank(self.claim))
+        other = next(one for one in (FORM.claim(4, FORM.new_author()) for _ in itertools.count()) if rank(one) < rank(self.claim))
         entries += [*made, other]
         self.author = FORM.new_author()
         self.claim = FORM.claim(5, self.author)

@@ -12,6 +12,7 @@ import sqlite3
 import subprocess
 import threading
 import unittest
+from collections.abc import Iterator
 from unittest import mock
 
 from share.format.second.key_link import link_of
@@ -148,18 +149,17 @@ class BadInput(Case):
 
     def test_only_a_program_that_hangs_is_ended(self) -> None:
         works = "import sys, time; sys.stdin.readline()\nwhile time.process_time() < {}: pass\nprint('text 0 ', flush=True)"
-        for seconds, starves, stops in (0.3, True, False), (60, False, False), (60, False, True):
+        for seconds, starves, stops in (0.1, True, False), (60, False, False), (60, False, True):
             command = shlex.join([python(), "-c", works.format(seconds)])
             with self.subTest(seconds=seconds, stops=stops), mock.patch.dict(os.environ, VIALSHOAL_PROGRAM=command):
                 program = Program(1)
                 self.addCleanup(program.close)
                 if stops:
                     program.process.send_signal(signal.SIGSTOP)
+                expected: contextlib.AbstractContextManager[object] = self.assertRaises(Ended)
                 if starves:
-                    self.starve(program.process.pid)
-                with mock.patch("share.program.patience.MOST_WORKING_SECONDS", 1), contextlib.ExitStack() as expected:
-                    if not starves:
-                        expected.enter_context(self.assertRaises(Ended))
+                    expected = self.starved(program.process.pid)
+                with mock.patch("share.program.patience.MOST_WORKING_SECONDS", 0.5), expected:
                     self.assertEqual(program.text(), b"")
 
     def test_a_program_that_waits_as_it_starts_is_waited_for(self) -> None:
@@ -176,14 +176,18 @@ class BadInput(Case):
             self.assertEqual(self.opened(self.ann).session.text(), b"one two three ")
         self.assertGreater(next(looks), 2 * patience.MOST_STILL)
 
-    def starve(self, process: int) -> None:
-        """Leaves a process a tenth of a processor."""
+    @contextlib.contextmanager
+    def starved(self, process: int) -> Iterator[None]:
+        """Leaves a process a tenth of a processor meanwhile."""
         other = subprocess.Popen([python(), "-c", "while True: pass"])
-        self.addCleanup(other.wait)
-        self.addCleanup(other.kill)
-        for one in process, other.pid:
-            os.sched_setaffinity(one, {min(os.sched_getaffinity(0))})
-        os.setpriority(os.PRIO_PROCESS, process, os.getpriority(os.PRIO_PROCESS, other.pid) + 10)
+        try:
+            for one in process, other.pid:
+                os.sched_setaffinity(one, {min(os.sched_getaffinity(0))})
+            os.setpriority(os.PRIO_PROCESS, process, os.getpriority(os.PRIO_PROCESS, other.pid) + 10)
+            yield
+        finally:
+            other.kill()
+            other.wait()
 
     def test_what_the_disk_damaged_is_brought_back(self) -> None:
         for damage in ("raw = CAST(substr(raw, 1, 90) || x'00' AS BLOB)", "raw = 'words'", "raw = CAST(x'ff' AS TEXT)",

@@ -19,7 +19,7 @@ from share.engine.track import Track
 from share.format.chunk import packed_in_parts
 from share.format.entry import Plain
 from share.format.history import Messages
-from share.format.operation import DELETE, Operation
+from share.format.operation import DELETE, RESTORE, Operation
 from share.program.changed import Went, WhatChanged, changed
 from share.program.site import Edited, Site
 from share.store import seen
@@ -143,8 +143,22 @@ class Histories(unittest.TestCase):
             self.assertEqual({now[at][0][0] for at in range(one.begin, one.end)}, {one.site})
         self.assertEqual([(one.at, byte, one.site) for one in found.went for byte in one.data],
                          [(place, byte, name[0]) for place, name, byte in went])
-        self.assertTrue(all(one.end != other.begin or one.site != other.site for one, other in zip(found.came, found.came[1:])))
-        self.assertTrue(all((one.at, one.site) != (other.at, other.site) for one, other in zip(found.went, found.went[1:])))
+        by = self.doers(all_of_it)
+        for one in found.came:
+            self.assertEqual({by.get(now[at][0], one.site) for at in range(one.begin, one.end)}, {one.by})
+        self.assertEqual([one.by for one in found.went for _ in one.data], [by[name] for _, name, _ in went])
+        self.assertTrue(all(one.end != other.begin or one[2:] != other[2:] for one, other in zip(found.came, found.came[1:])))
+        self.assertTrue(all((one.at, *one[2:]) != (other.at, *other[2:]) for one, other in zip(found.went, found.went[1:])))
+
+    @staticmethod
+    def doers(messages: Messages) -> dict[Name, int]:
+        """By the characters' names, who hid each last, or showed it again."""
+        last = dict[Name, tuple[int, int]]()
+        for one in messages:
+            for names in one.mentions if one.kind in (DELETE, RESTORE) else ():
+                for at in range(names.at, names.at + names.length):
+                    last[names.site, at] = max(last.get((names.site, at), (0, 0)), (one.stamp, one.site))
+        return {name: site for name, (_, site) in last.items()}
 
     def test_between_two_places(self) -> None:
         for _ in range(12):
@@ -159,10 +173,10 @@ class Histories(unittest.TestCase):
             site.insert(1, b"new")
             site.cut(4, 5)
             then, since = site.history[:1], site.history[1:]
-        self.assertEqual(changed(then, since).went, [Went(4, b"-", 1)])
+        self.assertEqual(changed(then, since).went, [Went(4, b"-", 1, 1)])
         # Nothing can be shown again there, so what went is where it stood between what stays.
         with mock.patch("share.program.site.MOST_MESSAGES", 3):
-            self.assertEqual(changed(then, since).went, [Went(1, b"-", 1)])
+            self.assertEqual(changed(then, since).went, [Went(1, b"-", 1, 1)])
 
     def test_since_fronts(self) -> None:
         for _ in range(12):
@@ -391,6 +405,27 @@ class Printed(Engines):
         self.note("append", "note", "more", VIALSHOAL_DATA=str(self.folder / "bo"))
         bo.wait_for(lambda: "more" in bo.text, "what the script typed")
         self.assertEqual(self.person("bo").path().with_suffix(".seen").read_bytes(), seen_then)
+
+    def test_who_deleted_what_another_wrote(self) -> None:
+        ada, bo = self.others("ada", "bo")
+        ada.type("tea and jam, as ever")
+        bo.shows("tea and jam, as ever")
+        bo.edit((3, 11, ""))
+        bo.edit((3, 3, "!"))
+        ada.shows("tea!, as ever")
+        numbers = ada.state["site"], bo.state["site"]
+        # What went stands where what came stands, and is of who wrote it; who deleted it is told, and whoever brings it back.
+        by = f"{{>>site {numbers[1]}<<}}"
+        self.assertIn(f"\ntea{{-- and jam--}}{by}{{++!++}}{by}, as ever\n", self.printed_for("ada", "--since", "1"))
+        (went,) = json.loads(self.printed_for("ada", "--since", "1", "--json"))["went"]
+        self.assertEqual((went["text"], went["site"], went["own"]), (" and jam", numbers[0], True))
+        self.assertEqual((went["by"]["site"], went["by"]["own"]), (numbers[1], False))
+        many = ada.ask("history")["length"]
+        bo.send({"do": "undo"})
+        bo.send({"do": "undo"})
+        ada.shows("tea and jam, as ever")
+        (came,) = ada.ask("changed", version=ada.mirror.version, since={"at": many})["came"]
+        self.assertEqual((came["site"], came["by"]["site"]), numbers)
 
     def test_since_other_times(self) -> None:
         for words in "one", "two":

@@ -17,6 +17,7 @@ from share.tests.editors import Editor
 from share.tests.forms import of_first_form
 from share.tests.naive import entry_of
 from share.tests.note import Note
+from share.tests.servers import FileLog
 from share.tests.support import Case, Person, are_alike, change, claim_against, claim_order, ons_of, type_at_the_end, wait_for, written
 
 
@@ -159,9 +160,8 @@ class PutBackUnsent(Copied):
         self.anna, self.berta, self.url = self.person("anna"), self.person("berta"), self.file_log()
         first = self.anna.open(url=self.url)
         written(first, "begun ")
-        shared, away = self.folder / "shared", self.folder / "away"
-        os.rename(shared, away)
-        shared.write_text("no folder")
+        log = FileLog(self.folder)
+        log.kill()
         wait_for(lambda: first.session.status().offline, "the log to be away")
         for word in "one ", "two ", "three ", "four ":
             type_at_the_end(first, word)
@@ -172,11 +172,10 @@ class PutBackUnsent(Copied):
                 shutil.copytree(self.anna.data, self.folder / "kept")
                 first = self.anna.open()
         first.session.close()
-        shared.unlink()
-        os.rename(away, shared)
-        with contextlib.closing(self.anna.log()) as log:
-            log.append([fork.raw])
-        shutil.copytree(shared, self.folder / "second")
+        log.start()
+        with contextlib.closing(self.anna.log()) as opened:
+            opened.append([fork.raw])
+        shutil.copytree(self.folder / "shared", self.folder / "second")
         self.other = self.opened(self.berta, link=self.anna.link())
         self.made_anew(["begun", "one", "two", "three", "four"])
         shutil.rmtree(self.anna.data)

@@ -1,18 +1,21 @@
 """Another program writes to a note's file, or to SQLite's log beside it, at the moment at which an editor writes there; and after a crash
 that log isn't what was committed: all is seen and told, and nothing that was typed is lost without a word."""
 import contextlib
-import hashlib
 import os
 import pathlib
+import random
 import shutil
 import signal
 import sqlite3
 import subprocess
-import time
 import unittest
-from collections.abc import Callable, Iterator
+from collections.abc import Callable, Iterator, Sequence
+from functools import partial
+from typing import Any
 from unittest import mock
 
+from share.log.sqlite_file import _Transaction
+from share.store import unchanged
 from share.store.guarded import LOG_BYTES
 from share.store.unchanged import Ahead, FileWatch
 from share.tests.note import Note
@@ -41,13 +44,20 @@ TO_THE_LOG: dict[str, Damage] = {
     "letters over the first page": lambda path: write_over(log_of(path), HEAD + 100, b"\x55" * 99),
     "zeros before the page that was just written": lambda path: write_over(log_of(path), frame(path, 1.0), bytes(24)),
 }
-# What is seen as soon as that was looked at: within the page that was just written to the log, and in the file itself.
-SEEN_SOON: dict[str, Damage] = {
-    "a bit of what was just written": lambda path: write_over(log_of(path), frame(path, 1.0) + 2_000, b"\x55" * 3),
+# What is written to the file itself.
+A_LETTER = "a letter of a word"
+TO_THE_FILE: dict[str, Damage] = {
     "zeros in place of its head": lambda path: write_over(path, 0, bytes(16)),
     "zeros over a page": lambda path: write_over(path, path.stat().st_size // 2 // PAGE * PAGE, bytes(PAGE)),
-    "a letter of a word": lambda path: write_over(path, path.read_bytes().index(b"x" * 40) + 20, b"y"),
+    A_LETTER: lambda path: write_over(path, path.read_bytes().index(b"x" * 40) + 20, b"y"),
+    "a letter of a column's name": lambda path: write_over(path, path.read_bytes().index(b"secret BLOB") + 5, b"\xa0"),
 }
+# What is written within the page that was just written to the log.
+JUST_WRITTEN: dict[str, Damage] = {
+    "a bit of what was just written": lambda path: write_over(log_of(path), frame(path, 1.0) + 2_000, b"\x55" * 3),
+}
+# When something is written within an own write: as it begins, before it is committed, after it is, or once what was written was noted.
+STEPS = "begins", "commits", "committed", "ends"
 # Types words, prints the number of the site, and is killed.
 KILLED = """
 import os, signal
@@ -108,52 +118,86 @@ class WithinAnOwnWrite(Case):
         return person, note
 
     @contextlib.contextmanager
-    def spoilt(self, path: pathlib.Path, spoil: Damage, is_before: bool) -> Iterator[None]:
-        """Has the next writing be damaged, as it begins or as it ends."""
-        real, left = FileWatch.written, [spoil]
+    def spoilt(self, path: pathlib.Path, spoil: Damage, step: str) -> Iterator[None]:
+        """Has the next writing be damaged at one of its steps."""
+        begins, commits, ends = FileWatch.begin_writing, _Transaction.__exit__, FileWatch.end_writing
+        left = [spoil]
 
-        @contextlib.contextmanager
-        def spoils(watch: FileWatch) -> Iterator[None]:
-            with real(watch):
-                if is_before and left:
-                    left.pop()(path)
-                yield
-                if left:
-                    left.pop()(path)
+        def at(now: str) -> None:
+            if now == step and left:
+                left.pop()(path)
 
-        with mock.patch.object(FileWatch, "written", spoils):
+        def begun(watch: FileWatch) -> tuple[bool, int]:
+            found = begins(watch)
+            at("begins")
+            return found
+
+        def committed(one: _Transaction, kind: Any, why: Any, where: Any) -> None:
+            at("commits")
+            commits(one, kind, why, where)
+            at("committed")
+
+        def ended(watch: FileWatch, *found: Any) -> None:
+            ends(watch, *found)
+            at("ends")
+
+        with mock.patch.object(FileWatch, "begin_writing", begun), mock.patch.object(_Transaction, "__exit__", committed), \
+                mock.patch.object(FileWatch, "end_writing", ended):
             yield
+        self.assertEqual(left, [])
 
-    def test_of_the_log_is_seen_before_the_next_key(self) -> None:
-        for number, (what, spoil) in enumerate(TO_THE_LOG.items()):
-            for is_before in (False, True)[:1 if "just written" in what else 2]:
-                with self.subTest(what=what, is_before=is_before):
-                    person, note = self.begun(f"{number}{is_before}")
-                    with self.spoilt(person.path(), spoil, is_before):
+    def assert_seen_at_once(self, spoils: dict[str, Damage], *steps: str) -> None:
+        """That each damage at each of some steps is told with the next key, and nothing is lost."""
+        for number, (what, spoil) in enumerate(spoils.items()):
+            for step in steps:
+                with self.subTest(what=what, step=step):
+                    person, note = self.begun(f"{number}{step}")
+                    with self.spoilt(person.path(), spoil, step):
                         self.assertNotIn(TOLD, typed(note, "two "))
                     self.assertIn(TOLD, typed(note, "three "))
                     self.assert_kept(person, note)
 
-    def test_of_the_file_or_of_what_was_just_written_is_seen_soon(self) -> None:
-        for number, (what, spoil) in enumerate(SEEN_SOON.items()):
-            for is_before in (False, True)[:1 if "just written" in what else 2]:
-                with self.subTest(what=what, is_before=is_before):
-                    person, note = self.begun(f"{number}{is_before}")
-                    with self.spoilt(person.path(), spoil, is_before):
+    def assert_seen_soon(self, spoils: dict[str, Damage], *steps: str) -> None:
+        """That each damage at each of some steps is told without a key, and nothing is lost."""
+        for number, (what, spoil) in enumerate(spoils.items()):
+            for step in steps:
+                with self.subTest(what=what, step=step):
+                    person, note = self.begun(f"{number}{step}")
+                    with self.spoilt(person.path(), spoil, step):
                         words = [typed(note, "two ")]
                     wait_for(lambda one=note, known=words: (one.take_in(), known.append(told(one)), TOLD in " ".join(known))[2],
                              "the damage to be told")
                     typed(note, "three ")
                     self.assert_kept(person, note)
 
+    def test_of_the_log_is_seen_before_the_next_key(self) -> None:
+        just_written = {what: spoil for what, spoil in TO_THE_LOG.items() if "just written" in what}
+        self.assert_seen_at_once({what: spoil for what, spoil in TO_THE_LOG.items() if what not in just_written}, "begins", "committed")
+        self.assert_seen_at_once(just_written, "committed")
+
+    def test_of_the_file_is_seen_before_the_next_key(self) -> None:
+        self.assert_seen_at_once(TO_THE_FILE, *STEPS)
+
+    def test_of_what_was_just_written_is_seen_soon(self) -> None:
+        self.assert_seen_soon(JUST_WRITTEN, "committed")
+
+    @mock.patch.object(unchanged, "LOG_PAGES", 1)
+    def test_of_the_file_as_pages_are_moved_there_is_seen_soon(self) -> None:
+        self.assert_seen_soon(TO_THE_FILE, "begins", "committed")
+
+    @mock.patch.object(unchanged, "LOG_PAGES", 1)
     def test_of_the_file_is_seen_as_it_is_closed(self) -> None:
         person, note = self.begun("data")
         with mock.patch("share.store.note_file.Disk.look_at_unseen", return_value=False):
-            with self.spoilt(person.path(), SEEN_SOON["a letter of a word"], False):
+            with self.spoilt(person.path(), TO_THE_FILE[A_LETTER], "committed"):
                 typed(note, "two three ")
             note.session.close()
         self.assert_kept(person, note)
         self.assertTrue(beside(person.path(), ".damaged-1").exists())
+
+    def test_of_any_page_of_the_file_costs_nothing(self) -> None:
+        person, note = self.begun("data")
+        damaged(self, person, note, PAGE, STEPS)
 
     def test_in_the_moment_of_an_own_write_when_clocks_show_nothing(self) -> None:
         person, note = self.begun("data")
@@ -200,17 +244,6 @@ class WithinAnOwnWrite(Case):
 
 class Compared(Case):
     """What is compared for each key."""
-
-    def test_a_log_is_compared_much_quicker_than_hashed(self) -> None:
-        with contextlib.closing(sqlite3.connect(self.folder / "file", isolation_level=None)) as file:
-            for statement in ("PRAGMA journal_mode = WAL", "PRAGMA wal_autocheckpoint = 0", "CREATE TABLE one (bytes BLOB)",
-                              "INSERT INTO one VALUES (randomblob(2000000))"):
-                file.execute(statement)
-            ahead, log = Ahead(self.folder / "file"), log_of(self.folder / "file").read_bytes()
-            self.addCleanup(ahead.close)
-            self.assertEqual(bytes(ahead._seen), log)
-            # Byte by byte it takes six times as long as to hash it, as a whole a fifth, unless others take the memory's time.
-            wait_for(lambda: 3 * quickest(ahead._is_as_seen) < quickest(lambda: hashlib.blake2b(log)), "a log to be compared quickly")
 
     def test_what_was_cut_off_is_seen_before_anything_is_read(self) -> None:
         path = self.folder / "file"
@@ -260,14 +293,20 @@ class Compared(Case):
             self.assertFalse(ahead.is_there())
 
 
-def quickest(work: Callable[[], object]) -> float:
-    """The least of the processor seconds that some work takes."""
-    found = list[float]()
-    for _ in range(9):
-        begin = time.thread_time()
-        work()
-        found.append(time.thread_time() - begin)
-    return min(found)
+def damaged(case: WithinAnOwnWrite, person: Person, note: Note, stride: int, steps: Sequence[str]) -> int:
+    """Has a byte of a note's file be another one at one of an own write's steps, again and again, the next time this many bytes later: the
+    file has all that was typed as soon as the next key is answered. How many were told."""
+    chance, at, many = random.Random(1), 0, 0
+    while at < person.path().stat().st_size:
+        for step in steps:
+            place = min(at + chance.randrange(stride), person.path().stat().st_size - 1)
+            other = bytes([person.path().read_bytes()[place] ^ 1 << chance.randrange(8)])
+            with case.spoilt(person.path(), partial(write_over, at=place, data=other), step):
+                typed(note, f"{place}.")
+            many += TOLD in typed(note, " ")
+            case.assertEqual(person.text(), bytes(note.text), (place, step))
+        at += stride
+    return many
 
 
 class AfterACrash(Case):

@@ -83,7 +83,6 @@ class Sessions(Engines):
 
     def test_the_page_has_a_session_that_goes_so(self) -> None:
         page = PAGE.read_text(encoding="utf-8")
-        self.assertLessEqual(len(page.split()), 1_500)
         recorded = [line[4:] for line in page.split("## A session")[1].splitlines() if line.startswith("    ")]
         ada, another = self.others("ada", "another")
         another.edit((0, 0, "tea\n"))

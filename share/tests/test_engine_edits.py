@@ -13,7 +13,8 @@ from share.editors.mirror import MOST_UNANSWERED, Mirror, TextChange
 from share.engine.engine import Engine
 from share.store import notes
 from share.sync.session import Session
-from share.tests.editors import PATIENCE, Editor, Engines
+from share.tests.editors import PATIENCE, Editor, EngineHere, Engines
+from share.tests.servers import FileLog
 from share.tests.support import NOTE
 from share.text.errors import Trouble
 from share.text.line import Line
@@ -96,11 +97,11 @@ class Carried(Engines):
             second.edit((second.mirror.units.count(second.mirror.units.encode(second.text)),) * 2 + ("y",))
             second.wait_for(lambda: any(line.get("answer") == "edit" and line["edits"] == number for line in second.lines),
                             "an answer")
-        # All that it dropped comes as one.
-        changes = [line for line in second.notices("changes") if line["edits"] == 9]
-        self.assertEqual([one["changes"] for one in changes[-1:]], [[[0, 0, "x" * 9]]])
+        # All that it dropped comes as one, after the answer.
+        (changes,) = second.wait_for(lambda: [line for line in second.notices("changes") if line["edits"] == 9], "a notice")
+        self.assertEqual(changes["changes"], [[0, 0, "x" * 9]])
         second.listens = True
-        second.mirror.take(changes[-1])
+        second.mirror.take(changes)
         second.mirror.answered = 9
         self.assertEqual(self.alike(first, second), "x" * 9 + "abc\n" + "y" * 9)
 
@@ -144,6 +145,33 @@ class Carried(Engines):
         first.settle()
         self.assertEqual(len(first.text), 300 * 9_001)
         second.wait_for(lambda: second.text == first.text, "all of it")
+
+
+class InItsLine(EngineHere):
+    """What an edit puts at the begins of lines stays in these where another opens a line there, which its editor hasn't seen."""
+
+    def test_each_change_of_an_edit(self) -> None:
+        for place in 2, 4, 6:
+            (_, first, _, first_asks), (other, second, _, second_asks) = self.editors
+            first.edit([(0, len(first.text), "a\nb\nc\nd\n")])
+            self.meet()
+            second.edit([(place, place, "NEW\nX\n")])
+            self.engine.take(other, second_asks)
+            # As `:2,4s/^/> /` makes them, and from the last one to the first, as a rectangle may.
+            changes = [(2, 2, "> "), (6, 6, "> "), (10, 10, "> ")]
+            first.edit(changes if place < 6 else [(6, 6, "> "), (4, 4, "> "), (2, 2, "> ")])
+            self.assertEqual(len(first_asks), 1)
+            lines = ["a", "> b", "> c", "> d"]
+            self.shows("".join(f"{line}\n" for line in [*lines[:place // 2], "NEW", "X", *lines[place // 2:]]))
+
+    def test_what_is_no_line_stays_behind(self) -> None:
+        (_, first, _, _), (other, second, _, second_asks) = self.editors
+        first.edit([(0, 0, "a\nb\nc\n")])
+        self.meet()
+        second.edit([(2, 2, "in line ")])
+        self.engine.take(other, second_asks)
+        first.edit([(2, 2, "> "), (6, 6, "> ")])
+        self.shows("a\n> in line b\n> c\n")
 
 
 class Wrong(Engines):
@@ -353,16 +381,15 @@ class Wrong(Engines):
         first = self.editor("ada", log=self.file_log())
         first.gets_number()
         link = self.person("ada").link()
-        os.rename(self.folder / "shared", self.folder / "away")
-        (self.folder / "shared").write_bytes(b"")
+        log = FileLog(self.folder)
+        log.kill()
         second = self.editor("bo", link=link)
         second.wait_for(lambda: second.notices("state"), "the state")
         self.assertEqual((second.notices("state")[-1]["types"], second.notices("state")[-1]["log"]), (False, "away"))
         second.edit((0, 0, "too early"))
         self.assertEqual(second.settle()["error"], "number")
         self.assertEqual(second.text, "")
-        os.remove(self.folder / "shared")
-        os.rename(self.folder / "away", self.folder / "shared")
+        log.start()
         second.gets_number()
         second.edit((0, 0, "now"))
         first.shows("now")

@@ -1,6 +1,7 @@
 """What is installed works with nothing of the repository there, and is taken away as it came."""
 import contextlib
 import errno
+import math
 import os
 import pathlib
 import re
@@ -8,8 +9,8 @@ import shlex
 import shutil
 import signal
 import subprocess
-import sys
-from collections.abc import Callable
+from collections.abc import Callable, Iterator
+from typing import Any
 from unittest import mock
 
 from share.cli import installing
@@ -26,25 +27,8 @@ from share.text.errors import Trouble
 OPENS = '(progn (add-to-list (quote load-path) \\"SITE\\") (require (quote vialshoal)) (vialshoal-open \\"note\\"))'
 # What names another program than the installed one.
 PROGRAMS = ("VIALSHOAL_PROGRAM", "VIALSHOAL_BUILD")
-KILLED = """
-import os, pathlib, signal, sys
-sys.path[0] = sys.argv[1]
-from share.cli import installing
-left = int(sys.argv[3])
-def counting(does):
-    def called(*words, **more):
-        global left
-        left -= 1
-        if left < 0:
-            os.kill(os.getpid(), signal.SIGKILL)
-        return does(*words, **more)
-    return called
-for name in "write_bytes", "mkdir", "unlink":
-    setattr(pathlib.Path, name, counting(getattr(pathlib.Path, name)))
-for name in "symlink", "replace":
-    setattr(os, name, counting(getattr(os, name)))
-installing.run([sys.argv[4], "--prefix", sys.argv[2]])
-"""
+# What changes files, call by call.
+CHANGES: list[tuple[Any, str]] = [*((pathlib.Path, name) for name in ("write_bytes", "mkdir", "unlink")), (os, "symlink"), (os, "replace")]
 
 
 def files(folder: pathlib.Path) -> dict[str, str]:
@@ -223,7 +207,8 @@ class Installed(Case):
             self.assertEqual(files(self.prefix), before)
         shutil.rmtree(self.prefix)
         for verb in "install", "uninstall":
-            for number in (0, 3, 8, 60, 140, 155, 165, 175, 185):
+            many = self.calls(verb)
+            for number in (0, 3, 8, 60, many // 2, many - 45, many - 20, many - 10, many - 1):
                 self.killed(number, verb)
 
     @staticmethod
@@ -232,14 +217,44 @@ class Installed(Case):
         real(path, data[:len(data) // 2])
         raise OSError(errno.ENOSPC, "No space left on device")
 
-    def killed(self, number: int, verb: str) -> None:
-        """Kills a command at some call: what was there before works, or what is new; the next one mends it."""
+    def calls(self, verb: str) -> int:
+        """How many calls change files as a verb is done, after which nothing is installed."""
         if verb == "uninstall":
             self.here("install")
-        done = subprocess.run([sys.executable, "-B", "-c", KILLED, str(self.copy), str(self.prefix), str(number), verb],
-                              check=False, timeout=PATIENCE, stdout=subprocess.DEVNULL,
-                              env={key: value for key, value in os.environ.items() if key not in PROGRAMS})
-        self.assertIn(done.returncode, (0, -signal.SIGKILL))
+        with self.counting() as called:
+            self.here(verb)
+        if verb == "install":
+            self.here("uninstall")
+        return len(called)
+
+    @contextlib.contextmanager
+    def counting(self, last: float = math.inf) -> Iterator[list[str]]:
+        """Keeps the calls that change files meanwhile; the one behind so many kills this process."""
+        called = list[str]()
+
+        def counted(name: str, does: Callable[..., object]) -> Callable[..., object]:
+            def calls(*words: object, **more: object) -> object:
+                if len(called) >= last:
+                    os.kill(os.getpid(), signal.SIGKILL)
+                called.append(name)
+                return does(*words, **more)
+            return calls
+
+        with contextlib.ExitStack() as patches:
+            for where, name in CHANGES:
+                patches.enter_context(mock.patch.object(where, name, counted(name, getattr(where, name))))
+            yield called
+
+    def killed(self, number: int, verb: str) -> None:
+        """Kills a process at some call of a verb: what was there before works, or what is new; the next one mends it."""
+        if verb == "uninstall":
+            self.here("install")
+        process = os.fork()
+        if not process:
+            with contextlib.suppress(BaseException), self.counting(number):
+                self.here(verb)
+            os._exit(1)
+        self.assertEqual(os.waitstatus_to_exitcode(os.waitpid(process, 0)[1]), -signal.SIGKILL)
         if (self.prefix / "bin/note").exists():
             self.assertIn("usage", self.run_note("cat", "--help"))
         if verb == "install":

@@ -4,6 +4,7 @@ Sets of entries are made at random, with all that authors can do wrong or that o
 handed in one by one, in random orders and with repeats. With VIALSHOAL_EXAMPLES=N each test tries N times as
 many as else, and others each time.
 """
+import itertools
 import os
 import random
 import unittest
@@ -687,7 +688,7 @@ class MadeAnew(unittest.TestCase):
         self.assertEqual(self.incomplete(FORM.made_anew(self.typed, self.second), without=[self.typed]), 1)
 
     def test_what_counted_as_it_was_said_is_told_where_it_is_left_out_later(self) -> None:
-        claim = next(one for one in (FORM.claim(2, FORM.new_author()) for _ in range(10_000)) if rank(one) < rank(self.all[1]))
+        claim = next(one for one in (FORM.claim(2, FORM.new_author()) for _ in itertools.count()) if rank(one) < rank(self.all[1]))
         said, by = FORM.made_anew(self.more, self.second), self.all[-1]
         copied = Copied(self.second.name, 2, self.third.name, 3, ((2, 1, 1),), by.hash)
         copies = FORM.copies(copied, self.second, 2, self.more.hash)

@@ -8,6 +8,7 @@ from typing import Any, cast
 
 from share.program.site import Edited, Site
 from share.tests.editors import Editor, Engines
+from share.tests.servers import FileLog
 from share.tests.support import NOTE, Case, alive, wait_for
 from share.tests.waiting import PATIENCE
 from share.text.line import Line
@@ -193,8 +194,8 @@ class Shown(Engines):
         # As it closes the file the engine takes away what SQLite has beside it.
         wait_for(lambda: not alive(engine), "the engine to end")
         shutil.copytree(self.folder / "ada", self.folder / "copied", ignore=shutil.ignore_patterns("run"))
-        os.rename(self.folder / "shared", self.folder / "away")
-        (self.folder / "shared").write_bytes(b"")
+        log = FileLog(self.folder)
+        log.kill()
         # Both go on under one number, each with looks for old and new words.
         editors = [self.editor(data, looks=True) for data in ("ada", "copied")]
         for number, (editor, looks) in enumerate(zip(editors, (BOLD_RED, dict[str, Any](bold=True, colour=4)))):
@@ -202,8 +203,7 @@ class Shown(Engines):
             editor.settle()
             self.set(editor, [4 * number, 4 * number + 3], [14, 17], **looks)
             editor.settle()
-        (self.folder / "shared").unlink()
-        os.rename(self.folder / "away", self.folder / "shared")
+        log.start()
         for editor in editors:
             # What is made anew is gone for a moment, at which both may show the same.
             editor.wait_for(lambda: {"new0", "new1"} <= {*editor.text.split()}, "what both typed")

@@ -12,7 +12,7 @@ from unittest import mock
 
 from share.store.unchanged import FileWatch
 from share.tests.editors import Editor, Engines
-from share.tests.servers import RedisServer
+from share.tests.servers import FileLog, RedisServer
 from share.tests.support import Case, alive, change, damage, raws_of, type_at_the_end, wait_for, written
 
 PAGE = 4_096
@@ -33,14 +33,13 @@ class InAFile(Case):
         written(first, "begun ")
         second = self.opened(anna)
         type_at_the_end(second, "")
-        self.path.parent.rename(self.folder / "away")
-        self.path.parent.write_text("no folder")
+        log = FileLog(self.folder)
+        log.kill()
         for note, words in (first, "first "), (second, "second "):
             wait_for(lambda one=note: one.session.status().offline, "the log to be away")
             type_at_the_end(note, words)
             note.session.close()
-        self.path.parent.unlink()
-        (self.folder / "away").rename(self.path.parent)
+        log.start()
         again = self.opened(anna)
         self.assertEqual(self.assert_meet(again), b"begun first second ")
         berta = self.opened(self.person("berta"), link=anna.link())
@@ -178,8 +177,8 @@ class OwnFile(Case):
         real = FileWatch.written
 
         @contextlib.contextmanager
-        def spoiled(watch: FileWatch) -> Iterator[None]:
-            with real(watch):
+        def spoiled(watch: FileWatch, moves: bool = False) -> Iterator[None]:
+            with real(watch, moves):
                 yield
                 write_over(beside(person.path(), "-wal"), 0, bytes(32))
 
@@ -199,7 +198,7 @@ class OwnFile(Case):
             self.addCleanup(watch.let_go)
             for number in range(3):
                 head = beside(path, "-wal").read_bytes()[:32]
-                with watch.written():
+                with watch.written(moves=True):
                     file.execute("INSERT INTO words VALUES (?)", (number,))
                     self.assertEqual(file.execute("PRAGMA wal_checkpoint(RESTART)").fetchone()[0], 0)
                     file.execute("INSERT INTO words VALUES (?)", (number,))
@@ -218,10 +217,12 @@ def cut(path: pathlib.Path, part: float = 0.0) -> None:
 
 
 def write_over(path: pathlib.Path, at: int, data: bytes) -> None:
-    """Changes some bytes of a file."""
+    """Changes some bytes of a file, which then has another time than before."""
     file = os.open(path, os.O_RDWR)
     try:
-        os.pwrite(file, data, at)
+        before = os.fstat(file).st_ctime_ns
+        # What is written in the same moment of the system's clock leaves the same time.
+        wait_for(lambda: (os.pwrite(file, data, at), os.fstat(file).st_ctime_ns != before)[1], "the clock to go on")
     finally:
         os.close(file)
 
@@ -294,13 +295,16 @@ class SpoiltWhileOpen(Engines):
         return len([*self.person(data).path().parent.glob("note.note.damaged-*[0-9]")])
 
     def damaged_again_and_again(self, **more: str) -> None:
-        """That the user is told of each damage, the damaged file is kept, and all is there as soon as a key is answered."""
+        """That the user is told of each damage, the damaged file is kept, and all is there then; in a private note, to whose file only keys
+        are written, as soon as one is answered."""
         editor = self.begun("data", **more)
         for number, (what, spoils) in enumerate((one for one in DAMAGES.items() if one[0] != CUT_INDEX), 1):
             spoils(self.person().path())
             self.type(editor, f"{number} ")
-            self.assert_kept("data", what)
+            if not more:
+                self.assert_kept("data", what)
             editor.wait_for(lambda many=number: len(editor.notices("says")) >= many, f"{what} to be told")
+            self.assert_kept("data", what)
             self.assertRegex(editor.notices("says")[-1]["words"], "written anew. What was there is .*note.note.damaged-")
             self.assertEqual(self.asides("data"), number, what)
         editor.close()

@@ -1,7 +1,6 @@
 """Site numbers: claims, folders that were copied, disks that were put back, and what is made anew under another
 number."""
 import contextlib
-import os
 import shutil
 import threading
 from collections.abc import Sequence
@@ -24,7 +23,7 @@ from share.sync.session import Session
 from share.tests.forms import is_second_form
 from share.tests.naive import about, entry_of
 from share.tests.note import Note
-from share.tests.servers import RedisServer
+from share.tests.servers import FileLog, RedisServer
 from share.tests.support import Case, Person, claim_against, claim_of, claim_order, ons_of, type_at_the_end, wait_for, written
 
 
@@ -59,13 +58,11 @@ class Numbers(Case):
 
     def away(self) -> None:
         """Has nobody reach the log."""
-        os.rename(self.folder / "shared", self.folder / "away")
-        (self.folder / "shared").write_text("no folder")
+        FileLog(self.folder).kill()
 
     def back(self) -> None:
         """Has all reach the log again."""
-        (self.folder / "shared").unlink()
-        os.rename(self.folder / "away", self.folder / "shared")
+        FileLog(self.folder).start()
 
     def words_of(self, note: Note) -> list[str]:
         """The words that a note shows, sorted."""

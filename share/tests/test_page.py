@@ -14,7 +14,7 @@ import unittest
 
 from aiohttp import web
 
-from share.tests.pages import Pages, Server, kept
+from share.tests.pages import Pages, Server, keep_place, kept
 from share.tests.proved_files import give_up
 from share.tests.support import NOTE, TOP, engine_of, founders_search, take, type_at_the_end, wait_for, written
 from share.tests.waiting import PATIENCE
@@ -227,7 +227,7 @@ class Writing(Pages):
         first.type("one two three")
         second.shows("one two three")
         first.select(0, 3)
-        first.type(Keys.CONTROL, "b")
+        first.chord(Keys.CONTROL, "b")
         second.wait_for(LOOKS, ["one|bold|"])
         second.select(2, 7)
         second.run("document.getElementById('colour').value = '2'")
@@ -510,6 +510,7 @@ class Alone(Pages):
         engine = engine_of(self.data)
         os.kill(engine, signal.SIGSTOP)
         window.type(" or not")
+        window.shows("answered or not")
         os.kill(engine, signal.SIGKILL)
         window.state("kept here alone")
         window.shows("answered")
@@ -520,7 +521,8 @@ class Alone(Pages):
         self.assert_kept(self.data, window)
 
     def test_a_server_that_ended_is_known_again_and_another_one_gets_nothing(self) -> None:
-        server = self.server()
+        port, server = keep_place(self, self.data), self.server()
+        self.assertEqual(server.port, port)
         window = self.window(server)
         window.type("kept")
         wait_for(lambda: kept(self.data) == "kept", "the text to be kept")

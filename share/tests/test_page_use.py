@@ -10,7 +10,7 @@ import tempfile
 import threading
 import unittest
 
-from share.tests.pages import FAULTS_OF_LOOKS, LOOKS_SO, Pages, Server
+from share.tests.pages import LOOKS_SO, Pages, Server, looks_well
 from share.tests.proved_files import give_up
 from share.tests.support import NOTE, wait_for
 
@@ -94,18 +94,22 @@ ELEMENTS = """[...document.querySelectorAll('#formatted *')].map((one) => [one.t
 # Each is formatted or given up in bounded time, and none keeps the page from its user.
 DEEP = [">" * 20_000 + " x", "- " * 5_000 + "x", "[" * 50_000, "![" * 30_000, "*a " * 15_000 + "a* " * 15_000, "`" + "``a`" * 10_000,
         "<" * 50_000, "**a " * 20_000, "&" * 50_000, "|a" * 10_000 + "\n" + "|-" * 10_000 + "\n" + "|a\n" * 1_000, "a\n  " * 60_000]
-# A reader of Markdown on a slow machine, which takes six seconds, and says what it has done meanwhile or nothing.
-SLOW_READER = """((isHeard) => {
+# How long the page waits for what the reader of Markdown does next, and how long a name is shown, in ms.
+PATIENCE_MS, NAMED_MS = 4_000, 2_000
+# A reader of Markdown that says what the test has it say.
+SLOW_READER = """(() => {
   window.before ??= window.Worker;
+  window.reads = false;
   window.Worker = class {
-    constructor() { setTimeout(() => this.onmessage({ data: null })); }
-    postMessage() {
-      if (isHeard) [1, 2, 3].forEach((part) => setTimeout(() => this.onmessage({ data: part / 4 }), 1500 * part));
-      setTimeout(() => this.onmessage({ data: [["it was slow"]] }), 6000);
+    constructor() {
+      window.says = (data) => this.onmessage({ data });
+      setTimeout(() => window.says(null));
     }
+    postMessage() { window.reads = true; }
     terminate() { this.onmessage = () => {}; }
   };
-})(arguments[0])"""
+})()"""
+SAYS = "void window.says(arguments[0])"
 # Keeps the numbers that the reader says.
 HEARD = """(() => {
   window.before ??= window.Worker;
@@ -177,6 +181,8 @@ class Using(Pages):
         self.first.run(f"{MIRROR}.setValue('')")
         self.second.shows("")
         self.first.run(f"{MIRROR}.focus()")
+        # A busy machine reads Markdown for as long as it takes, and shows late who has moved.
+        self.first.holds_timers(PATIENCE_MS, NAMED_MS)
         Asked.asked.clear()
 
     def tearDown(self) -> None:
@@ -245,6 +251,7 @@ class Using(Pages):
         # It may be seen first where the cursor was before.
         first.wait_for("document.querySelector('.caret.moved') && getComputedStyle(document.querySelector('.caret b')).opacity === '1' "
                        f"&& {NAME_PLACE} >= 0")
+        first.time_goes_on(NAMED_MS)
         first.wait_for("document.querySelector('.caret:not(.moved)') && "
                        "getComputedStyle(document.querySelector('.caret b')).opacity === '0'")
         second.type("x")
@@ -460,6 +467,7 @@ class Using(Pages):
 
     def test_a_very_deep_text_doesn_t_hold_the_page_up(self) -> None:
         first = self.first
+        first.lets_timers_run()
         first.press("format")
         for number, text in enumerate(DEEP):
             first.run(f"{MIRROR}.setValue(arguments[0])", f"number {number}\n\n{text}")
@@ -470,15 +478,25 @@ class Using(Pages):
     def test_a_slow_reading_that_goes_on_is_waited_for(self) -> None:
         first = self.first
         self.put("*a word* ")
-        first.run(SLOW_READER, True)
         self.addCleanup(first.run, "(window.Worker = window.before)")
+        first.run(SLOW_READER)
         first.press("format")
-        first.wait_for(f"{FORMATTED} || {FORMATTED.replace('0', '1')}", "it was slow", "too long to be")
+        first.wait_for("window.reads")
+        for part in 1, 2, 3:
+            first.time_goes_on(PATIENCE_MS - 1)
+            first.run(SAYS, part / 4)
+        first.time_goes_on(PATIENCE_MS - 1)
+        first.run(SAYS, [["it was slow"]])
         self.assertEqual(first.run("document.getElementById('formatted').textContent"), "it was slow")
+        # What says nothing is given up.
         first.press("format")
-        first.run(SLOW_READER, False)
+        first.run(SLOW_READER)
         first.press("format")
-        first.wait_for(FORMATTED, "too long to be")
+        first.wait_for("window.reads")
+        first.time_goes_on(PATIENCE_MS - 1)
+        self.assertFalse(first.run(FORMATTED.replace("words", "arguments"), "too long to be"))
+        first.time_goes_on(1)
+        self.assertTrue(first.run(FORMATTED.replace("words", "arguments"), "too long to be"))
         first.press("format")
 
     def test_a_long_reading_says_that_it_goes_on(self) -> None:
@@ -514,7 +532,7 @@ class Using(Pages):
                 for button, away in (("format", "format"), ("replace", "found"), ("writers", "writers"), ("history", "back"),
                                      ("notes", "unlisted")):
                     first.run(f"document.getElementById('{button}').click()")
-                    self.assertEqual(first.run(FAULTS_OF_LOOKS, width < 500), [], (width, scheme, button))
+                    looks_well(first, width < 500)
                     first.run(f"document.getElementById('{away}').click()")
 
 

@@ -93,8 +93,8 @@ class OfEntries(InFiles):
         holds = 4 + 3 if begun_with[2].hashes < branches[1][0].hashes else 2 + 3
         builds = other.type(b"xyz", 50, Names(7, 1, 1), self.form.keys.built_on([begun_with[1].hashes[0]]))
         entries = [*self.begin, *begun_with, *branches[0], *branches[1], *builds]
-        for _ in range(5):
-            random.shuffle(entries)
+        for seed in range(5):
+            random.Random(seed).shuffle(entries)
             self.assert_same(self.made(entries, self.about), holds + 3, holds + 3)
 
     def test_what_is_left_out_with_what_builds_on_it_is_so_for_both(self) -> None:
@@ -190,8 +190,8 @@ class OfBases(InFiles):
     def test_a_base_is_the_same_in_any_order_of_its_entries(self) -> None:
         about, rows, _ = begun(None, self.messages(), SECOND)
         entries = [row.entry for row in rows]
-        for _ in range(5):
-            random.shuffle(entries)
+        for seed in range(5):
+            random.Random(seed).shuffle(entries)
             self.assert_same(self.made(entries, about), 81, 54)
         self.assert_same(self.made(entries[1:], about), 0, 0)
 

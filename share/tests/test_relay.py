@@ -33,7 +33,7 @@ from share.text.errors import Trouble
 WELCOME, ORIGIN = b"\2\1", "https://notes.example"
 POLICY_VIOLATION, TOO_BIG = 1008, 1009
 # So many come, of whom so many may be there.
-CROWD, PLACES = 10_000, 50
+CROWD, PLACES = 2_000, 50
 
 
 class Challenges(unittest.TestCase):
@@ -428,12 +428,12 @@ class Crowd(AtPort):
                         line.sendall(b"GET /relay/socket HTTP/1.1\r\nHost: x\r\n"[:number % 30])
                 if len(lines) > 300:
                     lines.pop(0).close()
-                if not number % 2_500:
+                if not number % 500:
                     log.append([record(number)])
-                    self.assertEqual(log.size(), number // 2_500 + 1)
+                    self.assertEqual(log.size(), number // 500 + 1)
             # Somebody more comes in while all of them are there.
             with closing(opener_of(self.relay.url, form_of())()) as other:
-                self.assertEqual(other.size(), CROWD // 2_500)
+                self.assertEqual(other.size(), CROWD // 500)
         for line in lines:
             line.close()
         self.assertLessEqual(most[0], PLACES)

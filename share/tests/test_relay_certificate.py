@@ -9,7 +9,7 @@ from typing import NamedTuple
 from unittest import mock
 
 from share.tests.relays import RelayProcess
-from share.tests.test_relay_front import ALL_SENT, IS_HERE, Front
+from share.tests.test_relay_front import ALL_SENT, IS_HERE, AtRelay
 from share.tests.test_relay_offline import IS_KEPT, IS_OFFLINE
 
 if IS_HERE:
@@ -44,7 +44,7 @@ def signed(folder: pathlib.Path, name: str, says: tuple[str, ...], by: Signed | 
 
 
 @unittest.skipUnless(shutil.which("certutil"), "certutil isn't here (Debian's libnss3-tools)")
-class Chained(Front):
+class Chained(AtRelay):
     """A relay whose certificate another one stands behind, and browsers that find it by its name."""
 
     @classmethod
@@ -57,15 +57,18 @@ class Chained(Front):
 
     def setUp(self) -> None:
         super().setUp()
-        self.relay.close()
         self.root = signed(self.folder, "root", AUTHORITY)
         between = signed(self.folder, "between", AUTHORITY, self.root)
         server = signed(self.folder, "server", SERVER, between)
         chain = self.folder / "chain.crt"
         chain.write_text(server.certificate.read_text() + between.certificate.read_text())
-        self.relay = RelayProcess(self.folder / "secure", "--certificate", str(chain), "--key", str(server.key), url=f"https://{HOST}:PORT")
-        self.addCleanup(self.gone.append, self.relay.url)
+        self.relay = RelayProcess(self.folder / "secure", "--certificate", str(chain), "--key", str(server.key), url=f"https://{HOST}:PORT",
+                                  page=self.page)
         self.addCleanup(self.relay.close)
+
+    @property
+    def url(self) -> str:
+        return self.relay.url
 
     def trusting(self) -> "Browser":
         """A browser whose user trusts the authority at the chain's end."""
@@ -85,14 +88,14 @@ class Chained(Front):
         stranger.close()
         self.browser = self.trusting()
         self.addCleanup(self.browser.close)
-        window = self.at(self.relay.url)
+        window = self.at()
         window.wait_for(IS_KEPT)
         link = self.made(window, "picnic")
         window.wait_for(ALL_SENT)
         self.assertTrue(link.startswith(f"{self.relay.url}/#"))
         self.assert_right(window)
         self.relay.kill()
-        other = self.at(self.relay.url)
+        other = self.at()
         other.click_on("#list button")
         other.wait_for(IS_OFFLINE)
         self.assertEqual(other.run("[document.getElementById('address').value, navigator.serviceWorker.controller !== null]"), [link, True])

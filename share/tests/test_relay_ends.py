@@ -71,7 +71,7 @@ class Killed(AtText):
             for tab in tabs:
                 tab.driver.get(link)
                 tab.wait_for(READY)
-                tab.state("all sent")
+                self.sent(tab)
             text = tabs[0].text()
             words = re.findall(r"([ab])([0-9]+)\.", text)
             self.assertEqual("".join(f"{name}{number}." for name, number in words), text)
@@ -94,7 +94,7 @@ class SetBack(AtText):
     def test_what_is_typed_then_is_kept_and_shown_as_ever(self) -> None:
         window, link = self.made_text()
         window.paste("before. ")
-        window.state("all sent")
+        self.sent(window)
         window.press("changed")
         window.wait_for(f"{SINCE}.startsWith('1 change')")
         window.press("unchanged")
@@ -108,7 +108,7 @@ class SetBack(AtText):
         behind.run(f"{MIRROR}.focus()")
         self.at_end(behind)
         behind.type("behind. ")
-        behind.state("all sent")
+        self.sent(behind)
         window.shows("before. behind. ")
         window.run(f"{MIRROR}.focus()")
         self.at_end(window)

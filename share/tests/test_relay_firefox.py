@@ -10,7 +10,7 @@ from share.format.second.key_link import link_of
 from share.log.opening import opener_of
 from share.relay.page_files import PageFiles
 from share.tests.firefox import FIREFOX, firefox
-from share.tests.relays import RelayHere, RelayProcess, with_core
+from share.tests.relays import RelayHere, RelayProcess, page_of_free_claims, with_core
 from share.tests.support import Case, raws_of
 from share.tests.test_site_modules import VECTORS, beside_modules, searches
 
@@ -25,7 +25,7 @@ class InFirefox(Case, unittest.IsolatedAsyncioTestCase):
         with_core(self)
 
     async def test_a_note_is_made_and_what_others_append_is_seen(self) -> None:
-        relay = RelayProcess(self.folder / "kept")
+        relay = RelayProcess(self.folder / "kept", page=page_of_free_claims(self.folder / "served"))
         self.addCleanup(relay.close)
         async with firefox(self.profile) as browser:
             await browser.goes_to(relay.url)

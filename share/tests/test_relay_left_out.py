@@ -14,7 +14,6 @@ from share.format.second.signature import public_of
 from share.log.opening import opener_of
 from share.tests.naive import inserting
 from share.tests.pages import is_fault
-from share.tests.relays import RelayProcess, page_of_free_claims
 from share.tests.support import raws_of
 from share.tests.test_relay_front import IS_HERE
 from share.tests.test_relay_text import NUMBERS, PAST, READY, STEP, AtText
@@ -34,11 +33,11 @@ IS_LEFT_OUT = "document.getElementById('state').textContent.includes('left out')
 class Forked(AtText):
     """Two copies of a browser's numbers, of which the other one says what holds."""
 
-    def outdoes(self, form: SealedRecords, url: str, window: "Window", seq: int) -> None:
+    def outdoes(self, form: SealedRecords, window: "Window", seq: int) -> None:
         """Has the other copy of whoever founded a note in a browser say something else in the place of a message, by a lesser hash."""
         secret = bytes(window.run(FOUNDER))
         author = Author(public_of(secret), secret)
-        with closing(opener_of(url, form)()) as log:
+        with closing(opener_of(self.relay.url, form)()) as log:
             opened = [form.open(raw) for raw in raws_of(log) if raw]
             said = {message.seq: (one, message) for one in opened if one.kind is RecordKind.MESSAGES and one.author == author.name
                     for message in one.messages}
@@ -61,16 +60,16 @@ class Forked(AtText):
         window.press("recover")
         window.wait_for(f"!{IS_LEFT_OUT}")
         window.wait_for("document.getElementById('past').hidden")
-        window.state("all sent")
+        self.sent(window)
 
     def test_who_typed_it_is_told_and_types_it_again(self) -> None:
         window, link = self.made_text()
-        window.type("both here")
-        window.state("all sent")
+        self.types_each(window, "both here")
+        self.sent(window)
         # What was deleted again isn't told.
-        window.type("e\ue003")
-        window.state("all sent")
-        self.outdoes(SealedRecords(link_of(link).secret), self.relay.url, window, len("both h"))
+        self.types_each(window, "e\ue003")
+        self.sent(window)
+        self.outdoes(SealedRecords(link_of(link).secret, 0), window, len("both h"))
         window.wait_for(f"{MIRROR}.getValue().startsWith('both there')")
         other = window.text()
         window.state("left out: 4 of you")
@@ -88,7 +87,7 @@ class Forked(AtText):
         window.run(f"{MIRROR}.focus()")
         self.at_end(window)
         window.type("!")
-        window.state("all sent")
+        self.sent(window)
         for words in ("cat", "picnic"), ("log", "picnic"):
             run = self.in_terminal(*words, link=link)
             self.assertEqual(run.returncode, 0, run.stderr)
@@ -98,35 +97,30 @@ class Forked(AtText):
         window.driver.refresh()
         window.wait_for(READY)
         window.shows(wanted + "!")
-        window.state("all sent")
+        self.sent(window)
         self.assertFalse(window.run(IS_LEFT_OUT))
         self.assertEqual(len(window.run(NUMBERS)), 1)
         self.assertEqual([line for line in window.told() if is_fault(line)], [])
 
     def test_what_somebody_else_types_again_is_told_no_more(self) -> None:
         window, link = self.made_text()
-        window.type("both here")
-        window.state("all sent")
-        self.outdoes(SealedRecords(link_of(link).secret), self.relay.url, window, len("both h"))
+        self.types_each(window, "both here")
+        self.sent(window)
+        self.outdoes(SealedRecords(link_of(link).secret, 0), window, len("both h"))
         window.state("left out: 4 of you")
+        window.wait_for(f"{MIRROR}.getValue().startsWith('both there')")
         other = window.text()
         self.assertEqual(self.in_terminal("append", "picnic", "!", link=link).returncode, 0)
         run = self.in_terminal("recover", "--lost", "picnic")
         self.assertIn("Typed again: 4 characters", run.stdout + run.stderr)
         window.shows(other.replace("both ", "both here") + "!\n")
         window.wait_for(f"!{IS_LEFT_OUT}")
-        window.state("all sent")
+        self.sent(window)
         self.assertEqual([line for line in window.told() if is_fault(line)], [])
 
     def test_who_built_on_it_too(self) -> None:
-        free = RelayProcess(self.folder / "free", page=page_of_free_claims(self.folder / "page"))
-        self.addCleanup(free.close)
-        window = self.at(free.url)
-        link = self.made(window, "picnic")
-        window.press("text")
-        window.wait_for(READY)
-        window.run(f"{MIRROR}.focus()")
-        window.type("both here")
+        window, link = self.made_text()
+        self.types_each(window, "both here")
         other = self.browser.window_apart()
         self.addCleanup(self.leave, other)
         other.driver.get(link)
@@ -136,7 +130,7 @@ class Forked(AtText):
         self.at_end(other)
         other.type(" and Ann")
         window.shows("both here and Ann")
-        self.outdoes(SealedRecords(link_of(link).secret, 0), free.url, window, len("both h"))
+        self.outdoes(SealedRecords(link_of(link).secret, 0), window, len("both h"))
         other.state("8 of you")
         window.state("4 of you")
         wait_for(lambda: len(other.run(NUMBERS)) == 2, "another number")

@@ -9,6 +9,7 @@ import time
 import unittest
 from collections.abc import Callable
 from contextlib import closing
+from typing import Any
 from unittest import mock
 
 from share.format.entry import Plain
@@ -197,8 +198,17 @@ class InFolder(AtRelay):
     def test_a_watch_ends_as_the_relay_does(self) -> None:
         log = self.log_of()
         self.assertEqual(log.read(START), [])
-        threading.Timer(0.3, self.relay.stop).start()
-        log.watch(START, 10 * PATIENCE)
+        begun, waits = threading.Event(), Bell.waits
+
+        def is_waiting(bell: Bell, *words: Any) -> bool:
+            begun.set()
+            return waits(bell, *words)
+
+        stopping = threading.Thread(target=lambda: (begun.wait(PATIENCE), self.relay.stop()))
+        stopping.start()
+        with mock.patch.object(Bell, "waits", is_waiting):
+            log.watch(START, 10 * PATIENCE)
+        stopping.join()
         with self.assertRaises(Unreachable):
             log.read(START)
 
@@ -495,23 +505,28 @@ class Killed(test_logs.Case):
         relay = RelayProcess(self.folder / "kept")
         self.addCleanup(relay.close)
         opens, number = RelayLogs(relay.url, form_of()), 0
-        for _ in range(3):
+        for many in 1, 10, 100:
             kept = list[bytes]()
-            with closing(opens()) as log:
-                killer = threading.Timer(0.5, relay.process.kill)
-                with contextlib.suppress(Unreachable):
-                    while True:
-                        log.append([record(number)])
-                        if not kept:
-                            killer.start()
-                        kept.append(record(number))
-                        number += 1
-                self.assertTrue(kept)
-                killer.join()
+            # While the next one is on its way.
+            killer = threading.Thread(target=self.kill, args=(relay, kept, many))
+            killer.start()
+            with closing(opens()) as log, contextlib.suppress(Unreachable):
+                while True:
+                    log.append([record(number)])
+                    kept.append(record(number))
+                    number += 1
+            killer.join()
+            self.assertGreaterEqual(len(kept), many)
             relay.kill()
             relay.start()
             with closing(opens()) as log:
                 self.assertLessEqual({*kept}, {*raws(log)})
+
+    @staticmethod
+    def kill(relay: RelayProcess, kept: list[bytes], many: int) -> None:
+        """Kills a relay once it has said to keep so many."""
+        wait_for(lambda: len(kept) >= many, "entries to be kept")
+        relay.process.kill()
 
     def test_two_relays_have_two_folders(self) -> None:
         relay = RelayProcess(self.folder / "kept")

@@ -3,14 +3,15 @@ import contextlib
 import pathlib
 import shutil
 import unittest
+from collections.abc import Iterator
 from typing import TYPE_CHECKING
 from unittest import mock
 
-from share.relay.page_files import PAGE_FOLDER, PageFile, PageFiles
+from share.relay.page_files import PageFile, PageFiles
 from share.tests.firefox import FIREFOX, firefox
-from share.tests.relays import RelayHere, with_core
+from share.tests.relays import RelayHere, page_of_free_claims, with_core
 from share.tests.support import Case
-from share.tests.test_relay_front import ALL_SENT, STANDING, WORDS, Front
+from share.tests.test_relay_front import ALL_SENT, STANDING, WORDS, AtRelay
 from share.tests.waiting import wait_for
 
 if TYPE_CHECKING:
@@ -45,14 +46,15 @@ class Versions:
     """Versions of the page, and a relay that offers one after the other."""
 
     def __init__(self, folder: pathlib.Path):
-        self._folder = folder
-        self.offered = PageFiles()
-        self.relay = RelayHere(folder / "kept")
+        self._folder, self._page = folder, pathlib.Path(page_of_free_claims(folder / "first"))
+        self.first = self.offered = PageFiles(self._page)
+        with self._offering():
+            self.relay = RelayHere(folder / "kept")
 
     def offer(self, name: str, **changes: tuple[str, str]) -> PageFiles:
         """Has the relay end, and begin with a version in which some files are changed, of which it has a title."""
         site = self._folder / name
-        shutil.copytree(PAGE_FOLDER, site)
+        shutil.copytree(self._page, site)
         for file, (old, new) in {"index_html": ("<title>Notes", f"<title>{name}"), **changes}.items():
             path = site / file.replace("_", ".")
             text = path.read_text()
@@ -62,25 +64,38 @@ class Versions:
         self.again()
         return self.offered
 
+    def kept(self) -> str:
+        """What a browser calls the first version, of which it keeps the files."""
+        return f"page {self.first.files['/'].digest()}"
+
     def again(self) -> None:
         """Has the relay end and begin."""
         self.relay.stop()
-        with mock.patch("share.relay.server.PageFiles", lambda: self.offered):
+        with self._offering():
             self.relay.start()
 
+    @contextlib.contextmanager
+    def _offering(self) -> Iterator[None]:
+        """A relay that begins meanwhile has this version."""
+        with mock.patch("share.relay.server.PageFiles", lambda: self.offered):
+            yield
 
-class Offline(Front):
+
+class Offline(AtRelay):
     """In Chromium."""
 
     def setUp(self) -> None:
         super().setUp()
-        self.relay.close()
         self.versions = Versions(self.folder)
         self.addCleanup(self.versions.relay.close)
 
+    @property
+    def url(self) -> str:
+        return self.versions.relay.url
+
     def kept(self) -> "Window":
         """A window of a version that the browser keeps."""
-        window = self.at(self.versions.relay.url)
+        window = self.at()
         window.wait_for(IS_KEPT)
         return window
 
@@ -90,7 +105,7 @@ class Offline(Front):
         window.wait_for(ALL_SENT)
         window.close()
         self.versions.relay.stop()
-        window = self.at(self.versions.relay.url)
+        window = self.at()
         window.click_on("#list button")
         window.wait_for(IS_OFFLINE)
         self.assertEqual(window.run("document.getElementById('address').value"), link)
@@ -100,15 +115,15 @@ class Offline(Front):
         self.made(window, "second")
         # A link in the address is taken out of it, too.
         other = self.at(link, IS_OFFLINE)
-        self.assertEqual(other.run("[location.href, document.getElementById('address').value]"), [f"{self.versions.relay.url}/", link])
-        self.assertEqual(window.run("caches.keys()"), [f"page {PageFiles().files['/'].digest()}"])
+        self.assertEqual(other.run("[location.href, document.getElementById('address').value]"), [f"{self.url}/", link])
+        self.assertEqual(window.run("caches.keys()"), [self.versions.kept()])
         self.versions.again()
         window.wait_for(ALL_SENT)
         other.wait_for(ALL_SENT)
 
     def test_another_version_is_taken_as_the_user_says(self) -> None:
         window, other = self.kept(), self.kept()
-        before = listed(PageFiles())
+        before = listed(self.versions.first)
         after = listed(self.versions.offer("Other", front_css=("16px", "17px"), searching_js=("postMessage", "self.postMessage")))
         for _ in range(3):
             window.driver.refresh()
@@ -132,7 +147,7 @@ class Offline(Front):
         # Both of these are of the new one, also without the relay; nothing is left of the old one.
         self.versions.relay.stop()
         window.close()
-        window = self.at(self.versions.relay.url)
+        window = self.at()
         self.assertEqual(window.run("document.title"), "Other")
         wait_for(lambda: len(window.run("caches.keys()")) == 1, "the old version to be dropped")
         self.assertEqual(window.run("document.querySelectorAll('#list button').length"), 1)
@@ -155,14 +170,14 @@ class Offline(Front):
         self.versions.offered.files["/other"] = PageFile("text/html", b"<title>Other</title>")
         self.versions.again()
         for path, words in ("/other", "<title>Other</title>"), ("/other?x#y", "<title>Other</title>"), ("/digests", "index.html"):
-            window.driver.get(self.versions.relay.url + path)
+            window.driver.get(self.url + path)
             window.wait_for("document.contentType === 'text/plain' && document.body.textContent.includes(words[0])", words)
         # Nor is what somebody elsewhere has it send there.
         window.driver.get("data:text/html,<form method=post></form>")
         submits = "((form, to) => { form.action = to; form.submit(); })(document.forms[0], arguments[0])"
-        window.run(submits, f"{self.versions.relay.url}/other")
+        window.run(submits, f"{self.url}/other")
         window.wait_for("location.pathname === '/other' && document.contentType === 'text/plain'")
-        window.driver.get(self.versions.relay.url)
+        window.driver.get(self.url)
         window.wait_for(IS_KEPT)
 
     def test_a_version_that_is_not_what_it_says_is_not_taken(self) -> None:
@@ -170,7 +185,7 @@ class Offline(Front):
         other = self.versions.offer("Other")
         right, wrong = dict(other.files), PageFile("text/javascript", b"document.title = 'broken';")
         script, worker = (next(one for one in right if one.startswith(f"/{name}.")) for name in ("front", "offline"))
-        elsewhere = PageFiles().digests()
+        elsewhere = self.versions.first.digests()
         for address, lists in (script, other.digests()), (worker, other.digests()), ("", elsewhere):
             other.files.clear()
             other.files.update(right)
@@ -178,7 +193,7 @@ class Offline(Front):
                 other.files[address] = wrong
             with mock.patch.object(other, "digests", lambda lists=lists: lists):
                 self.versions.again()
-            window = self.at(self.versions.relay.url)
+            window = self.at()
             window.wait_for(f"!{OFFERED}.hidden")
             window.click_on("#take")
             window.wait_for(f"{WORDS}.includes('stays with the one that it has')")
@@ -205,7 +220,7 @@ class Offline(Front):
         window.run("caches.keys().then((names) => Promise.all(names.map((name) => caches.delete(name))))")
         window.driver.refresh()
         window.wait_for(f"{IS_KEPT} && {NOT_OFFERED}")
-        wait_for(lambda: window.run("caches.keys()") == [f"page {PageFiles().files['/'].digest()}"], "the version to be kept again")
+        wait_for(lambda: window.run("caches.keys()") == [self.versions.kept()], "the version to be kept again")
         # And where another one is offered meanwhile, that is shown, and says so.
         window.run("caches.keys().then((names) => Promise.all(names.map((name) => caches.delete(name))))")
         self.versions.offer("Other")

@@ -15,12 +15,13 @@ from share.format.second.key_link import KeyLink
 from share.format.second.keys import new_founding
 from share.log.opening import opener_of
 from share.review.record import MARGIN, sum_of
-from share.tests.cards import BUTTONS, IS_WRITTEN, MARKED, STATE, Cards
+from share.tests.cards import BUTTONS, IS_WRITTEN, MARKED, REST_MS, STATE, Cards
 from share.tests.editors import Editor
 from share.tests.naive_margin import Fields
 from share.tests.test_margin import WRONG, Typed, begun, line
 from share.tests.test_relay_front import IS_HERE, NO_ROOM
 from share.tests.test_relay_text import NO_ROOM_TOLD, READY, AtText
+from share.tests.waiting import wait_for
 from share.text.line import Line
 
 if TYPE_CHECKING:
@@ -37,6 +38,8 @@ PUT = "document.querySelector('main .remarked.suggestion.put')?.dataset.put"
 # Each thread that is listed, and whether its text isn't here.
 SHOWN = """[...document.querySelectorAll('.card')].map((one) => [one.dataset.thread, ...one.className.split(' ').slice(1, 3),
   one.ariaLabel.includes("its text isn't here")]).sort(([one], [other]) => (one < other ? -1 : 1))"""
+# How many locks the tabs of this browser have at a relay's page: one of the note's line, and one of each tab's number.
+LOCKS_HELD = "navigator.locks.query().then(({ held }) => held.length)"
 SITE = 7
 
 
@@ -55,8 +58,10 @@ class AtMargin(Cards, AtText):
 
     @staticmethod
     def threads(editor: Editor) -> list[Line]:
-        """What an engine tells of all threads."""
-        found: list[Line] = editor.ask("remarks", version=editor.mirror.version)["threads"]
+        """What an engine tells of all threads, where its text has changed meanwhile of the newer one."""
+        answer: Line = editor.wait_for(lambda: next((one for one in [editor.ask("remarks", version=editor.mirror.version)]
+                                                     if one.get("error") != "stale"), None), "an answer about the text of now")
+        found: list[Line] = answer["threads"]
         return found
 
     def told(self, editor: Editor, wanted: list[Line]) -> None:
@@ -85,7 +90,7 @@ class Remarks(AtMargin):
     def test_a_remark_of_a_page_is_answered_by_an_engine(self) -> None:
         window, ann, _ = self.both()
         self.remark(window, "the mill", "Is it open then?")
-        window.state("all sent")
+        self.sent(window)
         window.wait_for(MARKED, ["the mill"])
         at = WORDS.index("the mill")
         self.told(ann, [{"name": "Bea", "body": "Is it open then?", "text": "the mill", "begin": at, "end": at + 8, "state": "open",
@@ -135,12 +140,13 @@ class Remarks(AtMargin):
         window.run(f"{MIRROR}.focus()")
         at = window.text().index("tea")
         window.select(at, at + 4)
-        window.type(Keys.DELETE)
+        window.type_over(Keys.DELETE)
         ann.shows("First: " + WORDS.replace("tea ", ""))
         self.told(ann, [{"gone": True, "text": "tea", "begin": at, "end": at}])
         window.wait_for("document.querySelector('main .remarked.gone, .card .gone, .card')")
         window.run(f"{MIRROR}.execCommand('undo')")
         window.wait_for(MARKED, ["tea"])
+        self.sent(window)
         # Who opens the note anew, or for the first time, sees the same.
         for one in window, self.text_of(link):
             one.driver.refresh()
@@ -153,7 +159,7 @@ class Remarks(AtMargin):
     def test_two_pages_at_once(self) -> None:
         window, link = self.made_text()
         window.paste(WORDS)
-        window.state("all sent")
+        self.sent(window)
         other = self.text_of(link)
         other.shows(WORDS)
         self.remark(window, "mill", "one")
@@ -165,7 +171,9 @@ class Remarks(AtMargin):
         other.gives(f"{BUTTONS}.map((one) => one.textContent)", ["Reply", "Resolve", "Edit", "Take back"])
         self.press(other, "Take back")
         other.wait_for("document.getElementById('words').textContent.includes('another tab of yours has now')")
+        held = other.run(LOCKS_HELD)
         window.close()
+        wait_for(lambda: other.run(LOCKS_HELD) == held - 1, "the number of the closed tab to be let go")
         self.press(other, "Take back")
         other.wait_for("document.querySelector('.card.active > div > .body').textContent === 'taken back'")
         other.run(f"{MIRROR}.focus()")
@@ -175,7 +183,7 @@ class Remarks(AtMargin):
 
     def test_a_remark_without_the_relay_is_sent_later(self) -> None:
         window, ann, _ = self.both()
-        window.state("all sent")
+        self.sent(window)
         self.relay.kill()
         window.state("offline")
         self.remark(window, "jam", "Which one?")
@@ -187,14 +195,14 @@ class Remarks(AtMargin):
         window.wait_for(MARKED, ["jam"])
         self.assertEqual(self.threads(ann), [])
         self.relay.start()
-        window.state("all sent")
+        self.sent(window)
         self.told(ann, [{"body": "Which one?", "text": "jam"}])
         self.assert_right(window)
 
     def test_a_remark_that_cannot_be_kept_is_told_and_stays_a_draft(self) -> None:
         window, link = self.made_text()
         window.paste(WORDS)
-        window.state("all sent")
+        self.sent(window)
         window.run("void (window.adds = IDBObjectStore.prototype.add)")
         window.run(NO_ROOM)
         at = WORDS.index("mill")
@@ -212,7 +220,7 @@ class Remarks(AtMargin):
         window.click_on(".draft textarea")
         window.type(Keys.CONTROL, Keys.ENTER)
         window.wait_for(MARKED, ["mill"])
-        window.state("all sent")
+        self.sent(window)
         self.told(eve, [{"body": "why?", "text": "mill"}])
         self.assert_right(window)
 
@@ -270,7 +278,7 @@ class Suggestions(AtMargin):
         self.told(ann, [{"state": "resolved"}, {"state": "rejected"}])
         self.assert_right(window)
 
-    def test_where_the_passage_has_changed_both_are_shown_before_it_is_accepted(self) -> None:
+    def test_where_the_passage_has_changed_it_is_shown_what_it_becomes_before_it_is_accepted(self) -> None:
         window, ann, _ = self.both()
         self.done(ann, "suggest", **self.about(ann, "by the mill"), new="at the lake")
         window.gives(PUT, "at the lake")
@@ -280,13 +288,22 @@ class Suggestions(AtMargin):
         self.card(window, "at the lake")
         self.press(window, "Accept")
         window.gives("[...document.querySelectorAll('.card.active dd')].map((one) => one.textContent)",
-                     ["by the mill", "by side of the mill", "at the lake"])
-        self.press(window, "Accept anyway")
-        ann.shows("We meet side of at the lake at ten.\nBring tea and jam.\n")
+                     ["by the mill", "by side of the mill", "side of at the lake"])
+        # She types there once more, so what was shown isn't what would come.
+        ann.edit((at, at, "far "))
+        window.shows(WORDS.replace("by the mill", "by far side of the mill"))
+        self.press(window, "Accept this")
+        window.gives("[...document.querySelectorAll('.card.active dd')].map((one) => one.textContent)",
+                     ["by the mill", "by far side of the mill", "far side of at the lake"])
+        ann.shows(window.text())
+        self.press(window, "Accept this")
+        ann.shows("We meet far side of at the lake at ten.\nBring tea and jam.\n")
         self.assert_right(window)
 
     def test_what_is_typed_while_suggesting_is_suggested(self) -> None:
         window, ann, _ = self.both()
+        # On a busy machine keys come as late as after a rest.
+        window.holds_timers(REST_MS)
         window.press("suggesting")
         window.run(f"{MIRROR}.focus()")
         window.to(WORDS.index("tea"))
@@ -306,7 +323,7 @@ class Forged(AtMargin):
     def test_the_page_has_the_threads_that_an_engine_has(self) -> None:
         founder = SealedRecords.author_of_any_note()
         founding = new_founding(founder.name, SITE)
-        form = SealedRecords(founding.key())
+        form = SealedRecords(founding.key(), 0)
         text = form.messages(_packed([_inserted(TEXT, 1, 1, 0, WORDS.replace("\n", "\r").encode())]), NO_HASH, founder)
         branches = [self._branch(random.Random(seed), text.hashes[0]) for seed in range(2)]
         stranger = form.messages(_packed(_in_a_row([line(begun(body="a stranger"))])), NO_HASH, form.new_author())

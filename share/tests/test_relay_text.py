@@ -18,7 +18,7 @@ from unittest import mock
 
 from share.format.chunk import packed
 from share.format.entry import NO_HASH
-from share.format.second.claim import rank_of
+from share.format.second.claim import CLAIMED_BYTES, rank_of
 from share.format.second.form import SealedRecords
 from share.format.second.key_link import KeyLink, link_of, read_key_link
 from share.format.second.keys import new_founding
@@ -26,10 +26,10 @@ from share.format.second.record import RecordKind
 from share.format.second.signature import public_of
 from share.log.opening import opener_of
 from share.relay.page_files import core_path, missing_for_texts
-from share.tests.pages import FAULTS_OF_LOOKS, LOOKS_SO, Server
+from share.tests.pages import LOOKS_SO, Server, looks_well
 from share.tests.processes import children
 from share.tests.naive import inserting
-from share.tests.relays import RelayHere, RelayProcess, page_of_free_claims
+from share.tests.relays import RelayHere, RelayProcess
 from share.tests.support import alive, raws_of
 from share.tests.test_relay_front import ALL_SENT, IS_HERE, NO_ROOM, Silent
 from share.tests.test_relay_offline import REFUSED
@@ -63,6 +63,13 @@ NUMBERS = """new Promise((done) => { indexedDB.open("vialshoal").onsuccess = ({ 
     done((found.result[0].numbers ?? []).map(({ site, counter, secret }) => [site, String(counter), [...secret]]));
   };
 }; })"""
+# How many entries it keeps that the relay may lack.
+UNSENT = """new Promise((done) => { indexedDB.open("vialshoal").onsuccess = ({ target }) => {
+  target.result.transaction("entries").objectStore("entries").index("unsent").count().onsuccess = ({ target: found }) => {
+    target.result.close();
+    done(found.result);
+  };
+}; })"""
 HEADINGS = "[...document.querySelectorAll('#formatted h1, #formatted h2')].map((one) => one.textContent).join()"
 PAST = "document.querySelector('#past-text .CodeMirror').CodeMirror.getValue()"
 STEP, SINCE = (f"document.getElementById('{name}').textContent" for name in ("step", "since-words"))
@@ -94,6 +101,8 @@ READS_ALL = """void ((getAll) => {
 NEVER_ANSWERED = "StorageManager.prototype.persist = () => new Promise(() => {});"
 ON = "[...document.querySelectorAll('#people li')].map((one) => one.textContent).sort().join()"
 CARETS = "[...document.querySelectorAll('.caret b')].map((one) => one.textContent)"
+# The first byte behind the number in a rank that isn't low.
+LEAST_RANK = 64
 # What a page has for its user to do.
 CONTROLS = "button", "textbox", "combobox", "searchbox", "checkbox"
 # What would do something if a page, or a program of it, read it as more than text.
@@ -128,6 +137,20 @@ class AtText(AtPage):
         """Moves the cursor to the end."""
         window.run(f"{MIRROR}.execCommand('goDocEnd')")
 
+    @staticmethod
+    def types_each(window: "Window", keys: str) -> None:
+        """Presses keys one after the other, each of which is a message of its own. Of several at once a page makes one where it is slow."""
+        for key in keys:
+            window.type(key)
+            window.settles()
+
+    @staticmethod
+    def sent(window: "Window") -> None:
+        """Waits until all that was typed is on the disk, and at the relay. The words for that are shown before it, too."""
+        window.settles()
+        wait_for(lambda: window.run(UNSENT) == 0, "all to be sent")
+        window.state("all sent")
+
 
 class Typed(AtText):
     """What is typed."""
@@ -142,7 +165,7 @@ class Typed(AtText):
         self.at_end(window)
         window.paste("from a page")
         ann.shows("from an engine\nfrom a page")
-        window.state("all sent")
+        self.sent(window)
         # Both see where the other one is, and are called as they say.
         ann.send({"do": "cursor", "version": ann.mirror.version, "at": 4})
         window.gives(CARETS, ["Ann"])
@@ -171,7 +194,7 @@ class Typed(AtText):
     def test_who_opens_a_link_sees_the_text_and_types_under_another_number(self) -> None:
         window, link = self.made_text()
         window.type("one")
-        window.state("all sent")
+        self.sent(window)
         other = self.text_of(link)
         other.shows("one")
         self.assertEqual(other.run("[location.hash.length, document.title]"), [33, "picnic"])
@@ -183,6 +206,8 @@ class Typed(AtText):
             other.type("b")
         wait_for(lambda: window.text() == other.text() and len(window.text()) == 27, "both tabs to show the same")
         self.assertEqual(sorted(window.text()), sorted("one two" + "ab" * 10))
+        for one in window, other:
+            self.sent(one)
         # What each typed is by a number of its own, though the browser is one.
         self.assertEqual(self.engine_text(link), window.text())
         other.driver.refresh()
@@ -197,7 +222,7 @@ class Typed(AtText):
     def test_what_is_undone_while_something_is_kept_is_kept_too(self) -> None:
         window, link = self.made_text()
         window.paste("kept")
-        window.state("all sent")
+        self.sent(window)
         window.run(KEEPING_IS_HELD)
         window.to(0)
         window.paste("more ")
@@ -205,7 +230,7 @@ class Typed(AtText):
         window.run(f"{MIRROR}.execCommand('undo')")
         window.shows("kept")
         window.run("void window.keeps()")
-        window.state("all sent")
+        self.sent(window)
         self.assertEqual(self.engine_text(link), "kept")
         # So are looks.
         window.run(KEEPING_IS_HELD)
@@ -214,21 +239,21 @@ class Typed(AtText):
         window.select(0, 4)
         window.press("bold")
         window.run("void window.keeps()")
-        window.state("all sent")
+        self.sent(window)
         other = self.at(link, "document.querySelectorAll('#text [style*=bold]').length === 1")
         self.assert_right(window, other)
 
     def test_a_renewed_note_shows_what_was_copied(self) -> None:
         window, link = self.made_text()
         window.paste("copied")
-        window.state("all sent")
+        self.sent(window)
         self.assertEqual(self.in_terminal("append", "picnic", ", too", link=link).returncode, 0)
         window.shows("copied, too\n")
         renewed = self.in_terminal("renew", "picnic", "--yes", "--form", "2", "--log", self.relay.url)
         self.assertEqual(renewed.returncode, 0, renewed.stderr)
         key_link = read_key_link(self.in_terminal("link", "picnic").stdout.strip())
         # Whoever has the link can make what looks like more of it.
-        form, stray = SealedRecords(key_link.secret), packed([inserting(9, 1, 1, None, 0, b"stray")])
+        form, stray = SealedRecords(key_link.secret, 0), packed([inserting(9, 1, 1, None, 0, b"stray")])
         assert stray
         with closing(opener_of(self.relay.url, form)()) as log:
             log.append([form.base(stray, os.urandom(32)).raw])
@@ -236,14 +261,14 @@ class Typed(AtText):
         other.shows("copied, too\n")
         self.at_end(other)
         other.paste("and more")
-        other.state("all sent")
+        self.sent(other)
         self.assertEqual(self.in_terminal("cat", "picnic").stdout, "copied, too\nand more")
         # The page of before is told of it.
         window.state("renewed by")
 
     def test_what_a_note_begins_with_and_is_not_here_is_told(self) -> None:
         founding = new_founding(SealedRecords.author_of_any_note().name, 1, os.urandom(32))
-        form = SealedRecords(founding.key())
+        form = SealedRecords(founding.key(), 0)
         with closing(opener_of(self.relay.url, form)()) as log:
             log.append([form.opening(founding).raw])
         window = self.at(KeyLink("sealed", founding.key(), self.relay.url).page(),
@@ -251,13 +276,12 @@ class Typed(AtText):
         self.assert_right(window)
 
     def test_in_another_browser_the_text_is_typed_into(self) -> None:
-        """Of which nothing is here but the link, and whose number is searched for as all have to."""
+        """Of which nothing is here but the link."""
         window, link = self.made_text()
         window.type("here")
-        window.state("all sent")
-        browser = Browser(390, 800)
-        self.addCleanup(browser.close)
-        other = browser.window()
+        self.sent(window)
+        other = self.browser.window_apart()
+        self.addCleanup(self.leave, other)
         other.driver.get(link)
         other.wait_for(READY)
         other.shows("here")
@@ -265,7 +289,7 @@ class Typed(AtText):
         self.at_end(other)
         other.type(" and there")
         window.shows("here and there")
-        other.state("all sent")
+        self.sent(other)
         self.assertEqual(other.run("document.title"), "Note 1")
 
     def test_hostile_text_is_text(self) -> None:
@@ -300,7 +324,7 @@ class Formatted(AtText):
         self.at_end(window)
         window.type("## More")
         window.wait_for(f"{HEADINGS} === 'Picnic,More'")
-        wait_for(lambda: window.run(MESSAGES_KEPT) == 1 + len("## More"), "what was typed to be kept")
+        window.settles()
         # What it is read by is kept once it was used.
         self.relay.kill()
         window.state("offline")
@@ -320,7 +344,7 @@ class Before(AtText):
         window, link = self.made_text()
         window.rename("Bea")
         window.type("mine")
-        window.state("all sent")
+        self.sent(window)
         ann = self.engine_of("Ann", link, colour="#123456")
         ann.gets_number()
         ann.wait_for(lambda: ann.text == "mine", "the page's text")
@@ -359,8 +383,8 @@ class Before(AtText):
     def test_what_does_not_count_is_told_and_shown(self) -> None:
         window, link = self.made_text()
         window.type("counts")
-        window.state("all sent")
-        form = SealedRecords(link_of(link).secret)
+        self.sent(window)
+        form = SealedRecords(link_of(link).secret, 0)
         with closing(opener_of(self.relay.url, form)()) as log:
             opened = (form.open(raw) for raw in raws_of(log) if raw)
             site = next(one.site for one in opened if one.kind is RecordKind.MESSAGES)
@@ -387,7 +411,7 @@ class Before(AtText):
     def test_what_has_changed_since_the_user_looked(self) -> None:
         window, link = self.made_text()
         window.paste("one two three")
-        window.state("all sent")
+        self.sent(window)
         looked = "new Promise((done) => { indexedDB.open('vialshoal').onsuccess = ({ target }) => { " \
             "target.result.transaction('notes').objectStore('notes').getAll().onsuccess = ({ target: found }) => { " \
             "target.result.close(); done(found.result.map(({ looked }) => looked?.fronts.flat()[1] ?? 0)[0]); }; }; })"
@@ -422,10 +446,11 @@ class Kept(AtText):
         window, link = self.made_text()
         window.wait_for(IS_KEPT_OFFLINE)
         window.type("before. ")
-        window.state("all sent")
+        self.sent(window)
         self.relay.kill()
         window.state("offline")
         window.type("offline. ")
+        window.settles()
         window.state("kept")
         window.close()
         # The page itself is kept, too.
@@ -439,7 +464,7 @@ class Kept(AtText):
         self.at_end(window)
         window.type("again. ")
         self.relay.start()
-        window.state("all sent")
+        self.sent(window)
         self.assertEqual(self.in_terminal("cat", "picnic", link=link).stdout, "before. offline. again. ")
 
     def test_what_was_answered_is_there_after_the_browser_was_killed(self) -> None:
@@ -457,7 +482,7 @@ class Kept(AtText):
             window.state("offline")
             window.type("typed and kept")
             # All of it is on the disk, and nothing is sent.
-            wait_for(lambda: window.run(MESSAGES_KEPT) == len("typed and kept"), "what was typed to be kept")
+            window.settles()
             killed = children(browser.driver.service.process.pid)
             for process in killed:
                 os.kill(process, signal.SIGKILL)
@@ -471,24 +496,26 @@ class Kept(AtText):
             window.driver.get(link)
             window.wait_for(READY)
             window.shows("typed and kept")
-            window.state("all sent")
+            self.sent(window)
             self.assertEqual(self.in_terminal("cat", "killed", link=link).stdout, "typed and kept")
 
     def test_what_a_full_disk_did_not_take_is_taken_out_in_words(self) -> None:
         window, _ = self.made_text()
-        window.type("kept")
-        window.state("all sent")
+        # (pasted, so that each is one message)
+        window.paste("kept")
+        self.sent(window)
         window.run("void (window.adds = IDBObjectStore.prototype.add)")
         window.run(NO_ROOM)
-        window.type(" lost")
+        self.at_end(window)
+        window.paste(" lost")
         window.wait_for(NO_ROOM_TOLD)
         window.shows("kept")
         window.run("void (IDBObjectStore.prototype.add = window.adds)")
         # There is room again.
         window.wait_for(f"!{MIRROR}.getOption('readOnly')")
         self.at_end(window)
-        window.type(" on")
-        wait_for(lambda: window.run(MESSAGES_KEPT) == len("kept on"), "what was typed to be kept")
+        window.paste(" on")
+        wait_for(lambda: window.run(MESSAGES_KEPT) == 2 and window.run(UNSENT) == 0, "what was pasted to be kept and sent")
         window.state("all sent")
         window.shows("kept on")
         self.assert_right(window)
@@ -496,7 +523,7 @@ class Kept(AtText):
     def test_the_page_goes_on_while_its_text_is_begun_anew(self) -> None:
         window, _ = self.made_text()
         window.type("kept")
-        window.state("all sent")
+        self.sent(window)
         window.run(NO_ROOM)
         window.run(READING_IS_HELD)
         window.type("x")
@@ -547,34 +574,32 @@ class Kept(AtText):
 
 
 class Claimed(AtText):
-    """Numbers of pages that somebody else claims, where a claim costs nothing."""
-
-    def setUp(self) -> None:
-        super().setUp()
-        self.free = RelayProcess(self.folder / "free", page=page_of_free_claims(self.folder / "page"))
-        self.addCleanup(self.free.close)
+    """Numbers of pages that somebody else claims."""
 
     def test_who_types_under_anothers_number_is_told_and_types_on_under_the_next(self) -> None:
-        window = self.at(self.free.url)
+        window = self.at()
         link = self.made(window, "picnic")
         other = self.browser.window_apart()
         self.addCleanup(self.leave, other)
         other.driver.get(link)
         other.wait_for(READY)
         other.run(f"{MIRROR}.focus()")
-        # Nothing was typed under it yet.
-        first = self.claimed(link, other, 0)
-        wait_for(lambda: other.run(NUMBERS)[1:], "another number")
-        other.wait_for(READY)
+        form, claimed = SealedRecords(link_of(link).secret, 0), list[int]()
+        # Nothing was typed under these yet. A claim of lower rank than one that is low is searched for long.
+        while not claimed or self.last_number(form, other)[1][CLAIMED_BYTES] < LEAST_RANK:
+            claimed.append(self.claims_last(form, other, False))
+            wait_for(lambda: len(other.run(NUMBERS)) > len(claimed), "another number")
+            other.wait_for(READY)
         other.type("lost")
-        other.state("all sent")
-        second = self.claimed(link, other, 1)
+        self.sent(other)
+        claimed.append(self.claims_last(form, other, True))
         other.state("left out: 4 of you")
         other.shows("")
         other.wait_for(f"!{MIRROR}.getOption('readOnly')")
         other.type("kept")
-        other.state("all sent")
-        self.assertEqual(len({first, second, *(site for site, *_ in other.run(NUMBERS))}), 3)
+        self.sent(other)
+        self.assertEqual([site for site, *_ in other.run(NUMBERS)][:-1], claimed)
+        self.assertNotIn(self.last_number(form, other)[0], claimed)
         window.press("text")
         window.wait_for(READY)
         window.shows("kept")
@@ -583,18 +608,20 @@ class Claimed(AtText):
         other.gives(PAST, "lost\n")
         self.assert_right(window, other)
 
-    def claimed(self, link: str, window: "Window", index: int) -> int:
-        """Has somebody claim a number of a browser's, by a lower rank; which it is."""
-        form = SealedRecords(link_of(link).secret, 0)
-        author = form.new_author()
-        wait_for(lambda: window.run(NUMBERS)[index:], "a number")
-        site, counter, secret = window.run(NUMBERS)[index]
-        rank = rank_of(form.note, public_of(bytes(secret)), int(counter))
-        lower = next(one for one in itertools.count() if rank_of(form.note, author.name, one)[:2] == rank[:2]
-                     and rank_of(form.note, author.name, one) < rank)
-        with closing(opener_of(self.free.url, form)()) as log:
-            log.append([form.claim(site, author, lower).raw])
-        return int(site)
+    @staticmethod
+    def last_number(form: SealedRecords, window: "Window") -> tuple[int, bytes]:
+        """The number that a browser took last, and the rank of its claim."""
+        site, counter, secret = window.run(NUMBERS)[-1]
+        return int(site), rank_of(form.note, public_of(bytes(secret)), int(counter))
+
+    def claims_last(self, form: SealedRecords, window: "Window", is_lower: bool) -> int:
+        """Has somebody claim that number, by a lower rank or by any; which it is."""
+        author, (site, rank) = form.new_author(), self.last_number(form, window)
+        ranks = ((one, rank_of(form.note, author.name, one)) for one in itertools.count())
+        counter = next(one for one, of in ranks if of[:CLAIMED_BYTES] == rank[:CLAIMED_BYTES] and (of < rank or not is_lower))
+        with closing(opener_of(self.relay.url, form)()) as log:
+            log.append([form.claim(site, author, counter).raw])
+        return site
 
 
 class BySaid(Silent):
@@ -639,7 +666,7 @@ class Elsewhere(AtText):
             window.wait_for(READY)
             window.run(f"{MIRROR}.focus()")
             window.type("typed elsewhere")
-            window.state("all sent")
+            self.sent(window)
             self.assert_right(window)
             self.assertEqual(window.run(REFUSED), ["img-src", "enforce"])
 
@@ -662,10 +689,10 @@ class Seen(AtText):
         other = self.text_of(link)
         # (pasted, so that words go as wholes)
         other.paste("strawberry jam")
-        other.state("all sent")
+        self.sent(other)
         other.rename("frangipane")
         other.paste(", raspberry")
-        other.state("all sent")
+        self.sent(other)
         ann = self.engine_of("Ann", link)
         ann.shows("strawberry jam, raspberry")
         other.to(7)
@@ -675,7 +702,7 @@ class Seen(AtText):
         messages = [message for line in lines for message in (messages_of(line) if b"Upgrade: websocket" in line else [line])]
         kept = [path.read_bytes() for path in (self.folder / "tapped").rglob("*") if path.is_file()]
         key = link_of(link).secret
-        form = SealedRecords(key)
+        form = SealedRecords(key, 0)
         with closing(opener_of(relay.url, form)()) as log:
             [site] = {one.site for raw in raws_of(log) if raw and (one := form.open(raw)).kind is RecordKind.MESSAGES}
         cursor = struct.pack(">HI", site, 6)
@@ -692,17 +719,19 @@ class Seen(AtText):
             window.command("Emulation.setDeviceMetricsOverride", width=width, height=800, deviceScaleFactor=1, mobile=width < 600)
             window.command("Emulation.setEmulatedMedia", features=[{"name": "prefers-color-scheme", "value": scheme}])
             window.wait_for(LOOKS_SO, width, scheme)
-            self.assertEqual(window.run(FAULTS_OF_LOOKS, width < 600), [])
+            looks_well(window, width < 600)
 
     def test_what_is_read_aloud_is_what_a_local_page_has_to_say(self) -> None:
         lines = [f"line {number} of it" for number in range(300)]
         window, _ = self.made_text("note")
         window.paste("\n".join(lines))
-        window.state("all sent")
+        self.sent(window)
         local = Server(self.folder / "local", "--no-browser")
         self.addCleanup(local.close)
         other = self.browser.open(local.path)
         self.addCleanup(self.leave, other)
+        # Lines are in the page once they are drawn.
+        window.wait_for(f"{MIRROR}.getViewport().to === words[0]", len(lines))
         here, there = self.said_aloud(window), self.said_aloud(other)
         self.assertEqual([words for role, words in here if role == "StaticText" and words.startswith("line ")], lines)
         self.assertEqual([role for role, name in here if role in (*CONTROLS, "heading") and not name], [])

@@ -5,11 +5,11 @@ from unittest import mock
 
 from share.format.second.key_link import read_key_link
 from share.relay.page_files import CORE_VARIABLE
-from share.tests.browser import MIRROR
+from share.tests.browser import CLOCK_STANDS, IS_SETTLED, MIRROR
 from share.tests.editors import Engines
 from share.tests.firefox import CONTROL, FIREFOX, FirefoxHere
-from share.tests.relays import RelayProcess
-from share.tests.test_relay_text import CORE, MISSING, MESSAGES_KEPT, READY
+from share.tests.relays import RelayProcess, page_of_free_claims
+from share.tests.test_relay_text import CORE, MISSING, READY
 from share.tests.writers import Emacs
 from share.tests.writers_at_relay import HEARS_ERRORS, IS_KEPT_OFFLINE
 
@@ -21,12 +21,11 @@ class InFirefox(Engines):
 
     def setUp(self) -> None:
         super().setUp()
-        environment = mock.patch.dict(os.environ, {CORE_VARIABLE: CORE})
+        # How long a search for a number takes is chance.
+        environment = mock.patch.dict(os.environ, {CORE_VARIABLE: CORE, "VIALSHOAL_ZERO_BITS": "0"})
         environment.start()
         self.addCleanup(environment.stop)
-        # A claim costs what all pay.
-        os.environ.pop("VIALSHOAL_ZERO_BITS", None)
-        self.relay = RelayProcess(self.folder / "kept")
+        self.relay = RelayProcess(self.folder / "kept", page=page_of_free_claims(self.folder / "served"))
         self.addCleanup(self.relay.close)
 
     def firefox(self) -> FirefoxHere:
@@ -42,9 +41,10 @@ class InFirefox(Engines):
 
     @staticmethod
     def types_at_end(browser: FirefoxHere) -> None:
-        """Goes to the end of the text, once one can type there."""
+        """Goes to the end of the text, once one can type there; keys are one step of an undo however late they come."""
         browser.wait_for(READY)
         browser.run(HEARS_ERRORS)
+        browser.run(f"void {CLOCK_STANDS}")
         browser.run(f"({MIRROR}.focus(), {MIRROR}.execCommand('goDocEnd'))")
 
     def shows(self, browser: FirefoxHere, text: str) -> None:
@@ -75,6 +75,7 @@ class InFirefox(Engines):
         self.relay.kill()
         self.state(browser, "offline")
         browser.type("Offline. ")
+        browser.wait_for(IS_SETTLED)
         self.state(browser, "kept")
         # The tab is closed; the page itself is kept, too.
         browser.open_another()
@@ -105,8 +106,8 @@ class InFirefox(Engines):
         self.relay.kill()
         self.state(browser, "offline")
         browser.type("typed and kept")
-        browser.wait_for(f"{MIRROR}.getValue() === 'typed and kept'")
-        browser.wait_for(f"({MESSAGES_KEPT}).then((many) => many === 'typed and kept'.length)")
+        browser.wait_for(IS_SETTLED)
+        self.shows(browser, "typed and kept")
         browser.close()
         self.relay.start()
         browser = self.firefox()

@@ -13,7 +13,7 @@ from share.engine.protocol import serialize
 from share.engine.spots import Spot
 from share.review.margin import Remark, Thread
 from share.review.record import Anchor, MarginKind, MarginState
-from share.tests.editors import EngineHere
+from share.tests.editors import EngineHere, accepted
 from share.tests.support import TOP
 from share.tests.waiting import wait_for
 from share.text.line import Line
@@ -314,15 +314,41 @@ class Suggestions(Reviewed):
         self.assertEqual({one["id"]: (one["state"], self.passage(one)) for one in self.threads()},
                          {deletes: ("accepted", ""), inserts: ("accepted", "and ")})
 
-    def test_what_has_changed_is_shown_and_accepted_only_anyway(self) -> None:
+    def test_what_is_shown_before_it_is_accepted_is_what_comes(self) -> None:
+        self.type(0, 0, "Second\n")
+        thread = self.suggest("Second", "Third")
+        self.type(2, 2, "rr")
+        wants: list[dict[str, Any]] = [{}, {"becomes": "Third"}]
+        for wanted in wants:
+            answer = self.ask("accept", to=thread, **wanted)
+            self.assertEqual({name: answer.get(name) for name in ("error", "was", "now", "new", "becomes")},
+                             {"error": "changed", "was": "Second", "now": "Serrcond", "new": "Third", "becomes": answer["becomes"]})
+            self.shows("Serrcond\n")
+        shown = answer["becomes"]
+        # Another one types there before this one has answered.
+        self.type(3, 3, "s")
+        answer = self.ask("accept", to=thread, becomes=shown)
+        self.assertEqual((answer["error"], len(answer["becomes"])), ("changed", len(shown) + 1))
+        self.assertEqual(self.ask("accept", to=thread, becomes=answer["becomes"])["done"], True)
+        self.shows(f"{answer['becomes']}\n")
+
+    def test_what_would_become_too_long_to_be_shown_is_not_accepted(self) -> None:
+        self.type(0, 0, "Second\n")
+        thread = self.suggest("Second", "Third")
+        self.type(2, 2, "r" * 100_000)
+        answer = self.ask("accept", to=thread)
+        self.assertEqual((answer["error"], "becomes" in answer), ("long", False))
+        self.shows(f"Se{'r' * 100_000}cond\n")
+
+    def test_what_has_changed_is_accepted_once_what_it_becomes_was_shown(self) -> None:
         self.type(0, 0, "one two three\n")
         thread = self.suggest("two three", "2 3")
         self.type(6, 6, "xx")
         self.assertTrue(self.one()["changed"])
         answer = self.ask("accept", to=thread)
-        self.assertEqual({name: answer.get(name) for name in ("error", "was", "now", "new")},
-                         {"error": "changed", "was": "two three", "now": "twxxo three", "new": "2 3"})
-        self.assertEqual(self.ask("accept", to=thread, anyway=True)["done"], True)
+        self.assertEqual({name: answer.get(name) for name in ("error", "was", "now", "new", "becomes")},
+                         {"error": "changed", "was": "two three", "now": "twxxo three", "new": "2 3", "becomes": "xx2 3"})
+        self.assertEqual(self.ask("accept", to=thread, becomes="xx2 3")["done"], True)
         self.shows("one xx2 3\n")
 
     def test_what_is_typed_beside_the_passage_stays_beside_the_replacement(self) -> None:
@@ -341,10 +367,10 @@ class Suggestions(Reviewed):
         inserts = self.ask("suggest", begin=3, end=3, new=", and")["thread"]
         self.type(3, 3, "s")
         answer = self.ask("accept", to=inserts)
-        self.assertEqual({name: answer.get(name) for name in ("error", "was", "now", "new")},
-                         {"error": "changed", "was": "", "now": "s", "new": ", and"})
+        self.assertEqual({name: answer.get(name) for name in ("error", "was", "now", "new", "becomes")},
+                         {"error": "changed", "was": "", "now": "s", "new": ", and", "becomes": "s, and"})
         self.shows("ones two\n")
-        self.assertEqual(self.ask("accept", to=inserts, anyway=True)["done"], True)
+        self.assertEqual(self.ask("accept", to=inserts, becomes="s, and")["done"], True)
         self.shows("ones, and two\n")
         self.ask("undo")
         self.shows("ones two\n")
@@ -368,7 +394,7 @@ class Suggestions(Reviewed):
         self.ask("accept", to=first)
         self.shows("one 2 3 four\n")
         self.assertEqual(self.ask("accept", to=second)["error"], "changed")
-        self.ask("accept", to=second, anyway=True)
+        accepted(self.ask, to=second)
         self.shows("one 2 33 4\n")
         self.ask("undo")
         self.shows("one 2 3 four\n")
@@ -439,7 +465,7 @@ class Unseen(Reviewed):
         thread = self.asked("suggest", "one two", (3, 3, " and a half"), new="1 2")["thread"]
         self.assertEqual((self.one()["text"], self.one()["changed"]), ("one two", True))
         self.assertEqual(self.ask("accept", to=thread)["error"], "changed")
-        self.ask("accept", to=thread, anyway=True)
+        accepted(self.ask, to=thread)
         self.assertEqual(self.text.replace("1 2", ""), " and a half\n")
 
     def test_the_passage_is_deleted(self) -> None:

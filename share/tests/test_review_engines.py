@@ -17,8 +17,8 @@ from share.text.line import Line
 TEXT = "one two three four\n"
 # With what the body begins of what is written for others to see that all before it has come.
 MARK = "mark "
-# An engine that stops for good as it keeps what is made, once a file says so: the second argument is how often it comes by before,
-# where it comes by before each time that it keeps something, and after it. Then another file says that it has stopped.
+# An engine that stops for good as it keeps an edit, once a file says so. It counts before and after each edit that it keeps, and stops
+# when it has counted as far as the second argument. Then another file says that it has stopped.
 STOPS = f"""
 import os, sys, time
 sys.path[0] = {str(TOP)!r}
@@ -33,10 +33,12 @@ def comes_by():
             while True:
                 time.sleep(60)
 def keeps(disk, entries, made, **more):
-    if made:
+    # Only edits say this: a number that is claimed or given up, or a fold, may be kept at any time.
+    is_edit = made and "is_seen" in more
+    if is_edit:
         comes_by()
     kept = keep(disk, entries, made, **more)
-    if made:
+    if is_edit:
         comes_by()
     return kept
 Disk.keep = keeps

@@ -133,11 +133,11 @@ class Threads(ReviewCase):
         self.note("replace", "note", "and", "or")
         self.assertTrue(self.remarks()[0]["changed"])
         self.note("accept", "note", one, status=2)
-        for words in "'jam and honey'", "'jam or honey'", "'fig'":
+        for words in "'jam and honey'", "'jam or honey'", "'figor'":
             self.assertIn(words, self.said)
         self.assertEqual(self.note("cat", "note"), TEXT.replace("and", "or"))
         self.note("accept", "note", one, "--anyway")
-        self.assertNotIn("jam", self.note("cat", "note"))
+        self.assertEqual(self.note("cat", "note"), TEXT.replace("jam and honey", "figor"))
 
     def test_what_is_ones_own_is_revised_and_taken_back(self) -> None:
         self.made()

@@ -175,11 +175,11 @@ class ReviewTerminals(Case):
         one.press("C-n")
         one.sees("changed since")
         one.type("a")
-        one.sees("Accept anyway")
+        one.sees("would be 'figor'. Accept this")
         one.type("no")
         one.press("Enter")
         one.type("a")
-        one.sees("Accept anyway")
+        one.sees("Accept this")
         one.type("yes")
         one.press("Enter")
         one.sees("suggests: accepted")
@@ -393,7 +393,7 @@ class ReviewTerminals(Case):
         wait_for(lambda: [line[-1:] for line in one.lines()[:3]] == ["a", "-", "+"], "the marks")
         one.press("F8")
         one.sees("1 of 2 changes")
-        self.begins(one, "tea", "and honey", "  | Bob wrote what went", "  | - jam")
+        self.begins(one, "tea", "and honey", "  | Bob deleted this", "  | - jam")
         # Others' text before them moves them.
         other.edit((0, 0, "so: \n"))
         other.settle()
@@ -509,7 +509,7 @@ class Changed(unittest.TestCase):
         changes.ask(3, True, sent.append)
         self.assertEqual([(line["do"], line["version"]) for line in sent], [("changed", 3)])
         line: Line = {"answer": "changed", "edits": 0, "since": 7, "came": [{"begin": 5, "end": 8, "site": 9}],
-                      "went": [{"at": 2, "text": "x", "site": 9}]}
+                      "went": [{"at": 2, "text": "x", "site": 9, "by": {"site": 9}}]}
         changes.take(line, 1)
         self.assertIsNone(changes.found)
         changes.ask(4, True, sent.append)

@@ -18,6 +18,7 @@ from share.store.guarded import Unkept
 from share.store.note_file import SECOND, Disk
 from share.store.renewal import fresh
 from share.sync.session import Session
+from share.tests.editors import accepted
 from share.tests.support import Case, Person, take, wait_for
 from share.tests.test_margin import answer, begun, line
 from share.tests.test_review import second_form
@@ -229,8 +230,8 @@ class Together(Reviews):
         threads = [one.ask("suggest", **one.on(words), new=new)["thread"] for one, words, new in (
             (ann, "one two", "1 2"), (bob, "two three", "2 3"))]
         self.meet()
-        ann.ask("accept", to=threads[0], anyway=True)
-        bob.ask("accept", to=threads[1], anyway=True)
+        accepted(ann.ask, to=threads[0])
+        accepted(bob.ask, to=threads[1])
         text = self.meet()
         self.assertEqual({one["state"] for one in ann.threads()}, {"accepted"})
         self.assertEqual((len(text), text.count("1 2"), text.count("2 3")), (len("1 22 3\n"), 1, 1))
@@ -414,7 +415,7 @@ class Faults(Reviews):
         (forged_one,) = [one for one in ann.threads() if one["site"] != site]
         # It is hers, though she says otherwise, and what she claims as her replacement is never shown.
         self.assertEqual((forged_one["site"], forged_one["elsewhere"], "new" in forged_one), (eve.session.number, True, False))
-        self.assertEqual(ann.ask("accept", to=forged_one["id"], anyway=True)["error"], "elsewhere")
+        self.assertEqual(ann.ask("accept", to=forged_one["id"])["error"], "elsewhere")
         # The line typed again is one more remark of hers, and what answers the first one answers that.
         session.insert(0, remark, MARGIN)
         ann.ask("reply", to=thread, body="an answer")

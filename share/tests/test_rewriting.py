@@ -11,6 +11,7 @@ from share.program.replay import as_line, steps
 from share.program.site import Rewrite, one_by_one
 from share.tests.crossing import Editor, Writer, settled
 from share.tests.note import Note
+from share.tests.servers import FileLog
 from share.tests.support import Case, Person, take, type_at_the_end, wait_for, written
 from share.text.graphemes import inside
 from share.text.rope import readable, swapped
@@ -241,9 +242,8 @@ class Anew(Case):
 
     def rewritten(self) -> int:
         """Has Bob rewrite both passages, and Carol write beside each, without the log; Bob's number."""
-        shared, away = self.folder / "shared", self.folder / "away"
-        shared.rename(away)
-        shared.write_text("no folder")
+        log = FileLog(self.folder)
+        log.kill()
         bob, carol = self.opened_to_type(self.bob), self.opened_to_type(self.carol)
         size, (at, before) = len(PASSAGE), inside(PASSAGE.encode())
         # The second one is cut, and something typed there.
@@ -257,8 +257,7 @@ class Anew(Case):
             carol.type(word)
         for note in bob, carol:
             note.session.close()
-        shared.unlink()
-        away.rename(shared)
+        log.start()
         return bob.session.number
 
     def test_what_is_made_anew(self) -> None:

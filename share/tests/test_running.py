@@ -9,9 +9,10 @@ import threading
 import unittest
 from unittest import mock
 
-from share.tests import __main__ as running
 from share.tests.forms import is_second_form, of_first_form
 from share.tests.processes import descendants
+from share.tests.runner import counting, modules, repeating, side_by_side
+from share.tests.runner.main import MODULE_SECONDS
 from share.tests.support import Case, alive, wait_for
 
 HERE = "test_running"
@@ -139,7 +140,7 @@ def some_that_fail_at_times() -> unittest.TestSuite:
             self.assertFalse(fails("once", 1), "it was the first time")
 
         def test_again(self) -> None:
-            self.assertFalse(fails("again", 1, 1 + running.TIMES_AGAIN), "it was such a time")
+            self.assertFalse(fails("again", 1, 2), "it was such a time")
 
         def test_in_part(self) -> None:
             with self.subTest("a part"):
@@ -180,11 +181,11 @@ def one_that_fails_once_and_leaves_a_thread() -> unittest.TestSuite:
 class Modules(Case):
     """Modules that are run as share/tests/run does it."""
 
-    def run_all(self, *names: str, seconds: float = running.MODULE_SECONDS) -> tuple[int, list[str]]:
+    def run_all(self, *names: str, seconds: float = MODULE_SECONDS) -> tuple[int, list[str]]:
         """The status of a run, and the lines that it prints."""
         said = io.StringIO()
-        with contextlib.redirect_stdout(said):
-            status = running.count([f"{HERE}.{name}" for name in names], self.folder, seconds)
+        with contextlib.redirect_stdout(said), mock.patch.dict(os.environ, XDG_CACHE_HOME=str(self.folder)):
+            status = counting.count([f"{HERE}.{name}" for name in names], self.folder, seconds)
         return status, said.getvalue().splitlines()
 
     def test_what_passes_and_fails_is_counted(self) -> None:
@@ -200,14 +201,13 @@ class Modules(Case):
         with mock.patch.dict(os.environ, SHARE_TEST_TIMES=str(self.folder)):
             status, said = self.run_all("some_that_fail_at_times", "some_of_either_form:2")
         self.assertEqual((status, said[-1]), (1, "5 passed, 1 failed"))
-        for line, wanted in zip(said[-6:], ["FAIL: test_again .*: AssertionError: .* it was such a time",
-                                            "UNSTEADY: test_in_part .*a part.*: AssertionError: .* a part was",
-                                            "UNSTEADY: test_once .*: AssertionError: .* it was the first time",
-                                            "UNSTEADY: setUpClass .*: AssertionError: it didn't begin", "3 unsteady: "]):
+        place = f"UNSTEADY {HERE}.some_that_fail_at_times.<locals>"
+        unsteady = [rf"{place}.{test} seed 1 load \d+\.\d$" for test in ("Begins.test_it", "Some.test_in_part", "Some.test_once")]
+        for line, wanted in zip(said[-5:], [*unsteady, "FAIL: test_again .*: AssertionError: .* it was such a time"]):
             self.assertRegex(line, wanted)
         # What it said at first is told in full, and what passed isn't run again.
         self.assertTrue(any(line.startswith("Traceback") for line in said))
-        times = {"once": 4, "again": 4, "part": 4, "begins": 4, "passes": 1}
+        times = {"once": 2, "again": 2, "part": 2, "begins": 2, "passes": 1}
         self.assertEqual({name: len((self.folder / name).read_text("ascii")) for name in times}, times)
 
     def test_what_isnt_run_again_failed(self) -> None:
@@ -219,16 +219,8 @@ class Modules(Case):
         with mock.patch.dict(os.environ, SHARE_TEST_TIMES=str(self.folder)), mock.patch("share.tests.left_open.ENDING_SECONDS", 0):
             status, said = self.run_all("one_that_fails_once_and_leaves_a_thread")
         self.assertEqual((status, said[-1]), (0, "1 passed, 0 failed"))
-        told = ["UNSTEADY: test_it .*it was the first time", "UNSTEADY: .* left 1 threads open", "2 unsteady: "]
-        for line, wanted in zip(said[-4:], told):
-            self.assertRegex(line, wanted)
-
-    def test_where_much_failed_nothing_is_run_again(self) -> None:
-        with mock.patch.dict(os.environ, SHARE_TEST_TIMES=str(self.folder)), mock.patch.object(running, "MOST_AGAIN", 3):
-            status, said = self.run_all("some_that_fail_at_times")
-        self.assertEqual((status, said[-1]), (1, "1 passed, 4 failed"))
-        self.assertEqual(sum(line.startswith("UNSTEADY") for line in said), 0)
-        self.assertEqual((self.folder / "once").read_text("ascii"), "x")
+        self.assertRegex(said[-2], "^UNSTEADY .*Left.test_it seed 1 load ")
+        self.assertEqual(sum(line.startswith("UNSTEADY") for line in said), 1)
 
     def test_what_is_of_the_first_form_is_left_out_over_the_second(self) -> None:
         status, said = self.run_all("some_of_either_form:2", "some_of_either_form:2")
@@ -244,7 +236,7 @@ class Modules(Case):
 
     def test_those_that_take_too_long(self) -> None:
         file = self.folder / "process"
-        with mock.patch.dict(os.environ, SHARE_TEST_PROCESS=str(file)), mock.patch.object(running, "ENDING_SECONDS", 5):
+        with mock.patch.dict(os.environ, SHARE_TEST_PROCESS=str(file)), mock.patch.object(side_by_side, "ENDING_SECONDS", 5):
             status, said = self.run_all("one_that_hangs", "some_that_pass_and_fail", "one_that_stands_still", seconds=30)
         self.assertEqual((status, said[-1]), (1, "2 passed, 4 failed"))
         for name in "one_that_hangs", "one_that_stands_still":
@@ -255,11 +247,42 @@ class Modules(Case):
         self.assertEqual([*descendants(os.getpid())], [])
 
     def test_one_whose_process_does_not_end(self) -> None:
-        with mock.patch.object(running, "ENDING_SECONDS", 1), mock.patch("share.tests.left_open.ENDING_SECONDS", 0):
+        with mock.patch.object(side_by_side, "ENDING_SECONDS", 1), mock.patch("share.tests.left_open.ENDING_SECONDS", 0):
             status, said = self.run_all("one_that_does_not_end")
         self.assertEqual((status, said[-1]), (1, "1 passed, 2 failed"))
         self.assertRegex(said[-3], "left 1 threads open")
         self.assertEqual(said[-2], f"FAIL: {HERE}.one_that_does_not_end has run, and its process didn't end")
+
+    def test_what_took_longest_comes_first_the_next_time(self) -> None:
+        with mock.patch.dict(os.environ, XDG_CACHE_HOME=str(self.folder)):
+            self.assertEqual(modules.longest_first(["test_rooms", "test_running"]), ["test_running", "test_rooms"])
+            modules.keep_times({"test_rooms": 3.0, "test_running": 2.0})
+            in_order = ["test_links", "test_rooms", "test_running"]
+            self.assertEqual(modules.longest_first(in_order[::-1]), in_order)
+            (self.folder / "vialshoal" / "test-times.json").write_text("[", "utf-8")
+            self.assertEqual(modules.last_times(), {})
+
+    def test_each_module_is_in_one_set(self) -> None:
+        gate, long = ({modules.plain(one) for one in modules.in_set(is_long)} for is_long in (False, True))
+        self.assertEqual(gate & long, set())
+        for listed in modules.OVER_THE_CORE, modules.OVER_THE_LIBRARY, modules.OVER_BOTH:
+            self.assertLessEqual(listed, gate | long)
+        self.assertEqual(modules.found("test_rooms:2"), "test_rooms:2")
+        for name in long:
+            self.assertEqual(modules.found(f"{name}:2"), f"long.{name}:2")
+
+    def test_many_times(self) -> None:
+        names = [f"{HERE}.some_that_fail_at_times", f"{HERE}.some_of_either_form:2"]
+        with mock.patch.dict(os.environ, SHARE_TEST_TIMES=str(self.folder)), mock.patch.object(repeating, "OUT", self.folder / "out"):
+            for beside, counted in (0, "passed"), (1, "passed beside other work"):
+                with contextlib.redirect_stdout(io.StringIO()) as said:
+                    status = repeating.repeat(names, 3, beside, self.folder, MODULE_SECONDS)
+                    last = said.getvalue().splitlines()[-1]
+                self.assertEqual(repeating.read_counts()[names[1]][counted], 3)
+                self.assertEqual((status, last), (0, "6 passed, 0 failed") if beside else (1, last))
+        kept = [*(self.folder / "out").glob("*.txt")]
+        self.assertTrue(kept and all("Traceback" in path.read_text("utf-8") for path in kept))
+        self.assertEqual([*descendants(os.getpid())], [])
 
 
 if __name__ == "__main__":

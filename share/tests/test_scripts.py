@@ -9,6 +9,7 @@ from share.cli.html import page
 from share.cli.line_changes import line_changes
 from share.tests.editors import Editor
 from share.tests.forms import is_second_form
+from share.tests.servers import FileLog
 from share.tests.support import NOTE, Case, Person, raws_of, wait_for
 from share.tests.terminals import Answering
 from share.tests.waiting import PATIENCE
@@ -155,8 +156,7 @@ class Verbs(Case):
                 return bool(raws_of(found))
 
         wait_for(has_it, "the log to have it")
-        os.rename(log.parent, self.folder / "away")
-        (self.folder / "shared").write_bytes(b"")
+        FileLog(self.folder).kill()
         self.assertEqual(json.loads(self.note("append", "note", "two", "--json"))["sent"], False)
         self.assertEqual(self.note("cat", "note", status=3), "one\ntwo\n")
         self.assertIn("can't be read", self.said)

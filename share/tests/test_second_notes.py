@@ -4,8 +4,8 @@ import itertools
 import os
 import signal
 import sqlite3
+import statistics
 import subprocess
-import time
 import unittest
 from collections.abc import Callable, Iterator
 from unittest import mock
@@ -35,8 +35,10 @@ from share.sync.number_search import NONE_FOUND_YET
 from share.sync.numbers import READING, Numbers
 from share.sync.replica import Replica
 from share.sync.session import Session
+from share.tests.counting import instructions
 from share.tests.editors import Editor
 from share.tests.note import Note
+from share.tests.servers import FileLog
 from share.tests.support import NOTE, Case, Person, plain_text, python, take, type_at_the_end, wait_for, written
 from share.tests.test_joining import history
 from share.tests.test_record_judge import Writer, whole
@@ -427,16 +429,21 @@ class SecondForm(OfSecondForm):
 
     def test_who_types_waits_for_no_search(self) -> None:
         note = self.opened(self.ann)
-        with mock.patch.dict(os.environ, VIALSHOAL_ZERO_BITS="60"):
+        search = note.session._numbers.search
+        assert search
+        wait_for(lambda: (note.take_in(), note.session.can_type and not search.goes_on)[1], "no search")
+        before = [self.key(note) for _ in range(9)]
+        with mock.patch.object(search._form, "zero_bits", int(NEVER)):
             note.session._numbers.claim_in_advance(9)
-            begun, longest = time.monotonic(), 0.0
-            while time.monotonic() - begun < 0.5:
-                before = time.thread_time()
-                note.type("x")
-                note.take_in()
-                longest = max(longest, time.thread_time() - before)
         # A search for this many zeros would take ages.
-        self.assertLess(longest, 0.25)
+        meanwhile = [self.key(note) for _ in range(9)]
+        self.assertTrue(search.goes_on)
+        self.assertLess(statistics.median(meanwhile), 1.5 * statistics.median(before))
+
+    @staticmethod
+    def key(note: Note) -> int:
+        """How many instructions a key takes."""
+        return instructions(lambda: (note.type("x"), note.take_in()))
 
 
 class ScriptsThatJoin(OfSecondForm):
@@ -520,13 +527,12 @@ class ScriptsThatJoin(OfSecondForm):
     @contextlib.contextmanager
     def log_away(self) -> Iterator[None]:
         """Meanwhile the log can't be reached."""
-        os.rename(self.folder / "shared", self.folder / "away")
-        (self.folder / "shared").write_bytes(b"")
+        log = FileLog(self.folder)
+        log.kill()
         try:
             yield
         finally:
-            os.remove(self.folder / "shared")
-            os.rename(self.folder / "away", self.folder / "shared")
+            log.start()
 
     def test_a_log_that_is_away_is_told(self) -> None:
         with self.log_away(), self.bob.here(), mock.patch.dict(os.environ, VIALSHOAL_ZERO_BITS=NEVER), \

@@ -13,6 +13,7 @@ import stat
 import subprocess
 import threading
 import unittest
+from collections.abc import Iterator, Sequence
 from dataclasses import replace
 from unittest import mock
 
@@ -31,7 +32,8 @@ from share.tests.naive import about, entry_of, inserting
 from share.tests.note import Note
 from share.tests.servers import Hostile
 from share.tests.servers import RedisServer as Server
-from share.tests.support import NOTE, TOP, Case, Person, claim_of, claim_order, python, raws_of, type_at_the_end, wait_for, written
+from share.tests.support import (NOTE, TOP, Case, Person, claim_of, claim_order, engine_of, python, raws_of, type_at_the_end, wait_for,
+                                 written)
 from share.tests.waiting import PATIENCE
 
 HUGE = 100_000_000
@@ -364,6 +366,20 @@ class Peers(Shared):
             claims = (row.entry for row in disk.entries.rows() if row.entry.kind.is_claim)
             return next(claim for claim in claims if (claim.site, claim.author) == (site, author))
 
+    def nobody_wins_against(self, claims: Sequence[Entry]) -> contextlib.AbstractContextManager[object]:
+        """No claim of these numbers that is made meanwhile holds. In the second form none is made."""
+        new_author = type(self.form).new_author
+
+        def losing(form: Form) -> Author:
+            while True:
+                author = new_author(form)
+                if all(claim_order(form.claim(one.site, author)) > claim_order(one) for one in claims):
+                    return author
+
+        if is_second_form():
+            return contextlib.nullcontext()
+        return mock.patch.object(type(self.form), "new_author", losing)
+
     def test_claims_of_all_numbers_keep_a_newcomer_out(self) -> None:
         numbers = range(1, 3)
         with contextlib.ExitStack() as patches:
@@ -371,9 +387,10 @@ class Peers(Shared):
                 # What that costs no test can pay.
                 patches.enter_context(mock.patch.object(RecordJudge, "claimed", lambda judge: {*range(1, GREATEST_SITE + 1)}))
             patches.enter_context(mock.patch("share.sync.numbers.GREATEST_SITE", len(numbers)))
-            # Of many claims of each number the one that wins.
-            claims = [[claim_of(self.form, site) for _ in range(1 if is_second_form() else 3_000)] for site in numbers]
-            self.append(*(min(of_site, key=claim_order).raw for of_site in claims))
+            # Of some claims of each number the one that wins, also against those of who comes before these were read.
+            claims = [min((claim_of(self.form, site) for _ in range(1 if is_second_form() else 20)), key=claim_order) for site in numbers]
+            patches.enter_context(self.nobody_wins_against(claims))
+            self.append(*(one.raw for one in claims))
             carol = self.opened(self.person("carol"), link=self.link)
             self.assert_comes_to(carol, b"one two ")
             wait_for(lambda: {*numbers} <= {*carol.session._holdings.judge.claimed()}, "the claims")
@@ -447,7 +464,6 @@ class Accounts(Case):
         self.assertEqual(list(self.folder.iterdir()), [])
 
     def test_no_key_and_no_password_in_arguments(self) -> None:
-        # These tests run twice at once, for notes of both forms.
         word = os.urandom(8).hex()
         server = Server(self.folder / "redis", "--requirepass", word)
         self.addCleanup(server.close)
@@ -459,12 +475,11 @@ class Accounts(Case):
         wait_for(lambda: (terminal.read(), b"all sent" in terminal.shown)[1], "the editor")
         link = person.link()
         secrets = [word.encode(), link.split(":")[3].split("@")[0].encode()[:20], link_of(link).secret]
-        of_server = server.process.pid
-        running = [path for path in pathlib.Path("/proc").glob("[0-9]*/cmdline") if path.parent.name != str(of_server)]
-        for path in running:
-            with contextlib.suppress(OSError):
-                words = path.read_bytes()
-                self.assertFalse(any(one in words for one in secrets), words)
+        # All that was started for this person, by whomever, was told whose data it is.
+        running = {process: path.read_bytes() for process, path in processes_with(f"VIALSHOAL_DATA={person.data}")}
+        self.assertLessEqual({terminal.child, engine_of(person.data)}, {*running})
+        for words in running.values():
+            self.assertFalse(any(one in words for one in secrets), words)
         run = self.note("note", "--print", "--log", f"redis://:{word}@127.0.0.1:{server.port}")
         self.assert_says(run, "no user or password in it")
         self.assertNotIn(word, run.stderr)
@@ -520,6 +535,14 @@ class Said(unittest.TestCase):
         self.assertIn("write in another's name", table["who may write the folder of a log in a file"][0])
         for _, cannot in table.values():
             self.assertNotRegex(cannot, "newcomer|keep .* out")
+
+
+def processes_with(variable: str) -> Iterator[tuple[int, pathlib.Path]]:
+    """The processes that have something in their environment, each with where its words are."""
+    for path in pathlib.Path("/proc").glob("[0-9]*/environ"):
+        with contextlib.suppress(OSError):
+            if variable.encode() in path.read_bytes().split(b"\0"):
+                yield int(path.parent.name), path.with_name("cmdline")
 
 
 class Terminal:

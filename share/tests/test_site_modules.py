@@ -158,6 +158,25 @@ class Vectors(Modules):
         self.assertEqual((found["claimed"], found["locked"]), (2, [2, 0]))
         self.assertEqual(found["why"], f"This is said under {numbers[0]['site']}, and this tab has no number.")
 
+    def test_edits_of_a_closed_tab_are_signed_by_their_own_authors(self) -> None:
+        note, claims = VECTORS["sealed"], VECTORS["claims"]
+        bob, cy = (VECTORS["authors"][who] for who in ("bob", "cy"))
+        numbers = [{**claims[who], "secret": VECTORS["authors"][who]["secret"]} for who in ("bob", "cy")]
+        numbers[0]["isClaimed"] = True
+        # Under Cy's number something of Bob's was made anew; Cy's number isn't claimed yet.
+        word = {"author": bob["name"], "site": numbers[0]["site"], "text": 1, "before": note["key"]}
+        said = [{"site": numbers[1]["site"], "text": 1, "first": first, "count": 1, "before": before, "body": "0000", "words": words}
+                for first, before, words in ((2, note["key"], [word]), (1, bytes(32).hex(), []))]
+        found = self.asked("recovered", key=note["key"], numbers=numbers, said=said)
+        opened = self.asked("opened", key=note["key"], raws=found["raws"], bits=VECTORS["bits"])
+        self.assertEqual([(one.get("why"), one["kind"], one["site"], one["author"]) for one in opened],
+                         [(None, KINDS["claim"], numbers[1]["site"], cy["name"]), (None, KINDS["messages"], numbers[1]["site"], cy["name"]),
+                          (None, KINDS["messages"], numbers[1]["site"], cy["name"]), (None, KINDS["anew"], numbers[0]["site"], bob["name"])])
+        self.assertEqual([one["first"] for one in opened if one["kind"] == KINDS["messages"]], [1, 2])
+        # They are recovered once, and the number's claim is kept with them.
+        self.assertEqual((found["found"], found["claimed"], found["left"]),
+                         ([True, False], [one["site"] for one in numbers], 0))
+
     def test_what_is_kept_as_a_page_closes_is_told_to_other_tabs(self) -> None:
         self.assertEqual(self.asked("keptAsItCloses", key=VECTORS["sealed"]["key"]), 1)
 

@@ -14,6 +14,7 @@ from share.format.second.form import PlainRecords
 from share.format.second.record import Record, RecordKind
 from share.relay.page_files import PAGE_FOLDER, core_path
 from share.tests import second_sets
+from share.tests.editors import accepted
 from share.tests.second_agreement import a_set, parts
 from share.tests.second_sets import RIGHT
 from share.tests.test_review import Reviewed
@@ -164,7 +165,10 @@ class Threads(Reviewed):
             elif threads := self.threads():
                 to = chance.choice(threads)["id"]
                 does = chance.choice(["accept", "accept", "resolve", "reject", "reopen", "withdraw", "reply", "revise"])
-                self.ask(does, to=to, anyway=True, body="so")
+                if does == "accept":
+                    accepted(self.ask, to=to)
+                else:
+                    self.ask(does, to=to, body="so")
 
 
 def as_engine(line: Line) -> Line:

@@ -23,6 +23,7 @@ from share.review.places import NameSet, Spans
 from share.review.record import MarginKind, MarginRecord
 from share.review.writing import lines_of
 from share.tests.counting import instructions
+from share.tests.editors import accepted
 from share.tests.naive_margin import Inserted
 from share.tests.test_margin import operation
 from share.tests.test_review import Reviewed
@@ -32,6 +33,8 @@ from share.text.line import Line
 from share.text.names import Names, united
 
 FIGURES = bool(os.environ.get("VIALSHOAL_FIGURES"))
+# How many remarks are very many, as a key's work is counted beside them and within what they are about.
+BESIDE, WITHIN = (100_000, 20_000) if FIGURES else (10_000, 3_000)
 
 
 class Anew(Reviewed):
@@ -74,7 +77,13 @@ class Anew(Reviewed):
             self.ask("suggest", number, begin=begin, end=end, new=chance.choice(["", "new"]) if begin < end else "new")
         elif threads:
             to = chance.choice(threads)["id"]
-            self.ask(chance.choice(["accept", "accept", "accept", "resolve", "reject", "reopen", "withdraw"]), number, to=to, anyway=True)
+            self._answers(chance.choice(["accept", "accept", "accept", "resolve", "reject", "reopen", "withdraw"]), number, to)
+
+    def _answers(self, does: str, number: int, to: str) -> None:
+        if does == "accept":
+            accepted(self.ask, number, to=to)
+        else:
+            self.ask(does, number, to=to)
 
     def test_within_what_many_are_about_at_random(self) -> None:
         for seed in range(6):
@@ -99,7 +108,7 @@ class Anew(Reviewed):
                 self._says(chance)
             elif what == "answer" and (names := self.session().margin.said.threads()):
                 to = "{}:{}".format(*chance.choice(names))
-                self.ask(chance.choice(["accept", "accept", "reopen", "reject"]), number, to=to, anyway=True)
+                self._answers(chance.choice(["accept", "accept", "reopen", "reject"]), number, to)
             note = self.engine._note
             assert note
             note.reviewing.shown.look()
@@ -257,7 +266,7 @@ class Anew(Reviewed):
         # What many are about isn't within the stretch.
         anchors = [anchored(site.names(6 * number, 6 * number + 5), None, [], "", knows) for number in range(100, 2_000)]
         worked, made = dict[str, list[int]](), 0
-        for most in 10, 100_000:
+        for most in 10, BESIDE:
             while made < most:
                 one = MarginRecord(MarginKind.REMARK, "Ann", made, "", "why?", anchor=anchors[made % len(anchors)])
                 (data,) = lines_of(one, 9, 300 * made)
@@ -271,10 +280,10 @@ class Anew(Reviewed):
                 "stretch": partial(self.ask, "remarks", begin=0, end=40)}
             for name, work in works.items():
                 worked.setdefault(name, []).append(instructions(work))
-        self.assertEqual(shown.counts(), (100_000, 100_000))
+        self.assertEqual(shown.counts(), (BESIDE, BESIDE))
         for counted, (few, many) in worked.items():
             if FIGURES:
-                print(f"{counted}: {few} instructions beside 10 remarks, {many} beside 100,000")
+                print(f"{counted}: {few} instructions beside 10 remarks, {many} beside {BESIDE:,}")
             self.assertLess(many, 1.1 * few, counted)
 
     def test_a_key_within_what_very_many_remarks_are_about_costs_the_same(self) -> None:
@@ -294,7 +303,7 @@ class Anew(Reviewed):
         self.editors[0][0].sees_remarks = True
         shown, site = note.reviewing.shown, self.session().site
         worked = dict[str, list[tuple[int, int]]]()
-        for most, before in (10, 0), (20_000, 10):
+        for most, before in (10, 0), (WITHIN, 10):
             self._remarked([site.names(*stretch(number)) for number in range(before, most)], kind)
             many = shown.counts()[1]
             # Where each is has to be looked for once.

@@ -1,8 +1,10 @@
 """A terminal is closed with a note open in it: what was typed is kept, and the editor ends."""
 import contextlib
 import os
+import pathlib
 import pty
 import signal
+from collections.abc import Callable
 
 from share.tests.support import NOTE, TOP, Case, wait_for, written
 from share.tests.terminals import EMACS
@@ -14,12 +16,18 @@ IN_EMACS = (*EMACS, "-L", str(TOP / "editors" / "emacs"), "-l", "vialshoal", "--
             f'(progn (setq vialshoal-command (list "{NOTE}")) (vialshoal-open "note"))')
 NEOVIM = ("nvim", "-u", "NONE", "-i", "NONE", "-n", "--cmd", f"set runtimepath^={TOP / 'editors' / 'neovim'}", "-c",
           "runtime plugin/vialshoal.lua", "-c", "Vialshoal note", "-c", "startinsert")
+# A command of an engine that stays when it has read all.
+STAYING = """#!/bin/sh
+"{note}" "$@"
+: > "{ended}"
+while [ -e "{stays}" ]; do sleep 0.1; done
+"""
 
 
 class Closed(Case):
     """An editor that leads the session of a terminal that is closed."""
 
-    def closed(self, *words: str) -> None:
+    def closed(self, *words: str, last: Callable[[int], None] = lambda end: None) -> None:
         first = self.person("ada").open()
         written(first, "begin.\r")
         first.session.close()
@@ -31,6 +39,7 @@ class Closed(Case):
         try:
             self.assertTrue(self.shown(end, b"begin."))
             self.typed(end)
+            last(end)
             os.close(end)
             wait_for(lambda: os.waitpid(process, os.WNOHANG)[0], "the editor to end")
         except BaseException:
@@ -72,3 +81,19 @@ class Closed(Case):
 
     def test_of_neovim(self) -> None:
         self.closed(*NEOVIM)
+
+    def test_of_a_neovim_that_waits_for_its_engine(self) -> None:
+        ended, stays = self.folder / "ended", self.folder / "stays"
+        stays.touch()
+        self.addCleanup(stays.unlink)
+        command = self.folder / "note"
+        command.write_text(STAYING.format(note=NOTE, ended=ended, stays=stays), encoding="utf-8")
+        command.chmod(0o700)
+        sets = f"lua require('vialshoal').setup({{ command = {{ '{command}' }} }})"
+        self.closed(*NEOVIM[:-4], "-c", sets, *NEOVIM[-4:], last=lambda end: self.quits(end, ended))
+
+    @staticmethod
+    def quits(end: int, ended: pathlib.Path) -> None:
+        """Has Neovim end, which waits for the command of its engine then."""
+        os.write(end, b"\x1c\x0e:qa!\r")
+        wait_for(ended.exists, "the engine's command to have read all")

@@ -167,7 +167,17 @@ class Crossing(unittest.TestCase):
             carry.changed(of_changes(changes, units))
             _, left = carry.edit(0, [(begin, end, "own")], 30 + growth(carry._pending(), units))
             carry.edited(left)
-            self.assertEqual(carry.met(), met, changes)
+            self.assertEqual(sum(one.end - one.begin for one in carry.met()), met, changes)
+
+    def test_each_insertion_stands_behind_what_it_is_given_at_its_place(self) -> None:
+        units, text = UNITS["utf-8"], "ab"
+        first, second = (of_changes(changes, units) for changes in ([(2, 2, b"Z"), (1, 1, b"Y"), (0, 0, b"X")],
+                                                                    [(2, 2, b"56"), (1, 1, b"34"), (0, 0, b"12")]))
+        cases: list[tuple[dict[int, int], str]] = [({}, "X12aY34bZ56"), ({0: 2, 2: 2}, "12XaY34b56Z"), ({1: 1}, "X12a3Y4bZ56")]
+        for behind, both in cases:
+            over, under = transformed(first, second, units, behind)
+            self.assertEqual(after(after(text, second, units), over, units), both)
+            self.assertEqual(after(after(text, first, units), under, units), both)
 
     @staticmethod
     def is_at_end(op: Op, end: int) -> bool:

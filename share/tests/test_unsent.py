@@ -1,7 +1,6 @@
 """Folders that are copied, and disks that are put back, while edits wait to be sent: each word is there once, and all show
 the same."""
 import contextlib
-import os
 import shutil
 import subprocess
 from collections.abc import Sequence
@@ -9,6 +8,7 @@ from unittest import mock
 
 from share.log.base import Unreachable
 from share.log.sqlite import SqliteLog
+from share.tests.servers import FileLog
 from share.tests.support import Case, Person, type_at_the_end, wait_for, written
 
 
@@ -82,8 +82,8 @@ class InAFile(Case):
         first = anna.open(url=url)
         written(first, "begun ")
         berta = self.opened(self.person("berta"), link=anna.link())
-        os.rename(self.folder / "shared", self.folder / "away")
-        (self.folder / "shared").write_text("no folder")
+        log = FileLog(self.folder)
+        log.kill()
         wait_for(lambda: first.session.status().offline, "the log to be away")
         words = [f"w{number} " for number in range(self.EDITS)]
         first.moved_to(len(first.text))
@@ -99,8 +99,7 @@ class InAFile(Case):
         other = copy.open()
         type_at_the_end(other, "other ")
         other.session.close()
-        (self.folder / "shared").unlink()
-        os.rename(self.folder / "away", self.folder / "shared")
+        log.start()
         self.stopped_between_batches(anna, 2)
         other = self.opened(copy)
         written(berta, "berta ")

@@ -5,7 +5,6 @@ import json
 import os
 import subprocess
 import tarfile
-import time
 from unittest import mock
 
 from share.format.link import read_link
@@ -105,7 +104,6 @@ class BesideIt(OfTheFirstForm, Engines):
         bob.shows("begun ")
         for number in range(6):
             (ann, bob)[number % 2].type(f"{number} ")
-            time.sleep(0.02)
         ann.edit((0, 5, "BEGUN"))
         words = ["BEGUN", *map(str, range(6))]
         ann.wait_for(lambda: sorted(self.alike(ann, bob).split()) == sorted(words), "all words")

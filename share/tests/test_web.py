@@ -1,6 +1,7 @@
 """The page's server, without a browser: who is answered what, and what a page can and can't ask for."""
 import asyncio
 import functools
+import json
 import os
 import pathlib
 import shutil
@@ -21,7 +22,7 @@ from share.editors.web import guard
 from share.editors.web.bridge import MOST_MESSAGE, NO_FIELDS, bridged, page_refusal
 from share.editors.web.opening import redirect
 from share.editors.web.server import files, missing_package
-from share.tests.pages import Server, talking
+from share.tests.pages import Server, keep_place, talking
 from share.tests.proved_files import give_up
 from share.tests.support import TOP, Case, Person, engine_of, python, wait_for
 from share.tests.waiting import PATIENCE
@@ -455,10 +456,10 @@ class Again(Served):
         async with talking(server) as talk:
             key = (await talk.line(notice="welcome"))["key"]
         kept = self.folder / "data" / "run" / "note.web"
-        self.assertEqual(stat.S_IMODE(os.stat(kept).st_mode), 0o600)
+        self.assertEqual((stat.S_IMODE(os.stat(kept).st_mode), json.loads(kept.read_bytes())["port"]), (0o600, server.port))
         server.close()
-        again = self.serve()
-        self.assertEqual((again.port, again.secret != server.secret), (server.port, True))
+        port, again = keep_place(self, self.folder / "data"), self.serve()
+        self.assertEqual((again.port, again.secret != server.secret), (port, True))
         self.assertIsNone(await self.met(again, key))
         async with talking(again, server.secret) as talk:
             self.assertEqual(await talk.code(), POLICY_VIOLATION)
@@ -473,10 +474,9 @@ class Again(Served):
             self.assertNotEqual((await talk.line(notice="welcome"))["key"], key)
 
     async def test_another_program_with_its_port_isn_t_in_the_way(self) -> None:
-        port = self.server.port
-        self.server.close()
+        port = keep_place(self, self.folder / "data")
         with socket.create_server(("127.0.0.1", port)):
-            self.assertNotEqual(self.serve().port, port)
+            self.assertNotEqual(self.server.port, port)
 
     async def test_who_has_no_key_isn_t_let_in(self) -> None:
         for last in (guard.proof("0" * 64, "page", self.server.port, "b" * 64, "c" * 64), "", "again " + "b" * 64, None):

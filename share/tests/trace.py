@@ -1,6 +1,6 @@
 """What the notes' files below a folder have, entry by entry, and what becomes of each: to find why a storm went wrong.
 
-    SHARE_KEEP=/tmp/kept SHARE_STORM=5 SHARE_SEED=7 share/tests/run test_storm
+    SHARE_KEEP=/tmp/kept SHARE_STORM=5 VIALSHOAL_SEED=7 python3 -B -m unittest share.tests.long.test_storm
     /usr/bin/python3 -B -m share.tests.trace /tmp/kept/seed-7
 
 Of each entry: its site, author, messages and kind, its hash and that of the one before it, whether it counts where all files are

@@ -37,7 +37,7 @@ class Shown {
 
   change(changes, cursor) { this.#editor.change(changes, cursor); }
 
-  replace(text) { this.#editor.replace(text); }
+  replace(text) { return this.#editor.replace(text); }
 
   /** Where the user is, and the other end of a selection. */
   get place() { return this.#editor.place(); }
@@ -58,11 +58,12 @@ function viewOf(shown, remarks = () => undefined) {
       shown.change(changes, cursor);
       shown.cursor = cursor ?? shown.cursor;
     },
-    replace(text) { shown.replace(text); },
+    replace(text) { return shown.replace(text); },
     cursors(list) { shown.cursors = list; },
     looks(list) { shown.looks = list; },
     state(line) { shown.state = line; },
     say(words) { shown.words = words; },
+    refused(words) { shown.words = words; },
     remarks,
     answered() {},
   };

@@ -9,9 +9,11 @@ PATIENCE = 300
 
 def wait_for(condition: Callable[..., Any], what: str, patience: float = PATIENCE) -> Any:
     """The condition's value, as soon as it is a true one."""
-    end = time.monotonic() + patience
+    end, pause = time.monotonic() + patience, 0.005
     while not (value := condition()):
         if time.monotonic() > end:
             raise AssertionError(f"waited {patience} seconds for {what}")
-        time.sleep(0.02)
+        time.sleep(pause)
+        # What takes long isn't asked for all the time.
+        pause = min(1.2 * pause, 0.1)
     return value

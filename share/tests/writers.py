@@ -5,6 +5,7 @@ import functools
 import json
 import os
 import pathlib
+import re
 import shlex
 import shutil
 import signal
@@ -72,6 +73,13 @@ NEOVIM = """
     require('vialshoal').note().begun = -60
     return 0
   end"""
+# Has an Emacs have Evil as Debian has it, and a key that has it take commands: Esc with a key right after it would be Alt with that key.
+EVIL = """(progn
+  (dolist (folder (file-expand-wildcards "/usr/share/emacs/site-lisp/elpa/*")) (add-to-list 'load-path folder))
+  (require 'evil)
+  (evil-mode 1)
+  (dolist (map (list evil-insert-state-map evil-normal-state-map evil-visual-state-map evil-replace-state-map))
+    (define-key map (kbd "C-]") #'evil-normal-state)))"""
 # Has Neovim take commands. Esc with a key right after it would be Alt with that key.
 NORMAL = "C-\\", "C-n"
 # The page asks whoever leaves it where an edit is unanswered.
@@ -419,6 +427,8 @@ class Emacs(InTerminal):
     """Emacs with its package."""
 
     tag, begins = "e", "*note note*"
+    # What it evaluates before the note is opened.
+    prepares = "nil"
 
     def start(self) -> None:
         # A name in a folder of its own, since a socket's path may not be long.
@@ -426,7 +436,7 @@ class Emacs(InTerminal):
         shutil.rmtree(self._socket, ignore_errors=True)
         self._socket.mkdir(mode=0o700)
         self.command = shlex.join([*EMACS, "-L", str(EDITORS / "emacs"), "-l", "vialshoal", "-l", "server",
-                                   "--eval", SERVING % (self._socket, NOTE)])
+                                   "--eval", self.prepares, "--eval", SERVING % (self._socket, NOTE)])
         super().start()
         wait_for((self._socket / "server").exists, "Emacs to listen", PATIENCE)
 
@@ -471,6 +481,57 @@ class Emacs(InTerminal):
     def goes_on(self) -> bool:
         self.terminal.press("Escape", "Escape", "Escape")
         return alive(self._process)
+
+
+class EvilEmacs(Emacs):
+    """Emacs with its package, and Evil."""
+
+    tag, prepares = "v", EVIL
+
+    def go_to(self, line: int) -> None:
+        self.press("C-]")
+        self.type(f"{line}GI")
+
+    def delete(self, word: str) -> None:
+        self.press("C-]")
+        self.type(f":%s/{re.escape(word)}//\n")
+
+    def rewrite(self, old: str, new: str, waits: Callable[[], None]) -> None:
+        self.press("C-]")
+        self.type(f":%s/{re.escape(old)}/{new}/c\n")
+        waits()
+        self.type("y")
+
+    def write_in_block(self, line: int, more: int, word: str, waits: Callable[[], None]) -> int:
+        """Types a word at the begin of a line, and of so many more; in how many lines that is."""
+        self.press("C-]")
+        with self.pressing():
+            self.terminal.send(f"{line}G0\x16{more}j".encode())
+        # Where there are fewer lines Emacs drops the keys that it has yet to read.
+        self.wait_for(lambda _: self._says("(and (not (input-pending-p)) evil-state)") == "visual", "a block that is selected")
+        self.press("I")
+        self.wait_for(lambda _: self._says("evil-state") == "insert", "a block")
+        lines = int(self._says("(or (nth 2 evil-insert-vcount) 1)"))
+        self.type(word)
+        waits()
+        self.press("C-]")
+        return lines
+
+    def begin(self, what: str, word: str, words: str) -> None:
+        self.press("C-]")
+        super().begin(what, word, words)
+
+    def undo(self) -> None:
+        self.press("C-]")
+        self.type("u")
+
+    def goes_on(self) -> bool:
+        self.terminal.press("C-g", "C-g", "C-]")
+        return alive(self._process)
+
+    def _says(self, expression: str) -> str:
+        return self.called("emacsclient", "-s", str(self._socket / "server"), "--eval",
+                           f'(with-current-buffer "*note note*" {expression})').strip()
 
 
 class Neovim(InTerminal):

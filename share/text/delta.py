@@ -1,6 +1,7 @@
 """Changes of a text as one value, counted in an editor's units: what is kept, deleted and inserted, from the front
 on. Two that were made of the same text are transformed over one another."""
-from collections.abc import Iterable, Iterator, Sequence
+from collections.abc import Iterable, Iterator, Mapping, Sequence
+from typing import NamedTuple
 
 from share.text.units import Units
 
@@ -13,6 +14,15 @@ Op = list[OpPart]
 Replacement = tuple[int, int, bytes]
 NOTHING: Op = []
 ENDLESS = 1 << 60
+
+
+class Met(NamedTuple):
+    """What another op brings to the place of an insertion: that place in the text of both, and where it begins and ends in
+    the text after the other op."""
+
+    place: int
+    begin: int
+    end: int
 
 
 class _Maker:
@@ -116,19 +126,19 @@ def composed(first: Op, second: Op, units: Units) -> Op:
     return made.done()
 
 
-def transformed(first: Op, second: Op, units: Units, behind: int = 0) -> tuple[Op, Op]:
+def transformed(first: Op, second: Op, units: Units, behind: Mapping[int, int] | None = None) -> tuple[Op, Op]:
     """Two ops of one text, the first as it is after the second, and the second as it is after the first. In one
-    place what the first inserts stands before what the second does, but behind so many units of it; where it takes
-    something's place, behind all of it."""
+    place what the first inserts stands before what the second does, but behind so many units of it as are given for
+    that place; where it takes something's place, behind all of it."""
     if not first or not second:
         return first, second
-    made_first, made_second = _Maker(), _Maker()
-    one, other = _Reader(first, units.size), _Reader(second, units.size)
+    made_first, made_second, left = _Maker(), _Maker(), dict(behind or {})
+    one, other, at = _Reader(first, units.size), _Reader(second, units.size), 0
     while one.has_more() or other.has_more():
         now, then = one.next(), other.next()
-        if isinstance(now, bytes) and isinstance(then, bytes) and (one.replaces() or behind):
-            count = other.left() if one.replaces() else min(behind, other.left())
-            behind -= min(behind, count)
+        if isinstance(now, bytes) and isinstance(then, bytes) and (one.replaces() or left.get(at)):
+            count = other.left() if one.replaces() else min(left[at], other.left())
+            left[at] = left.get(at, 0) - count
             made_first.keep(count)
             made_second.insert(other.take(count))
         elif isinstance(now, bytes):
@@ -141,6 +151,7 @@ def transformed(first: Op, second: Op, units: Units, behind: int = 0) -> tuple[O
             count = min(one.left(), other.left())
             one.take(count)
             other.take(count)
+            at += count
             if now > 0:
                 made_second.keep(count) if then > 0 else made_second.delete(count)
             if then > 0:
@@ -184,9 +195,14 @@ def kept_between(begin: int, end: int, op: Op, units: Units) -> list[tuple[int, 
     return found
 
 
-def brought_to(position: int, op: Op, units: Units) -> int:
-    """How many units an op brings to a position of the text before it."""
-    return sum(units.count(data) for begin, _, data in in_text(op, units) if begin == position)
+def met_by(first: Op, second: Op, units: Units) -> list[Met]:
+    """What the insertions of an op meet at their places, of another op of the same text; not those that take something's place."""
+    brought, shift = dict[int, tuple[int, int]](), 0
+    for begin, end, data in in_text(second, units):
+        if data:
+            brought[begin] = begin + shift, begin + shift + units.count(data)
+        shift += units.count(data) - (end - begin)
+    return [Met(begin, *brought[begin]) for begin, end, _ in in_text(first, units) if begin == end and begin in brought]
 
 
 def growth(op: Op, units: Units) -> int:

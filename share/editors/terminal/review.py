@@ -224,12 +224,13 @@ class Review:
     def _reject(self, one: PlacedThread) -> None:
         self._ask("reject", to=one.of)
 
-    def _accept(self, one: PlacedThread) -> None:
-        if one.line.get("changed"):
-            self._prompts.ask("The passage was changed since. Accept anyway (yes or no)",
-                              lambda answer: self._ask("accept", to=one.of, anyway=True) if is_yes(answer) else None)
-        else:
-            self._ask("accept", to=one.of)
+    def _accept(self, one: PlacedThread, **shown: str) -> None:
+        """Accepts a suggestion. Where the passage would become another text than was shown, that is shown, and asked about."""
+        answer = self._ask("accept", to=one.of, **shown)
+        if answer and "error" in answer:
+            becomes = str(answer["becomes"])
+            self._prompts.ask(f"The passage has changed, and would be {_quoted(becomes)}. Accept this (yes or no)",
+                              lambda said: self._accept(one, becomes=becomes) if is_yes(said) else None)
 
     # What is drawn.
 
@@ -278,6 +279,11 @@ def _begin_of(record: Line) -> str:
     """The first of what somebody wrote, in a question."""
     words = str(record.get("body") or record.get("new") or "")
     return words if len(words) <= MOST_ASKED else f"{words[:MOST_ASKED]}.."
+
+
+def _quoted(text: str) -> str:
+    """A text in a question, in quotes."""
+    return repr(text if len(text) <= MOST_IN_A_LINE else f"{text[:MOST_IN_A_LINE]}..")
 
 
 def _safe(words: str) -> str:

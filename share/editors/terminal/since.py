@@ -71,8 +71,15 @@ class ChangesSince:
         if not found or self._at is None or self._at >= len(found) or found[self._at].begin != self._view.cursor:
             return None
         one = found[self._at]
-        lines = [f"{_author(one.line)} {'wrote what went' if one.gone else 'typed this'}", *(f"- {line}" for line in _lines_of(one.gone))]
+        lines = [_what_was_done(one), *(f"- {line}" for line in _lines_of(one.gone))]
         return one.begin, [f"  | {safe_for_terminal(line)}" for line in lines]
+
+
+def _what_was_done(one: PlacedChange) -> str:
+    """Who did what, and who wrote that, where it was somebody else."""
+    by, is_own = one.line["by"], one.line["by"]["site"] == one.line["site"]
+    did = "deleted this" if one.gone else "typed this" if is_own else "brought this back"
+    return f"{_author(by)} {did}" + ("" if is_own else f", of {_author(one.line)}")
 
 
 def _lines_of(text: str) -> list[str]:

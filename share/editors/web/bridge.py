@@ -24,8 +24,8 @@ MOST_MESSAGE = 1 << 18
 MOST_LIST_BYTES = 4_096
 # What the engine's command says at its end, and how much of that a WebSocket's last words may be.
 MOST_STDERR, MOST_REASON = 4_096, 120
-# How long an engine's command may take to end by itself, before it is killed.
-END_SECONDS = 5
+# How long an engine's command may take to hand on what a page sent and end by itself, before it is killed.
+END_SECONDS = 60
 
 
 def page_refusal(data: bytes | None) -> Line | None:

@@ -162,16 +162,16 @@ export class Card {
     }
   }
 
-  /** Asks whether a suggestion is to be accepted whose text is another one since. */
-  ask({ was, now, new: put }) {
+  /** Asks whether a suggestion is to be accepted by which the passage becomes another text than was shown. */
+  ask({ was, now, becomes }) {
     const texts = made("dl");
-    for (const [name, text] of [["It was", was], ["It is now", now], ["It would be", put]]) {
+    for (const [name, text] of [["It was", was], ["It is now", now], ["It would be", becomes]]) {
       const [term, words] = [made("dt", name), made("dd")];
       words.append(text ? isolated(plainText(text)) : made("i", "nothing"));
       texts.append(term, words);
     }
-    this.#opens({ words: "Accept anyway", told: [made("p", "The text was changed since this was suggested."), texts],
-      done: () => this.#told.does(this, "accept", { to: this.thread.id, anyway: true }) });
+    this.#opens({ words: "Accept this", told: [made("p", "The text was changed since this was shown."), texts],
+      done: () => this.#told.does(this, "accept", { to: this.thread.id, becomes }) });
   }
 
   /** Opens a form in the place of another one, unless words would be lost with that. */

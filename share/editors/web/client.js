@@ -16,6 +16,14 @@ export function changed(text, changes) {
   return text;
 }
 
+/** Where a place is after changes: it stays before text that comes in at it. */
+function moved(place, changes) {
+  for (const [begin, end, put] of changes) {
+    if (begin < place) place = Math.max(begin, place - (end - begin)) + (end <= place ? put.length : 0);
+  }
+  return place;
+}
+
 /** Whether what comes in at a column is whole lines at a line's begin: a place there goes with that line. */
 export function opensLine(column, text) {
   return column === 0 && text.endsWith("\n");
@@ -44,17 +52,22 @@ export class Lines {
 }
 
 /**
- * An editor of a note. `view` shows what it is told: `change(changes, cursor)`, `replace(text)`, `looks(list)`,
- * `cursors(list)`, `state(line)`, `remarks(line)`, `say(words)` and `answered()`.
+ * An editor of a note. `view` shows what it is told: `change(changes, cursor)`, `replace(text)`, which gives the changes that it made,
+ * `looks(list)`, `cursors(list)`, `state(line)`, `remarks(line)`, `say(words)`, `answered()`, and `refused(words, changes, place)`, why which
+ * changes of the user's aren't in the text, and where they were.
  */
 export class Client {
   #send;
   #view;
   #clock;
+  // Whether the note itself answers, in this page: what is typed is handed on at once then, and holds nobody's text back.
+  #isHere;
   // Since when there has been an edit without an answer at every moment.
   #since = 0;
   #notices = 0;
   #gathered = [];
+  // The edits that aren't answered: the number of each, its changes, and where the first one is now.
+  #unanswered = [];
   #asked = new Map();
   #ids = 1;
 
@@ -62,6 +75,7 @@ export class Client {
     this.version = opened.version;
     this.made = opened.edits;
     this.answered = opened.edits;
+    this.#isHere = opened.here === true;
     this.#send = send;
     this.#view = view;
     this.#clock = clock;
@@ -69,8 +83,9 @@ export class Client {
 
   /** Sends an edit that the user made, and that is shown already. */
   edit(changes) {
+    this.#moves(changes);
     this.#gathered = this.#gathered.concat(changes);
-    if (this.made < this.answered + UNANSWERED) this.#flush();
+    if (this.#isHere || this.made < this.answered + UNANSWERED) this.#flush();
   }
 
   #flush() {
@@ -85,12 +100,23 @@ export class Client {
     if (this.answered === this.made) this.#since = this.#clock();
     this.made += 1;
     this.#notices = 0;
+    this.#unanswered.push({ edits: this.made, changes, place: changes[0][0] });
     this.#send({ do: "edit", version: this.version, edits: this.made, changes, ...more });
+  }
+
+  /** The text was changed: places of what isn't answered go along. */
+  #moves(changes) {
+    for (const one of this.#unanswered) one.place = moved(one.place, changes);
+  }
+
+  /** How many edits the user made that aren't kept, as far as it is known. */
+  get unanswered() {
+    return this.made - this.answered + (this.#gathered.length ? 1 : 0);
   }
 
   /** Whether the next key is to be kept until the last edit is answered. */
   waits() {
-    return this.answered < this.made && this.#clock() > this.#since + BUSY_MS;
+    return !this.#isHere && this.answered < this.made && this.#clock() > this.#since + BUSY_MS;
   }
 
   /** Says that this took too long. */
@@ -138,19 +164,27 @@ export class Client {
 
   #answer(line) {
     const asked = this.#asked.get(line.id);
+    const isOfEdit = line.answer === "edit" && "edits" in line;
     if ("error" in line) {
-      if (!asked?.isQuiet) this.#view.say(line.words);
+      if (!asked?.isQuiet && !isOfEdit) this.#view.say(line.words);
       if (!("edits" in line) && !("id" in line)) this.#send({ do: "text", edits: this.made });
     }
-    if (line.answer === "edit" && "edits" in line) {
-      this.answered = line.edits;
-      this.#view.answered();
-    }
+    if (isOfEdit) this.#answered(line);
     // Whoever asked goes on later, and what came meanwhile is shown by then.
     const { version } = this;
     const isOld = () => version !== this.version || line.edits !== this.made || this.#gathered.length > 0;
     asked?.resolve({ ...line, isOld });
     this.#asked.delete(line.id);
+  }
+
+  /** All up to an edit is kept, or it is refused with those before it that weren't answered. */
+  #answered({ edits, error, words }) {
+    const isLater = (one) => one.edits > edits;
+    const some = this.#unanswered.filter((one) => !isLater(one));
+    this.#unanswered = this.#unanswered.filter(isLater);
+    this.answered = edits;
+    if (error) this.#view.refused(words, some.flatMap((one) => one.changes), some[0]?.place ?? 0);
+    this.#view.answered();
   }
 
   #notice(line) {
@@ -166,11 +200,12 @@ export class Client {
       this.#view.cursors(line.cursors);
     } else if (line.notice === "changes") {
       this.version = line.version;
+      this.#moves(line.changes);
       this.#view.change(line.changes, line.cursor);
       this.#seen();
     } else if (line.notice === "text") {
       this.version = line.version;
-      this.#view.replace(line.text);
+      this.#moves(this.#view.replace(line.text));
       this.#seen();
     } else if (line.notice === "looks") {
       this.version = line.version;

@@ -23,7 +23,7 @@ export class Draft {
     [this.#editor, this.#mark] = [editor, mark];
     const { from, to } = this.place();
     const [name, text] = isSuggestion ? ["Suggest", put ?? editor.cm.getRange(from, to)] : ["Remark"];
-    this.#form = new Form({ words: name, text: "", isNeeded: !isSuggestion, put: text, left: () => left(this, true),
+    this.#form = new Form({ words: name, text: "", isNeeded: !isSuggestion, put: text, isSelected: put === undefined, left: () => left(this, true),
       done: (body, typed) => this.#sends(sends, body, text === undefined ? undefined : withLineEnds(typed, text)) });
     this.element = Object.assign(made("article", "", "card draft active"), { ariaLabel: `${name}: a new one` });
     this.element.append(this.#form.element);

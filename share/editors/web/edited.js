@@ -121,10 +121,12 @@ export class Edited {
     })), undefined, { scroll: false });
   }
 
-  /** Shows another text, and leaves what is the same as it is. */
+  /** Shows another text, and leaves what is the same as it is; which changes that takes. */
   replace(text) {
     const [begin, end, upTo] = difference(this.text, text);
-    if (end > begin || upTo > begin) this.change([[begin, end, text.slice(begin, upTo)]]);
+    const changes = end > begin || upTo > begin ? [[begin, end, text.slice(begin, upTo)]] : [];
+    if (changes.length) this.change(changes);
+    return changes;
   }
 
   #shows(does) {

@@ -22,16 +22,19 @@ export class Form {
   #fields = [];
   #first;
   #begun;
+  // Whether typing replaces what the first field begins with.
+  #selects;
   #isSent = false;
 
   /**
    * `words` are those of the button that sends it. Without `text` it is a question, else that is what stands in its field at first, in
-   * which something `isNeeded`; `put` is, where it is given, what stands at first in a field of its own. `done(body, put)` gives
-   * whether that was done.
-   * @param {{words: string, text?: string, put?: string, isNeeded?: boolean, told?: Node[], done: (...words: string[]) => any,
-   *   left: () => void}} how
+   * which something `isNeeded`; `put` is, where it is given, what stands at first in a field of its own, which `isSelected` for what is typed
+   * there to replace it. `done(body, put)` gives whether that was done.
+   * @param {{words: string, text?: string, put?: string, isSelected?: boolean, isNeeded?: boolean, told?: Node[],
+   *   done: (...words: string[]) => any, left: () => void}} how
    */
-  constructor({ words, text, put, isNeeded = false, told = [], done, left }) {
+  constructor({ words, text, put, isSelected = false, isNeeded = false, told = [], done, left }) {
+    this.#selects = isSelected;
     this.element = Object.assign(made("form"), { ariaLabel: words });
     if (put !== undefined) this.#fields.push(field("What is to stand there instead", put, 2));
     if (text !== undefined) {
@@ -67,7 +70,8 @@ export class Form {
   focus() {
     this.#first.focus();
     for (const one of this.#fields) grow(one);
-    this.#fields[0]?.setSelectionRange(this.#fields[0].value.length, this.#fields[0].value.length);
+    const end = this.#fields[0]?.value.length;
+    this.#fields[0]?.setSelectionRange(this.#selects && !this.hasWords ? 0 : end, end);
   }
 
   /** Sends it once; it stays, with its words, where that failed. What would be typed meanwhile wouldn't be sent. */

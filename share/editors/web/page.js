@@ -12,10 +12,11 @@ import { Past } from "./past.js";
 import { colourOf } from "./people.js";
 import { Present } from "./present.js";
 import { printsAll } from "./printing.js";
+import { Refused } from "./refused.js";
 import { Review } from "./review.js";
 import { say, showState } from "./said.js";
 import { Since } from "./since.js";
-import { stateWords } from "./state.js";
+import { State } from "./state.js";
 import { Writers } from "./writers.js";
 
 /* global CodeMirror */
@@ -34,6 +35,7 @@ export class Page {
   #last;
   #cursorTimer;
   #isRenamed = false;
+  #state = new State(() => this.#unanswered);
 
   /** `connects` gives the way to the engine, which tells what comes; `lists` shows the user's other notes, where that isn't done here. */
   constructor(connects, lists = () => this.notes.show()) {
@@ -45,12 +47,17 @@ export class Page {
       settles: () => this.#settle(),
     });
     this.editor = new Editor(element("text"), {
-      edit: (changes) => this.#client?.edit(changes), moved: () => this.#moved(), changed: (place) => this.changes.at(place),
+      edit: (changes) => {
+        this.#client?.edit(changes);
+        this.#state.follows();
+      },
+      moved: () => this.#moved(), changed: (place) => this.changes.at(place),
       takes: (change) => this.review?.suggesting.takes(change),
     });
     const { cm } = this.editor;
     this.changes = new Changes(cm);
     this.keys = new Keys(cm, () => this.#client);
+    this.refused = new Refused(this.editor);
     const ask = (request) => this.#ask(request);
     this.present = new Present(ask);
     const colourOfSite = (site) => this.present.colourOf(site);
@@ -91,7 +98,11 @@ export class Page {
       this.writers.toggle();
     });
     element("name").addEventListener("change", () => this.#rename());
-    window.addEventListener("beforeunload", (event) => { if (this.#isUnanswered() || this.review.hasWords) event.preventDefault(); });
+    // What is composed is text that is shown.
+    addEventListener("pagehide", () => this.#settle());
+    addEventListener("beforeunload", (event) => {
+      if (this.#unanswered || this.review.hasWords || this.refused.hasWords) event.preventDefault();
+    });
     cm.on("paste", paste);
     cm.on("changes", () => this.formatted.changed());
     // The browser's own undo, of its menu, would take back letters that the note has already.
@@ -151,8 +162,9 @@ export class Page {
     return this.#client ? this.#client.askOf(request, isQuiet) : { error: "away" };
   }
 
-  #isUnanswered() {
-    return this.#last !== undefined && this.#last.answered < this.#last.made;
+  /** How many edits of the user's aren't kept, as far as it is known. */
+  get #unanswered() {
+    return this.#last?.unanswered ?? 0;
   }
 
   /** What is printed. */
@@ -195,12 +207,13 @@ export class Page {
     document.title = line.note;
     element("note").textContent = line.note;
     const before = this.editor.text;
-    if (this.#isUnanswered() && before !== line.text) this.#keep(before);
+    if (this.#unanswered && before !== line.text) this.past.offers(before);
     this.editor.replace(line.text);
     this.editor.looks([]);
     for (const option of element("colour").options) option.style.color = colourOf(line.colours[option.value]);
     this.#client = new Client(line, (request) => this.#send(request), this.#view(line.colours));
     this.#last = this.#client;
+    this.#state.follows();
     this.present.begin();
     this.review.opened();
     this.#moved();
@@ -242,20 +255,17 @@ export class Page {
       },
       state: (line) => {
         this.editor.types = line.types;
-        showState(stateWords(line), Boolean(line.trouble), line.trouble ?? line.why);
+        this.#state.is(line);
         this.present.heard({ on: line.on });
       },
       remarks: (line) => this.review.counted(line),
       say,
-      answered: () => { if (!this.#isUnanswered()) this.keys.release(); },
+      refused: (words, changes, place) => this.refused.take(words, changes, place),
+      answered: () => {
+        this.#state.follows();
+        if (!this.#unanswered) this.keys.release();
+      },
     };
-  }
-
-  #keep(text) {
-    const button = document.createElement("button");
-    button.textContent = "Show it";
-    button.addEventListener("click", () => this.past.keep(text, "your text as it was before the interruption"));
-    say("Your last edits weren't answered, and the note is another one now. Your text of before is kept beside. ", button);
   }
 
   // The user's cursor.

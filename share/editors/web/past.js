@@ -1,6 +1,7 @@
 // The note's history: its text as it was, with colours of who wrote what.
 import { colourAt, nameOf, pale } from "./people.js";
 import { OPTIONS } from "./editor.js";
+import { say } from "./said.js";
 
 /* global CodeMirror */
 
@@ -95,12 +96,16 @@ export class Past {
     await this.#look();
   }
 
-  /** Shows a text that is kept beside the note. */
-  keep(text, words) {
-    this.#open(false);
-    element("authors").replaceChildren();
-    element("step").textContent = words;
-    this.#set(text, []);
+  /** Offers the user's text of before an interruption, of which the note may lack some. */
+  offers(text) {
+    const button = Object.assign(document.createElement("button"), { textContent: "Show it" });
+    button.addEventListener("click", () => {
+      this.#open(false);
+      element("authors").replaceChildren();
+      element("step").textContent = "your text as it was before the interruption";
+      this.#set(text, []);
+    });
+    say("Your last edits weren't answered, and the note is another one now. Your text of before is kept beside. ", button);
   }
 
   #open(slides) {

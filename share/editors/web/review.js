@@ -66,7 +66,11 @@ export class Review {
       this.#threads.news(0);
     });
     NARROW.addEventListener("change", () => this.#threads.news(0));
-    element("cards").addEventListener("focusout", () => this.#margin.soon());
+    element("cards").addEventListener("focusout", () => {
+      this.#margin.soon();
+      // What isn't among those that are asked for is marked only as long as somebody is at its card.
+      if (this.#threads.kept.size) this.#threads.news(0);
+    });
   }
 
   get isShown() {

@@ -13,7 +13,7 @@ export function showState(words, isTrouble = false, why = "") {
   element("state").classList.toggle("trouble", isTrouble);
 }
 
-/** Shows words for the user, until they are put away. */
+/** Shows words for the user, until they are put away; the line that has them. */
 export function say(words, ...more) {
   const line = document.createElement("p");
   const away = document.createElement("button");
@@ -21,5 +21,8 @@ export function say(words, ...more) {
   away.textContent = "OK";
   away.addEventListener("click", () => line.remove());
   element("words").append(line);
-  while (element("words").children.length > MOST_WORDS) element("words").firstChild.remove();
+  // What was typed goes by its user's will only.
+  const others = [...element("words").children].filter((one) => !one.matches(".typed"));
+  for (const one of others.slice(0, -MOST_WORDS)) one.remove();
+  return line;
 }

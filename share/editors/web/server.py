@@ -23,8 +23,8 @@ HERE = pathlib.Path(__file__).absolute().parent
 PAGE_FILES = ["secret.js", "page.js", "page.css", "text.css", "review.css", "aloud.js", "card.js", "cards.js", "client.js",
               "composing.js", "connection.js", "drafts.js", "edited.js", "editor.js", "finding.js", "formatted.js", "forms.js",
               "gathered.js", "graphemes.js", "keys.js", "links.js", "local.js", "margin.js", "markdown.js", "notes.js",
-              "others.js", "past.js", "people.js", "places.js", "present.js", "printing.js", "review.js", "said.js", "shown.js",
-              "since.js", "state.js", "stretches.js", "suggesting.js", "threads.js", "writers.js"]
+              "others.js", "past.js", "people.js", "places.js", "present.js", "printing.js", "refused.js", "review.js", "said.js",
+              "shown.js", "since.js", "state.js", "stretches.js", "suggesting.js", "threads.js", "writers.js"]
 LIBRARY = ["lib/codemirror.js", "lib/codemirror.css", "addon/search/searchcursor.js"]
 # What one view needs alone: its address, its file, and the package of Debian's that has it.
 MARKDOWN = "/markdownit.js", pathlib.Path("/usr/share/javascript/markdown-it/markdown-it.js"), "libjs-markdown-it"
@@ -34,8 +34,9 @@ AGAIN = re.compile(b"again ([0-9a-f]{64})")
 Handler = Callable[[web.Request], Awaitable[web.StreamResponse]]
 # By a note's name: the command of its engine, and what its environment is.
 Commands = Callable[[str], tuple[Sequence[str], Mapping[str, str]]]
-# The time to say the secret after connecting, and the most who may be about to; one more takes the place of the first of them.
-SECRET_SECONDS, MOST_STRANGERS = 10, 16
+# The time to say the secret after connecting, which a page on a busy machine may need, and the most who may be about to; one more takes the
+# place of the first of them.
+SECRET_SECONDS, MOST_STRANGERS = 120, 16
 
 
 def files() -> dict[str, pathlib.Path]:

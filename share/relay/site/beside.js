@@ -3,9 +3,11 @@
 import { hex } from "./bytes.js";
 import { KIND, sealed } from "./entry.js";
 import { Feed } from "./feed.js";
+import { ownOf } from "./held.js";
 import { authorOf, sha256 } from "./keys.js";
 import { MARGIN, idOf } from "./record.js";
 import { Wrong } from "./shared.js";
+import { keepUnkept } from "./unkept.js";
 
 const words = (/** @type {number} */ site) => ({
   notHere: `That was written under number ${site}, which isn't yours to write under any more, so it stays as it is. Answer it instead.`,
@@ -16,12 +18,12 @@ const words = (/** @type {number} */ site) => ({
  * @param {import("./core.js").Core} core @param {import("./store.js").Store} store @param {import("./keys.js").NoteKeys} keys
  * @param {string} id @param {number} site @param {(at: number) => Promise<Uint8Array[]>} makes @returns {Promise<string>} */
 export async function writtenBeside(core, store, keys, id, site, makes) {
-  const note = await store.note(id);
-  const own = [note?.author, ...note?.numbers ?? []].find((one) => one?.site === site);
+  const own = ownOf(await store.note(id)).find((one) => one.site === site);
   if (!own) throw new Wrong("own", words(site).notHere);
   return navigator.locks.request(`vialshoal ${id} ${site}`, { ifAvailable: true }, async (lock) => {
     if (!lock) throw new Wrong("own", words(site).inUse);
     const [feed, author] = [new Feed(core, store, keys, id, site), await authorOf(own.secret)];
+    await keepUnkept(store, keys, id, site);
     try {
       await feed.next(() => {});
       const { value, sayings } = feed;

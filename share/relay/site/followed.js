@@ -74,8 +74,10 @@ export class Followed {
     else this.#tell("send");
   }
 
-  /** Has all tabs show what was kept by this one, and it be sent. */
-  kept() {
+  /** Has all tabs show what was kept by this one, and it be sent: so many entries, until they are counted.
+   * @param {number} many */
+  kept(many = 0) {
+    this.standing = { ...this.standing, unsent: this.standing.unsent + many };
     this.#tell("kept");
     this.send();
   }

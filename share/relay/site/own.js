@@ -1,17 +1,16 @@
 // What is typed in this tab: under a number that no other tab types under meanwhile, so that they never make two histories of one. An edit is
-// an entry, which is sealed and signed, and on the disk before it is answered.
+// an entry, which is sealed and signed, and on the disk before it is answered. Until then what was said is beside the database.
 import { Trouble, hex } from "./bytes.js";
-import { KIND, claim, sealed } from "./entry.js";
-import { authorOf, sha256 } from "./keys.js";
-import { rankOf } from "./rank.js";
+import { authorsOf, heldOf, ownOf } from "./held.js";
+import { dropUnkept, keepSaid, keepUnkept, sitesUnkept, writeUnkept } from "./unkept.js";
 
 /** @typedef {import("./value.js").Saying} Saying */
-/** A number, with what signs for it; and its claim where that is to be made.
- * @typedef {{ site: number, author: import("./keys.js").Author, claims: { counter: bigint, rank: Uint8Array } | null }} Held */
+/** @typedef {import("./held.js").Held} Held */
 /** That messages of an own number were made anew, up to one.
  * @typedef {{ author: string, site: number, text: number, before: Uint8Array }} Word */
-/** What was said, under which number, up to which of the editor's edits that has all, and what was made anew by it.
- * @typedef {{ saying: Saying, number: Held, edits: number, words: Word[] }} Said */
+/** What was said, under which number, up to which of the editor's edits that has all, what was made anew by it, and its name beside the
+ * database, if it is there.
+ * @typedef {{ saying: Saying, number: Held, edits: number, words: Word[], beside: string }} Said */
 
 // The most entries that are sealed and kept at once.
 const AT_ONCE = 100;
@@ -36,7 +35,8 @@ export class Own {
   #authors = new Map();
 
   /** @param {import("./store.js").Store} store @param {import("./keys.js").NoteKeys} keys @param {string} id
-   * @param {{ kept: (edits: number) => void, failed: () => void }} told of edits up to a number that are on the disk */
+   * @param {{ kept: (edits: number, many: number) => void, failed: () => void, recovered: () => void }} told of edits up to a number that are
+   * on the disk, in so many entries; and that something is there which a tab of before said */
   constructor(store, keys, id, told) {
     this.#store = store;
     this.#keys = keys;
@@ -82,14 +82,24 @@ export class Own {
   async take(taken) {
     const note = await this.#store.note(this.#id);
     if (this.#number || !note) return this.#number?.site ?? 0;
-    const own = [note.author, ...note.numbers ?? []].flatMap((one) => (one ? [one] : []));
+    const own = ownOf(note);
     this.#sites = new Set(own.map(({ site }) => site));
-    const authors = await Promise.all(own.map(({ secret }) => authorOf(secret)));
-    this.#authors = new Map(authors.map((author) => [hex(author.name), author]));
-    if (note.author?.site && !note.author.isLeft && await this.#holds(note.author.site)) return this.#has(note.author, null);
+    this.#authors = await authorsOf(own);
+    await this.#keepLeft(own, { ifAvailable: true });
+    const site = await this.#takeOf(note, taken);
+    // A tab that was just closed may still have its number.
+    this.#keepLeft(own.filter((one) => one.site !== site), { signal: this.#ends.signal }).catch((why) => {
+      if (!this.#ends.signal.aborted) reportError(why);
+    });
+    return site;
+  }
+
+  /** @param {import("./store.js").Note} note @param {Set<number>} taken */
+  async #takeOf(note, taken) {
+    if (note.author?.site && !note.author.isLeft && await this.#holds(note.author.site)) return this.#has(note.author);
     for (const one of note.numbers ?? []) {
       const isUsable = !one.isLeft && (one.isClaimed || !taken.has(one.site));
-      if (isUsable && await this.#holds(one.site)) return this.#has(one, one.isClaimed ? null : one.counter);
+      if (isUsable && await this.#holds(one.site)) return this.#has(one);
     }
     return this.#takeSpare(taken);
   }
@@ -101,7 +111,10 @@ export class Own {
     if (this.failure) return;
     const number = this.#number;
     if (number?.site !== saying.site) throw new Error(`This is said under ${saying.site}, and this tab has ${number?.site ?? "no number"}.`);
-    this.#queue.push({ saying, number, edits, words });
+    // Behind something that isn't beside the database nothing may be there: it builds on that.
+    const isAfterGap = this.#queue.length > 0 && !this.#queue[this.#queue.length - 1].beside;
+    const beside = isAfterGap ? "" : writeUnkept(this.#id, { saying, words });
+    this.#queue.push({ saying, number, edits, words, beside });
     if (!this.#isBusy) this.#going = this.#go();
   }
 
@@ -124,24 +137,52 @@ export class Own {
       return found ? { spare: null, numbers: [...numbers, found] } : {};
     });
     const one = /** @type {import("./store.js").Searched | null} */ (found);
-    return one && await this.#holds(one.site) ? this.#has(one, one.counter) : 0;
+    return one && await this.#holds(one.site) ? this.#has(one) : 0;
   }
 
-  /** @param {{ secret: Uint8Array, site: number }} one @param {bigint | null} counter of its claim, where that is to be made */
-  async #has({ secret, site }, counter) {
-    const author = await authorOf(secret);
-    const claims = counter === null ? null : { counter, rank: await rankOf(this.#keys.identity, author.name, counter) };
-    this.#number = { site, author, claims };
+  /** @param {import("./held.js").Stored} one whose lock is held */
+  async #has(one) {
+    const isRecovered = await this.#keepsUnkept(one.site);
+    const number = await heldOf(this.#keys, one);
+    // The claim was kept with the recovered edits.
+    if (isRecovered) number.claims = null;
+    const { author, site } = number;
+    this.#number = number;
     this.#sites.add(site);
     this.#authors.set(hex(author.name), author);
     return site;
+  }
+
+  /** @param {number} site whose lock is held */
+  async #keepsUnkept(site) {
+    const isRecovered = await keepUnkept(this.#store, this.#keys, this.#id, site);
+    if (isRecovered) this.#told.recovered();
+    return isRecovered;
+  }
+
+  /** Has be kept what tabs that have ended said under numbers and didn't keep.
+   * @param {import("./held.js").Stored[]} own
+   * @param {LockOptions} how whether a tab is waited for that has such a number, and keeps it by itself unless it ends before */
+  async #keepLeft(own, how) {
+    for (const site of sitesUnkept(this.#id)) {
+      if (own.some((one) => one.site === site)) {
+        await navigator.locks.request(this.#lockOf(site), how, async (lock) => {
+          if (lock) await this.#keepsUnkept(site);
+        });
+      }
+    }
+  }
+
+  /** @param {number} site */
+  #lockOf(site) {
+    return `vialshoal ${this.#id} ${site}`;
   }
 
   /** Has this tab alone type under a number, if no other one does.
    * @param {number} site @returns {Promise<boolean>} */
   #holds(site) {
     return new Promise((done) => {
-      void navigator.locks.request(`vialshoal ${this.#id} ${site}`, { ifAvailable: true }, (lock) => {
+      void navigator.locks.request(this.#lockOf(site), { ifAvailable: true }, (lock) => {
         done(Boolean(lock));
         return lock && new Promise((ended) => this.#ends.signal.addEventListener("abort", ended));
       });
@@ -153,12 +194,15 @@ export class Own {
     try {
       while (this.#queue.length) {
         const some = this.#first();
-        await this.#keep(some[0].number, some);
+        await keepSaid(this.#store, this.#keys, this.#id, some[0].number, some, this.#authors);
         this.#queue.splice(0, some.length);
-        this.#told.kept(some[some.length - 1].edits);
+        dropUnkept(some.map(({ beside }) => beside));
+        this.#told.kept(some[some.length - 1].edits, some.length);
       }
     } catch (/** @type {any} */ why) {
       if (!(why instanceof Trouble)) reportError(why);
+      // It is taken out of the text, and the editor keeps it.
+      dropUnkept(this.#queue.map(({ beside }) => beside));
       [this.#queue, this.failure] = [[], why.message];
       this.#told.failed();
     } finally {
@@ -171,23 +215,5 @@ export class Own {
     const some = this.#queue.slice(0, AT_ONCE);
     const end = some.findIndex(({ number }) => number !== some[0].number);
     return end < 0 ? some : some.slice(0, end);
-  }
-
-  /** @param {Held} number @param {Said[]} some said under it */
-  async #keep(number, some) {
-    const { author, site, claims } = number;
-    const raws = await Promise.all(some.flatMap(({ saying: { body, ...place }, words }) => [
-      sealed(this.#keys, KIND.messages, author, place, body), ...words.map((word) => this.#sealedWord(word))]));
-    if (claims) raws.unshift(await claim(this.#keys, author, { counter: claims.counter, site }));
-    const entries = await Promise.all(raws.map(async (raw) => ({ hash: hex(await sha256(raw)), raw, isSent: false })));
-    await this.#store.keep(this.#id, entries, ({ numbers = [] }) => (
-      { numbers: numbers.map((one) => (one.site === site ? { ...one, isClaimed: true } : one)) }));
-    number.claims = null;
-  }
-
-  /** @param {Word} word */
-  #sealedWord({ author: name, ...place }) {
-    const author = /** @type {import("./keys.js").Author} */ (this.#authors.get(name));
-    return sealed(this.#keys, KIND.anew, author, place, new Uint8Array(0));
   }
 }

@@ -13,6 +13,7 @@ import { meets } from "./spots.js";
 /** The requests about a margin. */
 export const ABOUT_MARGIN = new Set(["remarks", "remark", "suggest", "reply", "resolve", "reopen", "reject", "revise", "withdraw",
   "accept"]);
+const CHANGED = "The passage has changed since this was shown, so nothing was done. Accept it again if it may become what is shown now.";
 // How soon it is looked whether something is otherwise in the margin.
 const SOON_MS = 200;
 
@@ -91,12 +92,12 @@ export class Reviewing {
     };
   }
 
-  /** Shows what is suggested, and hides what it replaces; or tells how the passage has changed since, but where it is asked for anyway.
+  /** Shows what is suggested, and hides what it replaces, if the passage becomes what the page's user was shown: `becomes`, or without that what
+   * was suggested for the passage as it was. Else nothing is done, and it is told what the passage would become.
    * @param {any} line */
   async #accept(line) {
     const id = await this.#remarking.thread(line);
     await this.#whole.kept();
-    this.#telling.settle();
     this.#typing.mayType();
     const text = /** @type {SharedText} */ (this.#whole.text);
     const [thread, found] = [this.#margin.said.thread(id), this.#margin.stood(text).find((one) => one.id === id)];
@@ -105,10 +106,9 @@ export class Reviewing {
     if (!spot.holds || spot.begin === null) throw new Wrong("elsewhere", "The text that this is about isn't here.");
     if (spot.isAccepted) return { done: false };
     const { at } = thread.anchor;
-    const now = line.anyway === true ? null : changedTo(text, spot, thread.new);
-    if (now !== null) {
-      const was = await this.#margin.shown(at);
-      throw new Wrong("changed", "The text has changed since this was suggested.", { was, now, new: put });
+    const { isAsSuggested, now, becomes } = becomesOf(text, spot, at, thread.new, put);
+    if (line.becomes === undefined ? !isAsSuggested : line.becomes !== becomes) {
+      throw new Wrong("changed", CHANGED, { was: await this.#margin.shown(at), now, new: put, becomes });
     }
     return { done: this.#typing.does(text, { came: at, went: thread.new, looked: [], accepts: id }) };
   }
@@ -134,12 +134,14 @@ export class Reviewing {
   }
 }
 
-/** What a passage is now where it is otherwise than it was; or where the replacement doesn't stand in its place, since its author may have
- * typed it anywhere, and others something between.
- * @param {SharedText} text @param {import("./spots.js").Spot} spot @param {import("./value.js").Names[]} put */
-function changedTo(text, { begin, end, isChanged, isGone }, put) {
+/** What a passage is, what it becomes if its replacement is shown and what that replaces is hidden, and whether that is as it was suggested.
+ * The replacement may stand beside the passage, since its author may have typed it anywhere, and others something between.
+ * @param {SharedText} text @param {import("./spots.js").Spot} spot @param {import("./value.js").Names[]} at what is replaced
+ * @param {import("./value.js").Names[]} names those of the replacement @param {string} put */
+function becomesOf(text, { begin, end, isChanged }, at, names, put) {
   const from = begin ?? 0;
-  if (isChanged) return isGone ? "" : text.between(from, end);
-  const { first, last } = text.placesOf(put);
-  return first < from || last > end ? text.between(Math.min(first, from), Math.max(last, end)) : null;
+  const { first, last } = text.placesOf(names);
+  const [low, high] = [Math.min(first, from), Math.max(last, end)];
+  return { isAsSuggested: !isChanged && low === from && high === end, now: text.between(low, high),
+    becomes: text.replaced(low, high, at, names, put) };
 }

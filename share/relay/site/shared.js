@@ -239,6 +239,24 @@ export class SharedText {
     return { first, last };
   }
 
+  /** What stands between two bytes, with some characters hidden and others shown, which are hidden now.
+   * @param {number} from @param {number} to @param {Names[]} went @param {Names[]} came @param {string} put what came, in its order */
+  replaced(from, to, went, came, put) {
+    const [value, bytes, shown] = [this.#value, swapped(ENCODER.encode(put)), this.#value.bytes(TEXT, from, to)];
+    const isGone = (/** @type {number} */ site, /** @type {number} */ offset) => (
+      went.some(([of, begin, many]) => of === site && offset >= begin && offset < begin + many));
+    const places = came.flatMap(([site, begin, many]) => Array.from({ length: many }, (_, at) => this.placesOf([[site, begin + at, 1]]).first));
+    const order = Array.from(places.keys()).sort((one, other) => places[one] - places[other] || one - other);
+    const stays = value.names(TEXT, from, to).flatMap(([site, begin, many]) => Array.from({ length: many }, (_, at) => !isGone(site, begin + at)));
+    /** @type {number[]} */
+    const found = [];
+    for (let [at, next] = [from, 0]; at <= to; at += 1) {
+      for (; next < order.length && places[order[next]] <= at; next += 1) found.push(bytes[order[next]]);
+      if (at < to && stays[at - from]) found.push(shown[at - from]);
+    }
+    return readable(Uint8Array.from(found));
+  }
+
   /** The names of a stretch's characters.
    * @param {number} begin @param {number} end */
   namesOf(begin, end) {

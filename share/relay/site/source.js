@@ -1,5 +1,6 @@
 // In place of a local engine: answers a note's page line by line as docs/ENGINE.md has it. Nothing is carried over here as an engine does,
-// since the note's value and the editor are in one thread: each edit counts in the text that the editor shows.
+// since the note's value and the editor are in one thread: each edit counts in the text that the editor shows, and is handed on as it is made
+// (`here`).
 import { Asking } from "./asking.js";
 import { Looked } from "./looked.js";
 import { People } from "./peopled.js";
@@ -44,7 +45,7 @@ export class Source {
     [this.#told, this.#store, this.#note] = [told, store, note];
     this.#isFirst = !note.size && !note.author;
     this.#whole = new Whole(core, store, keys, note, {
-      isBusy: () => this.#telling.isBusy(), settle: () => this.#telling.settle(), changed: (changes) => this.#changed(changes),
+      isBusy: () => this.#telling.isBusy(), changed: (changes) => this.#changed(changes),
       unkept: (words) => this.#telling.unkept(words), kept: (edits) => this.#telling.answer(edits),
       reads: (done, of) => this.#reads(done, of), stands: () => this.#stands(), says: (words) => this.#says(words),
     });
@@ -97,7 +98,7 @@ export class Source {
     this.#reviewing.begin();
     this.#isCalled(asks.name);
     this.#told.came({ answer: "open", id: asks.id, note: this.#note.name, units: "utf-16", text: text.slice(), version: 0, edits: 0, you: 1,
-      site: this.#whole.own.number?.site ?? 0, most: MOST, colours: COLOURS });
+      site: this.#whole.own.number?.site ?? 0, most: MOST, colours: COLOURS, here: true });
     this.#stands();
   }
 

@@ -2,7 +2,8 @@
 
 /** @param {import("./followed.js").Standing} standing @param {import("./whole.js").Whole} whole @param {number} on how many are on */
 export function stateOf({ isUp, words, unsent, read, of }, { own, types, facts, isSearching, leftOut }, on) {
-  const waiting = unsent + own.waiting;
+  // Offline it is told what is kept.
+  const waiting = unsent + (isUp ? own.waiting : 0);
   const renewed = facts.renewedBy[0];
   return { log: isUp ? (waiting ? "sending" : "sent") : "away", unsent: waiting, on, types, waiting: 0, site: own.number?.site ?? 0,
     ...(isUp || !words ? {} : { why: words }), ...(isUp && words ? { trouble: words } : {}), ...(read < of ? { read, of } : {}),

@@ -1,5 +1,6 @@
 // What this browser keeps of notes: their keys, and each entry, which is on the disk before anything is shown as sent.
 import { Trouble } from "./bytes.js";
+import { forgetUnkept } from "./unkept.js";
 
 const [NAME, VERSION] = ["vialshoal", 1];
 const NO_ROOM = "This browser has no room left for its notes. Free some, or save the log as a file; nothing more is kept until then.";
@@ -200,6 +201,7 @@ export class Store {
   /** Forgets a note, with its key and all that is here of it.
    * @param {string} id */
   remove(id) {
+    forgetUnkept(id);
     return this.#do("readwrite", async (store) => {
       await asked(store("notes").delete(id));
       const walk = store("entries").index("of").openCursor(id);

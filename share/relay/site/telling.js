@@ -16,6 +16,9 @@ export class Telling {
   edits = 0;
   isOpen = false;
   #kept = 0;
+  // Why edits were refused that aren't answered yet, by their numbers.
+  /** @type {Map<number, object>} */
+  #refused = new Map();
   #told;
   #whole;
   #people;
@@ -34,6 +37,7 @@ export class Telling {
   /** The note was opened: nothing was told by now. */
   begin() {
     [this.isOpen, this.version, this.edits, this.#kept, this.#state, this.#looks, this.#cursors] = [true, 0, 0, 0, "", "[]", "[]"];
+    this.#refused.clear();
   }
 
   close() {
@@ -46,11 +50,6 @@ export class Telling {
     if (!this.isOpen) return false;
     if (this.#told.isBusy()) this.#told.waits(1);
     return this.#told.isBusy();
-  }
-
-  /** Has the editor say what it has gathered, as it does before it takes a line. */
-  settle() {
-    if (this.isOpen) this.#told.came({ notice: "cursors", edits: -1, cursors: [] });
   }
 
   /** @param {Change[]} changes @param {object} more */
@@ -76,19 +75,38 @@ export class Telling {
     if (this.isOpen) this.#told.came({ notice: "says", words: errorOf(why).words });
   }
 
-  /** All up to an edit is on the disk, or it isn't, for a reason.
+  /** All up to an edit is on the disk, except the edits that were refused: each of these is answered in its turn.
+   * @param {number} edits */
+  answer(edits) {
+    for (const [refused, why] of this.#refused) {
+      if (refused > Math.max(edits, this.#kept) + 1) break;
+      this.#refused.delete(refused);
+      this.#answers(refused - 1);
+      this.#answers(refused, why);
+    }
+    this.#answers(edits);
+  }
+
+  /** An edit was refused, of which nothing is done. That is answered after the edits before it.
    * @param {number} edits @param {object} why */
-  answer(edits, why = {}) {
-    if (edits <= this.#kept || !this.isOpen) return;
-    this.#kept = edits;
-    this.#told.came({ answer: "edit", edits, ...why });
+  refuses(edits, why) {
+    this.#refused.set(edits, why);
+    this.answer(this.#kept);
   }
 
   /** What was done since isn't on the disk, and is taken out.
    * @param {string} words */
   unkept(words) {
-    if (this.edits > this.#kept) this.answer(this.edits, { error: "unkept", words });
+    this.#refused.clear();
+    if (this.edits > this.#kept) this.#answers(this.edits, { error: "unkept", words });
     else if (this.isOpen) this.#told.came({ notice: "says", words });
+  }
+
+  /** @param {number} edits @param {object} why none where all up to this edit is on the disk */
+  #answers(edits, why = {}) {
+    if (edits <= this.#kept || !this.isOpen) return;
+    this.#kept = edits;
+    this.#told.came({ answer: "edit", edits, ...why });
   }
 
   /** Tells how things are, where that has changed. */

@@ -41,10 +41,9 @@ export class Typing {
       this.#make(text, changes, join);
       this.#whole.made(edits);
     } catch (why) {
-      // What was done of it stays.
       this.#whole.made(edits);
       telling.text();
-      telling.answer(edits, errorOf(why));
+      telling.refuses(edits, errorOf(why));
     }
   }
 
@@ -72,7 +71,6 @@ export class Typing {
   /** Types what is left out of the user's text.
    * @param {SharedText} text @param {import("./passages.js").Passage[]} passages */
   puts(text, passages) {
-    this.#telling.settle();
     this.mayType();
     this.#undoing.add(text.put(passages));
     this.#made(text);
@@ -117,10 +115,26 @@ export class Typing {
     if (!first) return;
     const old = text.slice(first[0], first[1]);
     const length = text.length + changes.reduce((sum, [begin, end, put]) => sum + put.length - (end - begin), 0);
-    const steps = changes.map((change) => text.edit(change));
+    const steps = madeAll(text, changes);
     const [came, went] = [steps.flatMap((step) => step.came), steps.flatMap((step) => step.went)];
     this.#undoing.made(changes, old, { came, went, looked: [] }, join);
     // What is no character isn't kept as the editor has it.
     if (text.length !== length || changes.some(([, , put]) => /\p{Cs}/u.test(put))) this.#telling.text();
   }
+}
+
+/** Makes all changes of an edit, or none of them.
+ * @param {SharedText} text @param {Change[]} changes */
+function madeAll(text, changes) {
+  /** @type {import("./shared.js").Step[]} */
+  const steps = [];
+  try {
+    for (const change of changes) steps.push(text.edit(change));
+  } catch (why) {
+    // The editor keeps the words of an edit that is refused.
+    for (const step of steps.reverse()) text.takeBack(step);
+    text.changed();
+    throw why;
+  }
+  return steps;
 }

@@ -12,10 +12,10 @@ import { SharedText, TEXT, Wrong } from "./shared.js";
 import { Spare } from "./spare.js";
 
 /** @typedef {import("./shared.js").Change} Change */
-/** Who shows the note. `isBusy` says whether others' text has to wait, and `settle` has what was typed be handed on before that is shown.
- * `changed` is told what others changed, or nothing where the text was begun anew, `unkept` why what was typed is taken out, `kept` up to
- * which edit all is on the disk, `reads` how much is read, `stands` that something else changed, and `says` words.
- * @typedef {{ isBusy: () => boolean, settle: () => void, changed: (changes: Change[] | null) => void, unkept: (words: string) => void,
+/** Who shows the note. `isBusy` says whether others' text has to wait. `changed` is told what others changed, or nothing where the text was
+ * begun anew, `unkept` why what was typed is taken out, `kept` up to which edit all is on the disk, `reads` how much is read, `stands` that
+ * something else changed, and `says` words.
+ * @typedef {{ isBusy: () => boolean, changed: (changes: Change[] | null) => void, unkept: (words: string) => void,
  *   kept: (edits: number) => void, reads: (done: number, of: number) => void, stands: () => void, says: (words: string) => void }} Ear */
 
 export const NO_NUMBER = "Nothing can be typed yet: a number is searched for.";
@@ -67,7 +67,9 @@ export class Whole {
    * @param {import("./store.js").Note} note @param {Ear} ear */
   constructor(core, store, keys, note, ear) {
     [this.#core, this.#store, this.#keys, this.#note, this.#ear] = [core, store, keys, note, ear];
-    this.own = new Own(store, keys, note.id, { kept: (edits) => this.#kept(edits), failed: () => this.#failed() });
+    this.own = new Own(store, keys, note.id, {
+      kept: (edits, many) => this.#kept(edits, many), failed: () => this.#failed(), recovered: () => this.#recovered(),
+    });
     this.#spare = new Spare(store, keys, note.id, async () => this.facts.taken());
     this.#feed = this.#newFeed();
     this.followed = new Followed(store, keys, note.url, (hasEntries) => this.#came(hasEntries), () => this.#keepSpare());
@@ -99,16 +101,18 @@ export class Whole {
     return this.#spare.isSearching && !this.own.number;
   }
 
-  /** Says what an edit did, or an undo, or looks, which the text shows already: at once, or after what is being kept.
+  /** Says what an edit did, or an undo, or looks, which the text shows already. Others' text is shown after what is being kept.
    * @param {number} edits */
   made(edits) {
     [this.#edits, this.#isUnsaid] = [edits, true];
-    if (this.own.waiting || this.#isDue) return;
+    if (this.#isDue) return;
     this.#isDue = true;
-    // After what the editor does in one go.
+    // After what the editor does in one go, and before the page shows it.
     queueMicrotask(() => {
       this.#isDue = false;
-      if (!this.#hasEnded) this.#show();
+      if (this.#hasEnded) return;
+      if (this.own.waiting) this.#say();
+      else this.#show();
     });
   }
 
@@ -295,13 +299,15 @@ export class Whole {
     clearTimeout(this.#later);
     const { value } = this.#feed;
     if (!value) return;
+    if (this.#shown === this.#feed) this.#say();
     if (this.#ear.isBusy()) {
       this.#later = setTimeout(() => this.#show(), AGAIN_MS);
       return;
     }
-    if (this.text) this.#ear.settle();
-    if (this.#shown !== this.#feed) this.#begins();
-    this.#say();
+    if (this.#shown !== this.#feed) {
+      this.#begins();
+      this.#say();
+    }
     this.#hasNews = this.#feed.hand() || this.#hasNews;
     value.update();
     const changes = this.text ? this.text.changed() : null;
@@ -335,13 +341,21 @@ export class Whole {
     if (!this.own.waiting) for (const { done } of this.#waiters.splice(0)) done();
   }
 
-  /** @param {number} edits */
-  #kept(edits) {
-    this.followed.kept();
+  /** @param {number} edits @param {number} many how many entries they are */
+  #kept(edits, many) {
+    this.followed.kept(many);
     this.#ear.kept(edits);
     if (!this.own.waiting && this.#isUnsaid) this.#show();
     else if (!this.own.waiting) for (const { done } of this.#waiters.splice(0)) done();
     this.#ear.stands();
+  }
+
+  /** What a tab of before said is on the disk. */
+  #recovered() {
+    this.followed.kept();
+    this.#came(true);
+    // The number is free now under which that was said.
+    this.#next(() => this.#takeNumber());
   }
 
   /** What was typed can't be kept: it is taken out. */

@@ -20,6 +20,7 @@ from collections.abc import Callable, Iterator
 from share.editors.mirror import Mirror
 from share.tests.editors import Editor
 from share.tests.processes import children
+from share.tests.servers import FileLog
 from share.tests.support import NOTE, Case, Person, alive, engine_of, written
 from share.tests.waiting import PATIENCE, wait_for
 from share.text.line import Line
@@ -270,21 +271,19 @@ class File:
 
     def __init__(self, case: Case):
         self.url = case.file_log()
-        self._folder, self._away = pathlib.Path(self.url).parent, case.folder / "away"
+        self._folder, self._away, self._log = pathlib.Path(self.url).parent, case.folder / "away", FileLog(case.folder)
 
     def stop(self) -> None:
         """Has nobody reach it."""
         if self._folder.is_dir() and not self._away.exists():
-            os.rename(self._folder, self._away)
-            self._folder.write_text("no folder")
+            self._log.kill()
 
     kill = stop
 
     def go_on(self) -> None:
         """Has all reach it."""
         if self._away.exists():
-            self._folder.unlink()
-            os.rename(self._away, self._folder)
+            self._log.start()
 
     start = go_on
 

@@ -3,9 +3,9 @@ servers are killed and stopped, disks fill, clocks go wrong, files are damaged, 
 exchanged: each word that some disk has stands once, at everybody; what was left out for good is told, and recover --lost brings
 it back.
 
-    SHARE_STORM=200 SHARE_SEED=7 share/tests/run test_storm
-    SHARE_STORM=50 SHARE_KINDS=kill,backup,snapshot share/tests/run test_storm
-    SHARE_STORM=50 SHARE_KINDS=crash,kill,lose_log share/tests/run test_storm
+    SHARE_STORM=200 VIALSHOAL_SEED=7 python3 -B -m unittest share.tests.long.test_storm
+    SHARE_STORM=50 SHARE_KINDS=kill,backup,snapshot python3 -B -m unittest share.tests.long.test_storm
+    SHARE_STORM=50 SHARE_KINDS=crash,kill,lose_log python3 -B -m unittest share.tests.long.test_storm
 
 Where `SHARE_KEEP` names a folder, all files of what went wrong are kept in it, to be looked at by share/tests/trace.py.
 """
@@ -15,11 +15,11 @@ import shutil
 import subprocess
 import unittest
 
-from share.tests.storm import DISK_BYTES, Storm
+from share.tests.long.storm import DISK_BYTES, Storm
 from share.tests.support import Case
 
 ROUNDS = int(os.environ.get("SHARE_STORM", "0"))
-SEED = int(os.environ.get("SHARE_SEED", "1"))
+SEED = int(os.environ.get("VIALSHOAL_SEED", "1"))
 KEEP = os.environ.get("SHARE_KEEP")
 KINDS = ["kill", "stop", "stop_program", "stop_log", "kill_log", "lose_log", "dump", "exchange", "backup", "twin", "snapshot", "rejoin",
          "damage", "fill", "clock"]

@@ -1,7 +1,7 @@
 """All editors are at one note of a relay's, and two pages of the relay, in Chromium and in Firefox. These are offline at times; their tabs
 are closed amid a word, and their browsers killed, and opened again. What has to be so of the others has to be so of these.
 
-    SHARE_SECONDS=300 SHARE_SEED=7 share/tests/run test_all_at_relay
+    SHARE_SECONDS=300 VIALSHOAL_SEED=7 share/tests/run test_all_at_relay
 """
 import contextlib
 import os
@@ -10,10 +10,10 @@ import unittest
 from unittest import mock
 
 from share.relay.page_files import missing_for_texts
-from share.tests import test_all_editors
+from share.tests.long import test_all_editors
 from share.tests.firefox import FIREFOX
 from share.tests.relays import RelayProcess, page_of_free_claims
-from share.tests.test_all_editors import SECONDS, Author, Done
+from share.tests.long.test_all_editors import SECONDS, Author, Done
 from share.tests.writers import Cut, Writer
 from share.tests.writers_at_relay import FirefoxAtRelay, PageAtRelay
 

@@ -1,7 +1,7 @@
 """Clients and servers are killed at random points, servers rolled back, logs joined, folders copied and put back:
 nothing that was shown or said to be sent is lost, nothing is there twice, and all show the same.
 
-    SHARE_ROUNDS=200 share/tests/run test_killed
+    SHARE_ROUNDS=200 python3 -B -m unittest share.tests.long.test_killed
 """
 import contextlib
 import os
@@ -19,7 +19,7 @@ from share.tests.support import TOP, Case, Person, are_alike, python, type_at_th
 from share.tests.waiting import PATIENCE
 
 ROUNDS = int(os.environ.get("SHARE_ROUNDS", "6"))
-SEED = int(os.environ.get("SHARE_SEED", "1"))
+SEED = int(os.environ.get("VIALSHOAL_SEED", "1"))
 # The most words after which a life ends.
 LONGEST_LIFE = 30
 
@@ -30,7 +30,7 @@ class Life:
     def __init__(self, person: Person, link: str, tag: str, chance: random.Random):
         self.person, self.tag, self.typed, self.sent = person, tag, -1, -1
         self.fault = ""
-        words = [python(), "-B", "-m", "share.tests.typist", tag, link, str(chance.random())]
+        words = [python(), "-B", "-m", "share.tests.long.typist", tag, link, str(chance.random())]
         # It is killed a moment after this word; some die while they open the note.
         self._last, self._moment = chance.randrange(LONGEST_LIFE), chance.random() * 0.05
         self._dies_early = chance.random() < 0.15

@@ -1,10 +1,10 @@
-"""A terminal, Emacs, Neovim and a page of Chromium are at one note. In each somebody types, deletes, rewrites and takes back at
-random, by commands that ask, too, and in Neovim in blocks, while the log is stopped and started, and editors and engines are killed:
-each word that nobody deleted or rewrote stands in one text, which all have, as often as it was typed and where it was. In a note of the
-second form words are remarked on, others suggested for them, and these answered, accepted and rejected, by the same editors and by scripts:
-then all have the same threads at the same places, those that the plain program finds.
+"""A terminal, Emacs with and without Evil, Neovim and a page of Chromium are at one note. In each somebody types, deletes, rewrites and
+takes back at random, by commands that ask, too, and in Neovim and Evil in blocks, while the log is stopped and started, and editors and
+engines are killed: each word that nobody deleted or rewrote stands in one text, which all have, as often as it was typed and where it was.
+In a note of the second form words are remarked on, others suggested for them, and these answered, accepted and rejected, by the same
+editors and by scripts: then all have the same threads at the same places, those that the plain program finds.
 
-    SHARE_SECONDS=300 SHARE_SEED=7 share/tests/run test_all_editors test_all_editors:2
+    SHARE_SECONDS=300 VIALSHOAL_SEED=7 python3 -B -m unittest share.tests.long.test_all_editors
 """
 import contextlib
 import os
@@ -24,17 +24,17 @@ from share.tests.relays import RelayProcess
 from share.tests.said import STATES, Said, Sayings, Told, alike, as_plain, plainly
 from share.tests.servers import FileLog, RedisServer
 from share.tests.support import NOTE, Case, wait_for, written
-from share.tests.writers import PATIENCE, Cut, Emacs, Neovim, OwnEditor, PageInChromium, State, Writer, kill_editor, kill_engine
+from share.tests.writers import PATIENCE, Cut, Emacs, EvilEmacs, Neovim, OwnEditor, PageInChromium, State, Writer, kill_editor, kill_engine
 from share.text.line import Line
 
 SECONDS = float(os.environ.get("SHARE_SECONDS", "0"))
-SEED = int(os.environ.get("SHARE_SEED", "1"))
+SEED = int(os.environ.get("VIALSHOAL_SEED", "1"))
 # The fewest and the most things that each does before all meet.
 ROUND = (5, 25) if SECONDS else (3, 4)
-EDITORS: list[type[Writer]] = [OwnEditor, Emacs, Neovim, PageInChromium]
+EDITORS: list[type[Writer]] = [OwnEditor, Emacs, EvilEmacs, Neovim, PageInChromium]
 # Of so many things that each does one is said of the text.
 ONE_SAID_OF = 3 if SECONDS else 5
-WORD = re.compile(r"[tenpqf]\d{4}[abc]*\.|begin\.")
+WORD = re.compile(r"[tevnpqf]\d{4}[abc]*\.|begin\.")
 
 
 @dataclass
@@ -107,7 +107,7 @@ class Author:
             self.delete(word)
         elif what < 0.5 and (word := self._chosen()):
             self.rewrite(word)
-        elif what < 0.65 and isinstance(self.writer, Neovim):
+        elif what < 0.65 and isinstance(self.writer, Neovim | EvilEmacs):
             self.write_in_block(self.writer)
         else:
             self.type()
@@ -139,11 +139,11 @@ class Author:
             time.sleep(self._chance.random() * 0.03)
         self._did("typed", Step(word))
 
-    def write_in_block(self, neovim: Neovim) -> None:
+    def write_in_block(self, writer: Neovim | EvilEmacs) -> None:
         """Types a word at the begins of some lines at once."""
         word = self._new_word()
         word.ends_line = False
-        word.times = neovim.write_in_block(self._some_line(), self._chance.randint(1, 3), word.text, self._pause)
+        word.times = writer.write_in_block(self._some_line(), self._chance.randint(1, 3), word.text, self._pause)
         self._did("in blocks", Step(word))
 
     def say(self, sayings: Sayings, told: Told) -> None:
@@ -323,21 +323,8 @@ def begun(case: Case, url: str, text: str) -> str:
     return case.person("ada").link()
 
 
-class LongText(Case):
-    """A note that is longer than what a command prints of it."""
-
-    def test_each_editor_has_the_whole_of_it(self) -> None:
-        text = "".join(f"t{number:04}.\n" for number in range(1, 1_500))
-        link = begun(self, self.redis().url, text)
-        with ThreadPoolExecutor() as threads:
-            writers = [*threads.map(lambda kind: kind(self, "ada", link), EDITORS)]
-        for writer in writers:
-            self.assertEqual(writer.seen().text, text, writer.tag)
-            writer.close()
-
-
 class AllEditors(Case):
-    """Two people, each with two editors."""
+    """Two people, with all editors."""
 
     def setUp(self) -> None:
         super().setUp()
@@ -366,7 +353,7 @@ class AllEditors(Case):
 
     def people(self) -> list[tuple[type[Writer], str]]:
         """Which editors there are, and whose each is."""
-        people = ["ada", "ada", "bo", "bo"]
+        people = ["ada", "ada", "bo", "bo", self.chance.choice(["ada", "bo"])]
         self.chance.shuffle(people)
         return [*zip(EDITORS, people)]
 

@@ -1,0 +1,104 @@
+// What was said and isn't in the browser's database yet, beside that: it is written before the page goes on, so it is there when the tab is
+// closed or ends. Whoever has a number's lock next has it be kept before anything else is said under that number.
+import { hex, base64url, join, ofBase64url } from "./bytes.js";
+import { KIND, claim, sealed } from "./entry.js";
+import { authorsOf, heldOf, ownOf } from "./held.js";
+import { sha256 } from "./keys.js";
+
+/** @typedef {import("./value.js").Saying} Saying */
+/** @typedef {import("./held.js").Held} Held */
+/** @typedef {import("./own.js").Word} Word */
+/** What was said, and what was made anew by it.
+ * @typedef {{ saying: Saying, words: Word[] }} Unkept */
+
+const BEGIN = "vialshoal unkept ";
+const storage = storageHere();
+
+/** Where it is written; a browser that allows none has nothing beside its database.
+ * @returns {Storage | undefined} */
+function storageHere() {
+  try {
+    return globalThis.localStorage;
+  } catch {
+    return undefined;
+  }
+}
+
+/** The names of what is beside the database of a note, or of one of its numbers.
+ * @param {string} note @param {number} [site] */
+function namesOf(note, site) {
+  const begin = `${BEGIN}${note} ${site === undefined ? "" : `${site} `}`;
+  return Object.keys(storage ?? {}).filter((name) => name.startsWith(begin));
+}
+
+/** The numbers of which something is there.
+ * @param {string} note @returns {Set<number>} */
+export const sitesUnkept = (note) => new Set(namesOf(note).map((name) => Number(name.split(" ")[3])));
+
+/** Writes what was said beside the database; its name there, none where there is no room.
+ * @param {string} note @param {Unkept} unkept */
+export function writeUnkept(note, { saying, words }) {
+  const { site, text, first, count, before, author, body } = saying;
+  const name = `${BEGIN}${note} ${site} ${text} ${first}`;
+  const spelled = { count, before: base64url(before), author: base64url(author), body: base64url(body),
+    words: words.map((one) => ({ ...one, before: base64url(one.before) })) };
+  try {
+    storage?.setItem(name, JSON.stringify(spelled));
+  } catch {
+    // Then it is in the database alone, as soon as that has it.
+    return "";
+  }
+  return name;
+}
+
+/** @param {string[]} names of what is beside the database, and isn't needed there any more */
+export function dropUnkept(names) {
+  for (const name of names) storage?.removeItem(name);
+}
+
+/** @param {string} note which is forgotten */
+export function forgetUnkept(note) {
+  dropUnkept(namesOf(note));
+}
+
+/** What is beside the database of a number, in its order.
+ * @param {string} note @param {number} site @returns {Unkept[]} */
+function unkeptOf(note, site) {
+  const found = namesOf(note, site).map((name) => {
+    const [, , , , text, first] = name.split(" ").map(Number);
+    const { count, before, author, body, words } = JSON.parse(storage?.getItem(name) ?? "{}");
+    const saying = { site, text, first, count, before: ofBase64url(before), author: ofBase64url(author), body: ofBase64url(body) };
+    return { saying, words: words.map((/** @type {any} */ one) => ({ ...one, before: ofBase64url(one.before) })) };
+  });
+  return found.sort(({ saying: one }, { saying: other }) => one.text - other.text || one.first - other.first);
+}
+
+/** Seal and keep what was said under a number, with the number's claim if that isn't kept yet. Each word that something was made anew is
+ * signed by its own author.
+ * @param {import("./store.js").Store} store @param {import("./keys.js").NoteKeys} keys @param {string} note @param {Held} number
+ * @param {Unkept[]} some @param {Map<string, import("./keys.js").Author>} authors of all numbers of this browser's user, by their names */
+export async function keepSaid(store, keys, note, number, some, authors) {
+  const { author, site, claims } = number;
+  const raws = await Promise.all(some.flatMap(({ saying: { body, ...place }, words }) => [
+    sealed(keys, KIND.messages, author, place, body), ...words.map(({ author: name, ...word }) => (
+      sealed(keys, KIND.anew, /** @type {import("./keys.js").Author} */ (authors.get(name)), word, join())))]));
+  if (claims) raws.unshift(await claim(keys, author, { counter: claims.counter, site }));
+  const entries = await Promise.all(raws.map(async (raw) => ({ hash: hex(await sha256(raw)), raw, isSent: false })));
+  await store.keep(note, entries, ({ numbers = [] }) => (
+    { numbers: numbers.map((one) => (one.site === site ? { ...one, isClaimed: true } : one)) }));
+  number.claims = null;
+}
+
+/** Keep what a closed tab said under a number of this browser's user and didn't keep. Return whether there was something. The caller holds
+ * the number's lock.
+ * @param {import("./store.js").Store} store @param {import("./keys.js").NoteKeys} keys @param {string} note @param {number} site */
+export async function keepUnkept(store, keys, note, site) {
+  const names = namesOf(note, site);
+  if (!names.length) return false;
+  const own = ownOf(await store.note(note));
+  const one = own.find((it) => it.site === site);
+  if (!one) return false;
+  await keepSaid(store, keys, note, await heldOf(keys, one), unkeptOf(note, site), await authorsOf(own));
+  dropUnkept(names);
+  return true;
+}

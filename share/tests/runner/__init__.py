@@ -1,0 +1,1 @@
+"""The command share/tests/run: finding modules of tests, running each in a process of its own, and counting."""
