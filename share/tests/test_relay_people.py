@@ -156,8 +156,11 @@ class Ahead(AtPage):
             # Another tab, and another opening, has the same one.
             other = self.at(link, "document.getElementById('facts').textContent.includes('found and kept here')")
             self.assertEqual(self.spare(other), (note, counter, site, secret))
-            # Who claims that number has it, so another one is searched for.
+            # Who claims that number has it, so another one is searched for: here by the other tab, as the first one, which keeps the claim,
+            # ends before it tells of that.
+            window.run("void (BroadcastChannel.prototype.postMessage = () => {})")
             log.append([form.claim(site, author, counter).raw])
+            self.entries(window, 2)
         window.driver.refresh()
         window.wait_for("document.querySelector('#list button')")
         window.click_on("#list button")

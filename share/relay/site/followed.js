@@ -193,7 +193,8 @@ export class Followed {
       await this.#store.lost(this.#id);
       await this.#readFrom(this.#line);
     }
-    this.#stands({ isUp: true, words: this.#told });
+    // The tab that had the line before may have kept entries, and have ended before it told of them.
+    this.#stands({ isUp: true, words: this.#told }, true);
     await this.#give();
     this.#read();
   }
