@@ -1,5 +1,5 @@
 """What bench/slow, bench/hostile and bench/run may count of each of their kinds, with --bars, by the program as ordinary Rust: upper
-bounds, half as much again as was counted, or of traces a twenty-fifth. So a new square is seen, and what is a square already can't become
+bounds, half as much again as was counted, or of traces a tenth more. So a new square is seen, and what is a square already can't become
 worse unseen."""
 from __future__ import annotations
 
@@ -108,8 +108,8 @@ UNNOTED = {
 # The bytes that are resident an edit, where two sites share so many edits of a trace. What is reserved and never written doesn't show here.
 EDITS = 100_000
 KEPT = {
-    "at the end": 59,
-    "at random": 396,
-    "in bursts": 184,
-    "in prose": 92,
+    "at the end": 62,
+    "at random": 422,
+    "in bursts": 196,
+    "in prose": 94,
 }

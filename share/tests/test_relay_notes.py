@@ -92,8 +92,8 @@ class People(AtRelay, Engines):
             self.assertLess(number, 500)
         self.assertIn("The note is full at this relay, which keeps 70,000 bytes of one (--note-bytes)", ann.session.status().offline or "")
         self.assertGreater(ann.session.status().unsent, 0)
-        # Who has as much to send is told, too, and reads on.
-        type_at_the_end(bob, "bob " + "y" * 3_000)
+        # Bob sends more than the note may have, so that is refused whatever of Ann's fits: he is told, too, and reads on.
+        type_at_the_end(bob, "bob " + "y" * 80_000)
         wait_for(lambda: "--note-bytes" in (bob.session.status().offline or ""), "Bob to be told")
         text = self.person("ann").text()
         self.assertIn(b"0 x", text)

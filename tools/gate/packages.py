@@ -11,7 +11,7 @@ from typing import NamedTuple
 
 from tools import npm
 
-# Debian's Python, for which Debian's packages of modules are. It is the one that runs the tests.
+# The Python for which Debian packages modules; the tests are run by it.
 PYTHON = "/usr/bin/python3"
 RELEASE = Path("/etc/os-release")
 # The word that installs without asking.

@@ -26,7 +26,6 @@ class Kind(Enum):
     """The kinds of work that the toolchain does with a crate."""
 
     PROOF = "proof and build"
-    TESTS = "tests"
     EDITS = "edits"
 
 
@@ -44,9 +43,7 @@ Costs = Mapping[tuple[str, Kind], float]
 
 def kind_of(words: str, folder: str) -> Kind:
     """Return the kind of work of a process, by its command line and its folder."""
-    if OF_EDITS.search(words) or OF_EDITS.search(folder):
-        return Kind.EDITS
-    return Kind.TESTS if " --test" in words else Kind.PROOF
+    return Kind.EDITS if OF_EDITS.search(words) or OF_EDITS.search(folder) else Kind.PROOF
 
 
 def processes() -> Iterator[Process]:

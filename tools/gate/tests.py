@@ -34,14 +34,14 @@ class Proofs(unittest.TestCase):
         self.assertEqual(longest(costs(a=1, b=2, c=3, d=4), LINES), ["a", "b", "c"])
         self.assertEqual(longest(costs(a=1, b=2, c=3, d=6), LINES), ["a", "d"])
 
-    def test_edits_and_tests_hold_no_chain_up(self) -> None:
-        self.assertEqual(longest({**costs(a=1, b=2, c=3, d=4), ("d", Kind.EDITS): 9, ("d", Kind.TESTS): 9}, LINES), ["a", "b", "c"])
+    def test_edits_hold_no_chain_up(self) -> None:
+        self.assertEqual(longest({**costs(a=1, b=2, c=3, d=4), ("d", Kind.EDITS): 9}, LINES), ["a", "b", "c"])
 
     def test_what_is_said(self) -> None:
         found = {**costs(a=1.4, b=2.2), ("b", Kind.EDITS): 5.0}
         self.assertEqual(summary(found, {name: LINES[name] for name in "ab"}),
-                         "proofs: 9 processor seconds (proof and build 4, tests 0, edits 5); the longest chain of proofs 4: a b")
-        self.assertEqual([line.split()[1:] for line in table(found)][1:], [["b", "2", "0", "5"], ["a", "1", "0", "0"]])
+                         "proofs: 9 processor seconds (proof and build 4, edits 5); the longest chain of proofs 4: a b")
+        self.assertEqual([line.split()[1:] for line in table(found)][1:], [["b", "2", "5"], ["a", "1", "0"]])
         self.assertEqual([*table({})], [])
 
     def test_the_last_line_stays_the_last(self) -> None:
@@ -52,7 +52,6 @@ class Proofs(unittest.TestCase):
 
     def test_what_a_process_does(self) -> None:
         self.assertIs(kind_of("rattle build --crate-name a src/lib.rt", "/top/crates/a"), Kind.PROOF)
-        self.assertIs(kind_of("rattle build --crate-name a src/lib.rt --test", "/top/crates/a"), Kind.TESTS)
         self.assertIs(kind_of("rattle check --crate-name a src/lib.rt", "/tmp/rt-edit-12-ab"), Kind.EDITS)
         self.assertIs(kind_of("rattle check --crate-name a --incremental /tmp/rt-edits-12-ab/seed", "/top/crates/a"), Kind.EDITS)
 

@@ -4,7 +4,7 @@ engines are killed: each word that nobody deleted or rewrote stands in one text,
 In a note of the second form words are remarked on, others suggested for them, and these answered, accepted and rejected, by the same
 editors and by scripts: then all have the same threads at the same places, those that the plain program finds.
 
-    SHARE_SECONDS=300 VIALSHOAL_SEED=7 python3 -B -m unittest share.tests.long.test_all_editors
+    SHARE_SECONDS=300 VIALSHOAL_SEED=7 share/tests/run test_all_editors
 """
 import contextlib
 import os

@@ -1,7 +1,7 @@
 """A byte of a note's file is changed by another program at each step of an own write, in turn at places all over the file: all that was
 typed is there as soon as the next key is answered.
 
-    SHARE_STRIDE=1 python3 -B -m unittest share.tests.long.test_damage_anywhere
+    SHARE_STRIDE=1 share/tests/run test_damage_anywhere
 """
 import os
 import unittest

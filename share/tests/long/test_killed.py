@@ -1,7 +1,7 @@
 """Clients and servers are killed at random points, servers rolled back, logs joined, folders copied and put back:
 nothing that was shown or said to be sent is lost, nothing is there twice, and all show the same.
 
-    SHARE_ROUNDS=200 python3 -B -m unittest share.tests.long.test_killed
+    SHARE_ROUNDS=200 share/tests/run test_killed
 """
 import contextlib
 import os

@@ -3,9 +3,9 @@ servers are killed and stopped, disks fill, clocks go wrong, files are damaged, 
 exchanged: each word that some disk has stands once, at everybody; what was left out for good is told, and recover --lost brings
 it back.
 
-    SHARE_STORM=200 VIALSHOAL_SEED=7 python3 -B -m unittest share.tests.long.test_storm
-    SHARE_STORM=50 SHARE_KINDS=kill,backup,snapshot python3 -B -m unittest share.tests.long.test_storm
-    SHARE_STORM=50 SHARE_KINDS=crash,kill,lose_log python3 -B -m unittest share.tests.long.test_storm
+    SHARE_STORM=200 VIALSHOAL_SEED=7 share/tests/run test_storm
+    SHARE_STORM=50 SHARE_KINDS=kill,backup,snapshot share/tests/run test_storm
+    SHARE_STORM=50 SHARE_KINDS=crash,kill,lose_log share/tests/run test_storm
 
 Where `SHARE_KEEP` names a folder, all files of what went wrong are kept in it, to be looked at by share/tests/trace.py.
 """

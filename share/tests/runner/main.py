@@ -10,7 +10,7 @@ from collections.abc import Sequence
 from share.tests.byte_code import use_byte_code_of
 from share.tests.proved_files import make_library, missing_library
 from share.tests.runner.counting import count
-from share.tests.runner.modules import found, of_set
+from share.tests.runner.modules import found, is_long, of_set
 from share.tests.runner.repeating import repeat
 from tools.gate.packages import INSTALL
 from tools.gate.running import SEED_VARIABLE
@@ -46,7 +46,7 @@ def main(words: Sequence[str]) -> int:
         make_library(pathlib.Path(name))
         missing_library()
         modules = [*map(found, given.modules)] or of_set(given.long)
-        seconds = LONG_SECONDS if given.long else MODULE_SECONDS
+        seconds = LONG_SECONDS if any(map(is_long, modules)) else MODULE_SECONDS
         if given.times:
             return repeat(modules, given.times, given.load, pathlib.Path(name), seconds)
         return count(modules, pathlib.Path(name), seconds)

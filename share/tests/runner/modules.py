@@ -29,9 +29,9 @@ NEEDS: Sequence[tuple[frozenset[str], Lacking]] = (
     (OVER_THE_LIBRARY, lambda: "the library isn't here (cargo makes it)" if missing_library() else ""))
 
 
-def in_set(is_long: bool) -> list[str]:
+def in_set(of_long: bool) -> list[str]:
     """Return the modules of the gate's set, or of the long one, as they are imported below share.tests."""
-    folder, begin = (TESTS / LONG, f"{LONG}.") if is_long else (TESTS, "")
+    folder, begin = (TESTS / LONG, f"{LONG}.") if of_long else (TESTS, "")
     return sorted(f"{begin}{path.stem}" for path in folder.glob("test_*.py"))
 
 
@@ -48,9 +48,14 @@ def found(name: str) -> str:
     return f"{module}:{form}" if form else module
 
 
-def of_set(is_long: bool) -> list[str]:
+def is_long(module: str) -> bool:
+    """Say whether a module is of the long set."""
+    return module.startswith(f"{LONG}.")
+
+
+def of_set(of_long: bool) -> list[str]:
     """Return the modules to run of a set, those over both forms twice. If some lack what they need, end with status 2 and say so."""
-    modules = in_set(is_long)
+    modules = in_set(of_long)
     for needing, lacking in NEEDS:
         if (left := [one for one in modules if plain(one) in needing]) and (why := lacking()):
             print(f"share/tests/run: {why}, and these modules need it: {', '.join(left)}", file=sys.stderr)
