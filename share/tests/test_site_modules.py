@@ -169,9 +169,10 @@ class Vectors(Modules):
                 for first, before, words in ((2, note["key"], [word]), (1, bytes(32).hex(), []))]
         found = self.asked("recovered", key=note["key"], numbers=numbers, said=said)
         opened = self.asked("opened", key=note["key"], raws=found["raws"], bits=VECTORS["bits"])
+        by_cy, by_bob = (numbers[1]["site"], cy["name"]), (numbers[0]["site"], bob["name"])
         self.assertEqual([(one.get("why"), one["kind"], one["site"], one["author"]) for one in opened],
-                         [(None, KINDS["claim"], numbers[1]["site"], cy["name"]), (None, KINDS["messages"], numbers[1]["site"], cy["name"]),
-                          (None, KINDS["messages"], numbers[1]["site"], cy["name"]), (None, KINDS["anew"], numbers[0]["site"], bob["name"])])
+                         [(None, KINDS["claim"], *by_cy), (None, KINDS["messages"], *by_cy), (None, KINDS["messages"], *by_cy),
+                          (None, KINDS["anew"], *by_bob)])
         self.assertEqual([one["first"] for one in opened if one["kind"] == KINDS["messages"]], [1, 2])
         # They are recovered once, and the number's claim is kept with them.
         self.assertEqual((found["found"], found["claimed"], found["left"]),
