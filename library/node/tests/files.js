@@ -59,7 +59,7 @@ export function failingAtRandom(draw, use) {
     return patched(fs, Object.fromEntries(names.map((name) => [name, fails(name)])), use);
 }
 
-// What a program writes that is killed after some lines, line by line: the last one may be torn, and is left out.
+// Return the whole lines that a program wrote before it was killed, which happens after some lines. The kill may have cut the last one.
 export async function untilKilled(child) {
     const lines = 1 + draw(7);
     let said = '';
