@@ -102,9 +102,9 @@ class ReviewTerminals(Case):
     def test_suggestions(self) -> None:
         one, other = self.opened_with("tea\njam\n")
         one.press("C-Space", "End", "C-u")
-        one.sees("Suggest instead: tea")
-        one.press("BSpace", "BSpace")
-        one.type("oast")
+        # The passage is selected: what is typed takes its place.
+        one.sees("Suggest instead: [tea]")
+        one.type("toast")
         one.press("Enter")
         one.sees("Suggested.")
         one.shows("tea".ljust(69) + "*", "jam")
@@ -127,7 +127,7 @@ class ReviewTerminals(Case):
         one.type("x")
         one.sees("suggests: rejected")
         one.type("s")
-        one.sees("Suggest instead: jam")
+        one.sees("Suggest instead: [jam]")
         one.press("Escape", "Escape")
         self.assertEqual([line["state"] for line in self.threads(other)], ["open", "rejected"])
 
@@ -356,6 +356,8 @@ class ReviewTerminals(Case):
     def test_line_ends_stay_in_what_is_suggested(self) -> None:
         one, other = self.opened_with("tea\njam\n")
         one.press("C-Space", "Down", "End", "C-u")
+        one.sees("Suggest instead: [tea·jam]")
+        one.press("End")
         one.sees("Suggest instead: tea·jam")
         one.type("s")
         one.press("Enter")

@@ -6,6 +6,10 @@ from share.editors.terminal.keys import Event, Key, Pasted
 from share.editors.terminal.layout import clusters
 
 
+# Keys that leave a selected answer as it is, with the cursor behind it.
+ENDS = (Key.END, Key.RIGHT)
+
+
 def is_yes(answer: str) -> bool:
     """Whether an answer agrees."""
     return answer.strip().lower() in ("y", "yes")
@@ -13,12 +17,29 @@ def is_yes(answer: str) -> bool:
 
 @dataclass
 class Prompt:
-    """A question, the answer as it is typed, and what is done with the answer; whether that needs no note."""
+    """A question, the answer as it is typed, and what is done with the answer; whether that needs no note; and whether the answer is
+    selected, so that the next character takes its place."""
 
     question: str
     answer: str
     then: Callable[[str], object]
     needs_no_note: bool
+    is_selected: bool
+
+    def words(self) -> str:
+        """The question, with the answer as it is."""
+        return f"{self.question}: {f'[{self.answer}]' if self.is_selected else self.answer}"
+
+    def take(self, key: Event) -> None:
+        """Changes the answer. A line end that is pasted becomes a blank."""
+        typed = key.text.strip("\r").replace("\r", " ") if isinstance(key, Pasted) else key if isinstance(key, str) else ""
+        if key is Key.BACKSPACE:
+            self.answer = "" if self.is_selected else "".join(clusters(self.answer)[:-1])
+        elif typed:
+            self.answer = typed if self.is_selected else self.answer + typed
+        elif key not in ENDS:
+            return
+        self.is_selected = False
 
 
 class Prompts:
@@ -30,12 +51,13 @@ class Prompts:
         self._prompts: list[Prompt] = []
         self.is_again = False
 
-    def ask(self, question: str, then: Callable[[str], object], answer: str = "", needs_no_note: bool = False) -> None:
+    def ask(self, question: str, then: Callable[[str], object], answer: str = "", needs_no_note: bool = False,
+            is_selected: bool = False) -> None:
         """Asks a question, in place of another, but before one that needs the note where this one doesn't; an answer may be given that is
-        then changed."""
+        then changed, or that is selected, so that what is typed takes its place."""
         if self._prompts and not (needs_no_note and not self.needs_no_note):
             self._prompts.pop()
-        self._prompts.append(Prompt(question, answer, then, needs_no_note))
+        self._prompts.append(Prompt(question, answer, then, needs_no_note, is_selected))
         self.is_again = False
 
     @property
@@ -50,7 +72,7 @@ class Prompts:
 
     def words(self) -> str:
         """The question, with the answer as it is."""
-        return f"{self._prompts[-1].question}: {self._prompts[-1].answer}" if self.asks else ""
+        return self._prompts[-1].words() if self.asks else ""
 
     def press(self, key: Event) -> None:
         """Goes on with an answer. A line end that is pasted doesn't end it."""
@@ -62,12 +84,8 @@ class Prompts:
             prompt.then(prompt.answer)
         elif key is Key.ESCAPE:
             self._end()
-        elif key is Key.BACKSPACE:
-            prompt.answer = "".join(clusters(prompt.answer)[:-1])
-        elif isinstance(key, Pasted):
-            prompt.answer += key.text.strip("\r").replace("\r", " ")
-        elif isinstance(key, str):
-            prompt.answer += key
+        else:
+            prompt.take(key)
 
     def _end(self) -> None:
         self._prompts.pop()

@@ -56,7 +56,8 @@ class Review:
         """Asks what is to be in the place of what is selected, or at the cursor's."""
         begin, end = self._stretch()
         now = readable(swapped(self._view.text[begin:end]))
-        self._prompts.ask("Suggest instead" if now else "Suggest here", lambda new: self._say("suggest", new=new), now)
+        question = "Suggest instead" if now else "Suggest here"
+        self._prompts.ask(question, lambda new: self._say("suggest", new=new), now, is_selected=bool(now))
 
     def _stretch(self) -> tuple[int, int]:
         return self._view.selected() or (self._view.cursor, self._view.cursor)
