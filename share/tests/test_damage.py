@@ -50,6 +50,9 @@ TO_THE_FILE: dict[str, Damage] = {
     "zeros in place of its head": lambda path: write_over(path, 0, bytes(16)),
     "zeros over a page": lambda path: write_over(path, path.stat().st_size // 2 // PAGE * PAGE, bytes(PAGE)),
     A_LETTER: lambda path: write_over(path, path.read_bytes().index(b"x" * 40) + 20, b"y"),
+}
+# What is written to the file's first page, which is written anew, and so mended, where pages are moved there.
+TO_THE_FIRST_PAGE: dict[str, Damage] = {
     "a letter of a column's name": lambda path: write_over(path, path.read_bytes().index(b"secret BLOB") + 5, b"\xa0"),
 }
 # What is written within the page that was just written to the log.
@@ -176,7 +179,7 @@ class WithinAnOwnWrite(Case):
         self.assert_seen_at_once(just_written, "committed")
 
     def test_of_the_file_is_seen_before_the_next_key(self) -> None:
-        self.assert_seen_at_once(TO_THE_FILE, *STEPS)
+        self.assert_seen_at_once(TO_THE_FILE | TO_THE_FIRST_PAGE, *STEPS)
 
     def test_of_what_was_just_written_is_seen_soon(self) -> None:
         self.assert_seen_soon(JUST_WRITTEN, "committed")
