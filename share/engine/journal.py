@@ -10,13 +10,13 @@ import zlib
 from collections.abc import Iterable
 from contextlib import suppress
 
+from share.engine.protocol import ENCODER
 from share.text.line import Line
 
-VERSION = 1
+JOURNAL_VERSION = 1
 # From this size on a journal is to be written again, with what is still needed.
 LONG_BYTES = 8 << 20
 CHECKSUM_DIGITS = 8
-ENCODER = json.JSONEncoder(ensure_ascii=True, separators=(",", ":"))
 
 
 class Unreadable(Exception):
@@ -55,15 +55,15 @@ class Journal:
             return []
         if not data.endswith(b"\n"):
             raise Unreadable("it was cut short")
-        first, *lines = map(_parsed, data.splitlines())
-        if first.get("journal") != VERSION:
+        first, *lines = map(_line_of, data[:-1].split(b"\n"))
+        if first.get("journal") != JOURNAL_VERSION:
             raise Unreadable("another version of the engine wrote it")
         return lines if first.get("note") == self._note.hex() else []
 
     def begin(self, lines: Iterable[Line]) -> bool:
         """Begins the journal again with these lines, in place of the old one; whether that could be done."""
         self.stop()
-        data = b"".join(map(_serialized, [{"journal": VERSION, "note": self._note.hex()}, *lines]))
+        data = b"".join(map(_serialized, [{"journal": JOURNAL_VERSION, "note": self._note.hex()}, *lines]))
         fresh = self._path.with_name(f".{self._path.name}.{os.getpid()}")
         try:
             self._file = os.open(fresh, os.O_WRONLY | os.O_CREAT | os.O_TRUNC | os.O_APPEND | os.O_CLOEXEC, 0o600)
@@ -116,11 +116,11 @@ class Journal:
 
 
 def _serialized(line: Line) -> bytes:
-    data = ENCODER.encode(line).encode()
+    data = ENCODER.encode(line).encode("utf-8", "replace")
     return b"%08x %s\n" % (zlib.crc32(data), data)
 
 
-def _parsed(line: bytes) -> Line:
+def _line_of(line: bytes) -> Line:
     checksum, data = line[:CHECKSUM_DIGITS], line[CHECKSUM_DIGITS + 1:]
     if checksum != b"%08x" % zlib.crc32(data):
         raise Unreadable("it is damaged")

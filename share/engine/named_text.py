@@ -26,9 +26,9 @@ class NamedText:
         made = changes_in(self.measured, op_of(changes, self.measured.length(units), units), units)
         if self._names is not None:
             sizes = [len(one.new) for one in reversed(made)]
-            found = _parted(new, sizes) if sum(sizes) == sum(one.length for one in new) else [[Names(NO_SITE, 0, size)] for size in sizes]
+            found = _names_in_parts(new, sizes) if sum(sizes) == sum(one.length for one in new) else [[Names(NO_SITE, 0, size)] for size in sizes]
             for one, names in zip(made, reversed(found)):
-                self._names = [*_between(self._names, 0, one.begin), *names, *_after(self._names, one.end)]
+                self._names = [*_names_between(self._names, 0, one.begin), *names, *_names_after(self._names, one.end)]
         for one in made:
             self.measured.replace(self.measured.whole(one))
 
@@ -46,7 +46,7 @@ class NamedText:
         return of_changes([one for one in made if one[0] < one[1] or one[2]], units)
 
 
-def _between(names: Iterable[Names], begin: int, end: int) -> Iterable[Names]:
+def _names_between(names: Iterable[Names], begin: int, end: int) -> Iterable[Names]:
     """The names from one place in their row to another."""
     at = 0
     for one in names:
@@ -58,14 +58,14 @@ def _between(names: Iterable[Names], begin: int, end: int) -> Iterable[Names]:
             return
 
 
-def _after(names: Iterable[Names], begin: int) -> Iterable[Names]:
-    return _between(names, begin, 1 << 60)
+def _names_after(names: Iterable[Names], begin: int) -> Iterable[Names]:
+    return _names_between(names, begin, 1 << 60)
 
 
-def _parted(names: Sequence[Names], sizes: Iterable[int]) -> list[list[Names]]:
+def _names_in_parts(names: Sequence[Names], sizes: Iterable[int]) -> list[list[Names]]:
     """Names in parts of these sizes."""
     found, at = list[list[Names]](), 0
     for size in sizes:
-        found.append([*_between(names, at, at + size)])
+        found.append([*_names_between(names, at, at + size)])
         at += size
     return found

@@ -12,7 +12,7 @@ from share.engine.editor import Peer
 from share.engine.edits import EditRequests
 from share.engine.named_text import NamedText
 from share.engine.protocol import Wrong
-from share.engine.remembered import EditChanges, Front, InStep, Remembered
+from share.engine.remembered import EditChanges, SiteFront, InStep, Remembered
 from share.engine.remembering import Remembering
 from share.engine.shared_text import SharedText
 from share.engine.transform import Transformer
@@ -28,7 +28,7 @@ from share.text.units import Units
 # What may be otherwise when it is tried again; after any other error of an edit those after it aren't made.
 PASSING = ("number", "unkept", "failed")
 NOT_MADE = "Before the engine ended it couldn't make all that you typed. This is missing: {}"
-MOST_TOLD = 200
+MOST_WORDS_TOLD = 200
 
 
 class Again(NamedTuple):
@@ -84,7 +84,7 @@ class Rejoining:
         for one in (stretch for edit in kept for stretch in edit.at):
             if now.get(one.site, 0) + 1 == one.first:
                 now[one.site] = one.last
-        if now == self._session.site.front() and _is_shown(NamedText(self._text.measured.as_note()), after, units, again.hash):
+        if now == self._remembering.front() and _is_shown(NamedText(self._text.measured.as_note()), after, units, again.hash):
             return NOTHING
         text = self._replayed(front)
         try:
@@ -96,7 +96,7 @@ class Rejoining:
             return None
         return text.until(shown_by(self._session.site), units)
 
-    def _replayed(self, front: Front) -> NamedText:
+    def _replayed(self, front: SiteFront) -> NamedText:
         """The text as messages up to these of each site made it, with names."""
         messages = messages_up_to(self._session.site.history, front)
         site = Site(REPLAYING, messages)
@@ -152,10 +152,10 @@ class Rejoining:
         words = "".join(text for number, changes in enumerate(again.made, again.edits + 1)
                         if number in known.edits and not known.edits[number].is_whole for _, _, text in changes)
         if words:
-            peer.say(NOT_MADE.format(words[:MOST_TOLD]))
+            peer.say(NOT_MADE.format(words[:MOST_WORDS_TOLD]))
 
 
-def messages_up_to(history: Messages, front: Front) -> Messages:
+def messages_up_to(history: Messages, front: SiteFront) -> Messages:
     """The first messages of each site, this many, in the order of a history."""
     found = Messages()
     for holder, begin, end in history.parts():

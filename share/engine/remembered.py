@@ -11,10 +11,10 @@ from share.text.names import Names
 MOST_REMEMBERED, MOST_STEPS_OF_ONE = 100, 5_000
 # An editor's changes: what is between two positions gives way to a text.
 EditChanges = Sequence[tuple[int, int, str]]
-Front = dict[int, int]
+SiteFront = dict[int, int]
 
 
-class Stretch(NamedTuple):
+class MadeMessages(NamedTuple):
     """Messages of a site, and the checksum of their bytes."""
 
     site: int
@@ -23,10 +23,10 @@ class Stretch(NamedTuple):
     checksum: int
 
 
-class Kept(NamedTuple):
+class KeptEdit(NamedTuple):
     """An edit: its messages, the names of what it inserted, from the front of the text on, and whether all of it was made."""
 
-    at: list[Stretch]
+    at: list[MadeMessages]
     new: list[Names]
     is_whole: bool
 
@@ -48,11 +48,11 @@ class InStep(NamedTuple):
 class Remembered:
     """What is remembered of an editor."""
 
-    edits: dict[int, Kept] = field(default_factory=dict)
+    edits: dict[int, KeptEdit] = field(default_factory=dict)
     # By its version and the number of its edits.
     steps: dict[tuple[int, int], InStep] = field(default_factory=dict)
     # What was done that can be taken back, with the messages of that.
-    undoing: list[tuple[list[Stretch], Line]] = field(default_factory=list)
+    undoing: list[tuple[list[MadeMessages], Line]] = field(default_factory=list)
 
     def has_up_to(self, edits: int) -> int:
         """The number of its edits that are there, of those after a number."""
@@ -74,7 +74,7 @@ class Editors:
     def __init__(self, lines: Iterable[Line] = ()):
         self.of: dict[str, Remembered] = {}
         # What each front has more than the one before it, or otherwise.
-        self._fronts: list[Front] = [{}]
+        self._fronts: list[SiteFront] = [{}]
         for line in lines:
             self._take(line)
 
@@ -89,9 +89,9 @@ class Editors:
         if "gone" in line:
             self.of.pop(line["of"], None)
             return
-        one, at = self.of.setdefault(line["of"], Remembered()), [Stretch(*each) for each in line.get("at", ())]
+        one, at = self.of.setdefault(line["of"], Remembered()), [MadeMessages(*each) for each in line.get("at", ())]
         if "edit" in line:
-            one.edits[line["edit"]] = Kept(at, [Names(*each) for each in line["new"]], "partly" not in line)
+            one.edits[line["edit"]] = KeptEdit(at, [Names(*each) for each in line["new"]], "partly" not in line)
         if "undo" in line:
             one.undoing.append((at, line["undo"]))
         if "step" in line:
@@ -106,20 +106,20 @@ class Editors:
         else:
             one.steps[version, edits] = InStep(len(self._fronts) - 1, edits - len(made), made)
 
-    def _drop(self, is_gone: Callable[[Stretch], bool]) -> None:
+    def _drop(self, is_gone: Callable[[MadeMessages], bool]) -> None:
         """Forgets that there are messages. An edit of which some weren't kept counts, and isn't made."""
         for one in self.of.values():
             for number, edit in one.edits.items():
                 if any(map(is_gone, edit.at)):
-                    one.edits[number] = Kept([], [], False)
+                    one.edits[number] = KeptEdit([], [], False)
             one.undoing = [each for each in one.undoing if not any(map(is_gone, each[0]))]
 
-    def settle(self, is_kept: Callable[[Stretch], bool]) -> None:
+    def settle(self, is_kept: Callable[[MadeMessages], bool]) -> None:
         """Decides which of the edits that an engine was making as it ended are kept: others are as if they had never come."""
         front = self.front(len(self._fronts) - 1)
-        known = dict[Stretch, bool]()
+        known = dict[MadeMessages, bool]()
 
-        def is_gone(one: Stretch) -> bool:
+        def is_gone(one: MadeMessages) -> bool:
             if one.last <= front.get(one.site, 0):
                 return False
             if one not in known:
@@ -130,14 +130,14 @@ class Editors:
             one.edits = {number: edit for number, edit in one.edits.items() if not any(map(is_gone, edit.at))}
             one.undoing = [each for each in one.undoing if not any(map(is_gone, each[0]))]
 
-    def front(self, number: int) -> Front:
+    def front(self, number: int) -> SiteFront:
         """How many messages of each site a text was made of."""
-        found: Front = {}
+        found: SiteFront = {}
         for one in self._fronts[:number + 1]:
             found |= one
         return {site: seq for site, seq in found.items() if seq}
 
-    def lines(self, front: Front) -> Iterator[Line]:
+    def lines(self, front: SiteFront) -> Iterator[Line]:
         """The lines of a new journal that says what is still needed, up to a front."""
         self._forget_old()
         steps = sorted(((step.front, editor, at, step) for editor, one in self.of.items() for at, step in one.steps.items()),
@@ -152,11 +152,11 @@ class Editors:
             while read <= number:
                 now |= self._fronts[read]
                 read += 1
-            if more := differing(told, now):
+            if more := front_differing(told, now):
                 yield {"front": [*more.items()]}
                 told = dict(now)
             yield {"of": editor, "step": at, **({"made": step.made} if step.made else {})}
-        yield {"front": [*differing(told, front).items()]}
+        yield {"front": [*front_differing(told, front).items()]}
 
     def _forget_old(self) -> None:
         for editor in [*self.of][:-MOST_REMEMBERED]:
@@ -166,6 +166,6 @@ class Editors:
                 del one.steps[at]
 
 
-def differing(before: Front, now: Front) -> Front:
+def front_differing(before: SiteFront, now: SiteFront) -> SiteFront:
     """What a front has otherwise than one before it; 0 of the sites that it hasn't."""
     return dict.fromkeys(before.keys() - now.keys(), 0) | {site: seq for site, seq in now.items() if before.get(site) != seq}

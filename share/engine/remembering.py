@@ -1,10 +1,13 @@
 """What an engine notes of its editors for the next one, before anybody can know of it."""
 import zlib
-from collections.abc import Callable, Iterable, Sequence
+from collections.abc import Callable, Iterable, Iterator, Sequence
 
+from share.admission.ledger import Branch
+from share.admission.lines import Path
 from share.engine.editor import Peer
 from share.engine.journal import Journal, Unreadable
-from share.engine.remembered import Editors, Front, Kept, Stretch, differing
+from share.engine.remembered import Editors, KeptEdit, MadeMessages, SiteFront, front_differing
+from share.format.history import Messages
 from share.format.operation import Operation
 from share.program.site import Site
 from share.sync.session import Session
@@ -18,25 +21,25 @@ class HistoryFront:
     def __init__(self) -> None:
         self._site: Site | None = None
         self._length = 0
-        self._front: Front = {}
+        self._front: SiteFront = {}
         # What was told last.
-        self.told: Front = {}
+        self.told: SiteFront = {}
 
-    def now(self, site: Site) -> Front:
+    def now(self, site: Site) -> SiteFront:
         """How many there are now."""
         if site is not self._site or len(site.history) < self._length:
-            self._site, self._front = site, site.front()
-        elif len(site.history) > self._length:
+            self._site, self._length, self._front = site, 0, {}
+        if len(site.history) > self._length:
             self._front = dict(self._front)
-            for one in site.history[self._length:].runs():
-                self._front[one.site] = max(self._front.get(one.site, 0), one.seq + one.size - 1)
+            for of, seq in _last_of_each(site.history[self._length:]):
+                self._front[of] = max(self._front.get(of, 0), seq)
         self._length = len(site.history)
         return self._front
 
     def more(self, site: Site) -> list[tuple[int, int]]:
         """What there is otherwise than was told last, which counts as told then."""
         before, self.told = self.told, self.now(site)
-        return [] if before is self.told else [*differing(before, self.told).items()]
+        return [] if before is self.told else [*front_differing(before, self.told).items()]
 
 
 class Remembering:
@@ -63,6 +66,10 @@ class Remembering:
             journal.begin(editors.lines(front))
             self._fronts.told = front
 
+    def front(self) -> SiteFront:
+        """How many messages of each site the text is made of now."""
+        return self._fronts.now(self._session.site)
+
     def read(self) -> Editors:
         """What is noted of editors."""
         try:
@@ -73,7 +80,7 @@ class Remembering:
             self.trouble = f"What was noted of this editor isn't known, since it is no journal ({why})."
         return Editors()
 
-    def _is_kept(self, one: Stretch) -> bool:
+    def _is_kept(self, one: MadeMessages) -> bool:
         """Whether messages are in the note's file, and are these."""
         site = self._session.site
         if self._fronts.now(site).get(one.site, 0) < one.last:
@@ -84,13 +91,13 @@ class Remembering:
         """Gathers what an editor's last edit made, change by change from the last one to the first."""
         if peer.editor:
             new = [names for parts in reversed(made) for one in parts if (names := one.new)]
-            edit = Kept(_stretches([one for parts in made for one in parts]), _in_a_row(new), is_whole)
+            edit = KeptEdit(_as_made([one for parts in made for one in parts]), _joined_names(new), is_whole)
             self._gathered.append(edit.as_line(peer.editor, peer.transformer.edits) | ({"undo": undo} if undo else {}))
 
     def by_name(self, peer: Peer, messages: Sequence[Operation], undo: Line) -> None:
         """Gathers what is made by names for an editor."""
         if peer.editor:
-            self._gathered.append({"of": peer.editor, "at": _stretches(messages), "undo": undo})
+            self._gathered.append({"of": peer.editor, "at": _as_made(messages), "undo": undo})
 
     def write(self) -> None:
         """Writes what was gathered, before it is kept."""
@@ -173,20 +180,29 @@ class Remembering:
                 self._journal.delete()
 
 
+def _last_of_each(messages: Messages) -> Iterator[tuple[int, int]]:
+    """The sites of messages in a row, and the last one of each part that they have."""
+    for holder, begin, end in messages.parts():
+        if isinstance(holder, Branch | Path):
+            yield holder.site, end
+        else:
+            yield from ((one.site, one.seq + one.size - 1) for one in holder.between(begin, end))
+
+
 def checksum(messages: Iterable[Operation]) -> int:
     """What tells messages from others of the same numbers."""
     return zlib.crc32(b"".join(spelling for one in messages for spelling in one.spellings()))
 
 
-def _stretches(messages: Sequence[Operation]) -> list[Stretch]:
+def _as_made(messages: Sequence[Operation]) -> list[MadeMessages]:
     """Messages of one site that follow one another, as one stretch."""
     if not messages:
         return []
     last = messages[-1]
-    return [Stretch(last.site, messages[0].seq, last.seq + last.size - 1, checksum(messages))]
+    return [MadeMessages(last.site, messages[0].seq, last.seq + last.size - 1, checksum(messages))]
 
 
-def _in_a_row(names: Iterable[Names]) -> list[Names]:
+def _joined_names(names: Iterable[Names]) -> list[Names]:
     """Names in their order, those that go on with one another in one."""
     found: list[Names] = []
     for one in names:

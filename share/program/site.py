@@ -177,11 +177,9 @@ class Site:
         if not self._program.run.folder:
             return {}
         fronts, kept = self._ask([self._program.event("front"), self._program.event("keep", PACKED_NAME.encode(), b"packed")])
-        return _fronts(fronts) if kept == [b"ok"] else {}
-
-    def front(self) -> dict[int, int]:
-        """The number of each site's messages."""
-        return _fronts(self._ask([self._program.event("front")])[0])
+        if kept != [b"ok"]:
+            return {}
+        return {int(site): int(seq) for _, site, seq in (line.split() for line in fronts[:-1])}
 
     def take(self, messages: Iterable[Operation], looks: bool = False,
              progress: Progress = lambda done: None) -> Told:
@@ -390,10 +388,6 @@ class Site:
 
     def _ask(self, events: list[bytes]) -> list[list[bytes]]:
         return self._program.ask(events)
-
-
-def _fronts(answer: list[bytes]) -> dict[int, int]:
-    return {int(site): int(seq) for _, site, seq in (line.split() for line in answer[:-1])}
 
 
 def is_full(many: int) -> bool:
