@@ -1,5 +1,5 @@
 """The taking in of what came from others, and what editors are told of how things are."""
-from collections.abc import Sequence
+from collections.abc import Callable, Sequence
 from contextlib import suppress
 
 from share.engine.authors import Authors
@@ -24,6 +24,8 @@ class Arrivals:
         self._note, self._session, self._peers, self._text, self._authors = note, session, peers, text, authors
         self.status: Status = session.status()
         self._number = session.number
+        # Has an editor's steps of undo be forgotten.
+        self.forgets: Callable[[Peer], None] = lambda peer: peer.undoing.forget()
         # Whether the site may show something else, since it failed as something was made there.
         self.is_behind = False
         # Why what comes can't be taken in, where it can't; and whether the program stands still.
@@ -65,7 +67,7 @@ class Arrivals:
         if number != self._number:
             self._number = number
             for peer in self._peers:
-                peer.undoing.forget()
+                self.forgets(peer)
                 peer.gap = None
             self._authors.are_called({number: peer.name for peer in self._peers if peer.name})
 

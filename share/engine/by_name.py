@@ -7,7 +7,9 @@ from share.engine.arrivals import Arrivals
 from share.engine.authors import Authors
 from share.engine.editor import Peer
 from share.engine.protocol import Wrong
+from share.engine.remembering import Remembering
 from share.engine.shared_text import SharedText
+from share.format.operation import Operation
 from share.program.retyping import Lost
 from share.program.site import Edited, Site, Told
 from share.program.undo import Step, do, looks_of
@@ -18,6 +20,8 @@ from share.text.looks import Looked, setting
 from share.text.names import Name, united
 
 SeesEdit = Callable[[Site, Edited], None]
+# What a journal has of a step of undo, given what it changed; nothing where that is nothing.
+NotesStep = Callable[[Step], Line]
 
 
 def see_all_done(_: Site, edited: Edited) -> None:
@@ -26,12 +30,23 @@ def see_all_done(_: Site, edited: Edited) -> None:
         raise Wrong("refused", str(Refused(edited.refused)), number=edited.refused)
 
 
+def adding(changed: Step) -> Line:
+    """What a journal has of a step that can be taken back, if it changed something."""
+    return {"adds": changed.as_line()} if changed.does_something() else {}
+
+
+def _taking_back(redo: bool, place: int) -> NotesStep:
+    """What a journal has of a step at a place that is taken back, or done again."""
+    return lambda changed: {"redo": redo, "place": place, "changed": changed.as_line()}
+
+
 class ByName:
     """The requests `undo`, `redo`, `looks`, `lost` and `recover`. What they change also the editor that asks is told by a notice. The
     engine's thread alone calls it."""
 
-    def __init__(self, session: Session, text: SharedText, arrivals: Arrivals, authors: Authors):
-        self._session, self._text, self._arrivals, self._authors = session, text, arrivals, authors
+    def __init__(self, session: Session, text: SharedText, arrivals: Arrivals, authors: Authors,
+                 remembering: Remembering):
+        self._session, self._text, self._arrivals, self._authors, self._remembering = session, text, arrivals, authors, remembering
         # Is told whose acceptance of a suggestion was done again, or is taken back now.
         self.accepted: Callable[[Peer, Name, bool], None] = lambda peer, name, redo: None
 
@@ -48,7 +63,7 @@ class ByName:
                 self.accepted(peer, step.accepts, False)
                 if peer.undoing.next(redo, among) is not step:
                     continue
-            changed = self.make(peer, step, redo, None if among else peer)
+            changed = self.make(peer, step, redo, None if among else peer, noted=_taking_back(redo, peer.undoing.place(redo, step)))
             peer.undoing.done(redo, step, changed)
             if changed.does_something():
                 if step.accepts and redo:
@@ -83,20 +98,26 @@ class ByName:
             peer.undoing.add(changed)
         return {}
 
-    def make(self, peer: Peer, step: Step, redo: bool, jumps: Peer | None, sees: SeesEdit = lambda site, edited: None) -> Step:
+    def make(self, peer: Peer, step: Step, redo: bool, jumps: Peer | None, sees: SeesEdit = lambda site, edited: None,
+             noted: NotesStep = adding) -> Step:
         """Takes an edit back, or does it; what that changed. The cursor of an editor may go there. Who sees what was done may raise
-        Wrong, and then nothing of it was."""
-        told: list[Told] = []
+        Wrong, and then nothing of it was. It is noted, as a journal has it, before it is kept."""
+        told, made = list[Told](), list[Operation]()
         changed = Step(accepts=step.accepts)
 
         def work(site: Site) -> Edited:
             edited = do(site, step, redo, told, changed)
             sees(site, edited)
+            made.extend(edited.messages)
+            if line := noted(changed):
+                self._remembering.by_name(peer, made, line)
+                self._remembering.write()
             return edited
 
         try:
             edited = self._session.edit(work)
         except Trouble as why:
+            self._remembering.unkept(made)
             self._arrivals.catch_up()
             raise Wrong("unkept", str(why)) from why
         with peer.extents.are_of(changed.key):

@@ -34,6 +34,12 @@ class Peer:
     """An editor. What it is sent goes through one call, and another says how many bytes of that are still on their way. The
     engine's thread alone calls it."""
 
+    # What it called itself, so that it can open again, and whether it did so by another line.
+    editor, is_left = "", False
+    # With which version and number of edits it was last noted to be in step, and what notes that.
+    in_step_at: tuple[int, int] | None = None
+    notes_step: Callable[["Peer"], None] = staticmethod(lambda peer: None)
+
     def __init__(self, write: Callable[[bytes], None], waiting: Callable[[], int], who: int,
                  clock: Callable[[], float] = time.monotonic):
         self._write, self._waiting, self.who = write, waiting, who
@@ -92,6 +98,21 @@ class Peer:
             raise Wrong("order", NOT_OPEN)
         return self._transformer
 
+    @transformer.setter
+    def transformer(self, transformer: Transformer) -> None:
+        self._transformer = transformer
+
+    def leave(self) -> None:
+        """Leaves its line: nothing is done any more that came by it."""
+        self.closes = self.is_left = True
+        self.editor = ""
+        self.leave_text()
+        self._answers.clear()
+
+    def leave_text(self) -> None:
+        """Notes that it hasn't opened the note."""
+        self._transformer, self.in_step_at = None, None
+
     def open(self, units: Units) -> None:
         """Notes that it has the text as that is now."""
         self._transformer = Transformer(units)
@@ -111,7 +132,7 @@ class Peer:
             raise Wrong("field", "name has to be a string, and colour one as #3366cc.")
         self.name, self.colour = presence.clean_name(name) or self.name, colour or self.colour
         self.sees_looks, self.sees_remarks = request.get("looks") is True, request.get("remarks") is True
-        self.is_script = request.get("script") is True
+        self.is_script, self.editor = request.get("script") is True, protocol.editor_of(request)
         return units
 
     def moved(self, change: Change) -> None:
@@ -157,6 +178,7 @@ class Peer:
                 if transformer.has_left_much:
                     self.say(LEFT_MUCH)
                 transformer.send_text()
+                self.notes_step(self)
                 self.send({"notice": "text", "version": transformer.version, "edits": transformer.edits, "text": text.text()})
                 self._sends_cursors = self._sends_looks = True
                 trace(Traced.TEXT_SENT)
@@ -165,11 +187,22 @@ class Peer:
             self.jump = None
         answers, self._answers = self._answers, []
         for line in answers:
-            self.send(line)
+            self.send(line | self._in_step_after(line))
+
+    def _in_step_after(self, answer: Line) -> Line:
+        """What the answer to an edit has where an editor with this version shows the text as it is, once it has it."""
+        if answer.get("answer") != "edit" or not self.is_open:
+            return {}
+        transformer = self.transformer
+        if transformer.is_void or transformer.has_news() or answer.get("edits") != transformer.edits:
+            return {}
+        self.notes_step(self)
+        return {"version": transformer.version}
 
     def _send_changes(self, transformer: Transformer, text: Measured) -> None:
         units = transformer.units
         changes = [[begin, end, units.decode(data)] for begin, end, data in transformer.send()]
+        self.notes_step(self)
         line: Line = {"notice": "changes", "version": transformer.version, "edits": transformer.edits, "changes": changes}
         if self.jump is not None:
             line["cursor"] = text.position(self.jump, units)
@@ -219,6 +252,7 @@ class Peer:
         if times == self._looks and not (self._sends_looks and times):
             return
         self._looks, self._looks_version, self._sends_looks = times, transformer.send_nothing(), False
+        self.notes_step(self)
         found: list[Line] = [{"begin": one.begin, "end": one.end, **told(one.looks)}
                              for one in in_units(text, formatting.stretches, transformer.units)]
         self.send({"notice": "looks", "version": transformer.version, "edits": transformer.edits, "looks": found})

@@ -9,10 +9,12 @@ from share.engine.arrivals import NOT_NOW, Arrivals
 from share.engine.editor import Peer
 from share.engine.gaps import Gap, cut_by, rewrite_of
 from share.engine.protocol import Wrong
+from share.engine.remembering import Remembering
 from share.engine.shared_text import SharedText
 from share.engine.transform import Transformer
 from share.format.operation import MOST_RANGES, Operation
 from share.program.site import Edited, Rewrite, Site
+from share.program.undo import step_of
 from share.sync.session import Session
 from share.text.change import Change
 from share.text.delta import Op
@@ -29,29 +31,34 @@ Filled = tuple[Op, list[Change], list[list[Operation]], int | None]
 class EditRequests:
     """The requests `edit`. The engine's thread alone calls it."""
 
-    def __init__(self, session: Session, text: SharedText, arrivals: Arrivals):
-        self._session, self._text, self._arrivals = session, text, arrivals
+    def __init__(self, session: Session, text: SharedText, arrivals: Arrivals, remembering: Remembering):
+        self._session, self._text, self._arrivals, self._remembering = session, text, arrivals, remembering
 
     def make(self, peer: Peer, first: Line, waiting: list[bytes | None]) -> list[tuple[Line, Line]]:
         """Makes an edit, and those that wait after it, and has all be kept at once; the requests with their answers."""
         answers: list[tuple[Line, Line]] = []
         can_type = self._session.can_type
 
+        made = list[Operation]()
+
         def work(site: Site) -> Edited:
-            return self._made_one_by_one(peer, first, waiting, site, can_type, answers)
+            made.extend(self._made_one_by_one(peer, first, waiting, site, can_type, answers))
+            self._remembering.write()
+            return Edited(made)
 
         self._text.begin_unkept()
         try:
             self._session.edit(work) if can_type else work(self._session.site)
         except Exception as fault:  # pylint: disable=broad-except
+            self._remembering.unkept(made)
             answers = self._not_kept(peer, first, answers, fault)
         self._text.end_unkept()
         self._arrivals.look_at_number()
         return answers
 
     def _made_one_by_one(self, peer: Peer, first: Line, waiting: list[bytes | None], site: Site, can_type: bool,
-                         answers: list[tuple[Line, Line]]) -> Edited:
-        """Makes edits for as long as they may wait to be kept, and adds their answers."""
+                         answers: list[tuple[Line, Line]]) -> list[Operation]:
+        """Makes edits for as long as they may wait to be kept, up to one that isn't made, and adds their answers; the messages."""
         messages, end = list[Operation](), time.monotonic() + TOGETHER_SECONDS
         request: Line | None = first
         while request:
@@ -65,12 +72,12 @@ class EditRequests:
                     site.go_back(before)
             answers.append((request, answer))
             messages += made
-            request = _next_edit(waiting) if time.monotonic() < end else None
-        return Edited(messages)
+            request = _next_edit(waiting) if time.monotonic() < end and "error" not in answer else None
+        return messages
 
     def _not_kept(self, peer: Peer, first: Line, answers: list[tuple[Line, Line]], fault: Exception) -> list[tuple[Line, Line]]:
         """Shows all what the site has without these edits; the answers."""
-        peer.undoing.forget()
+        self._remembering.forgets(peer)
         peer.gap = None
         self._text.take_back()
         self._arrivals.catch_up()
@@ -105,6 +112,7 @@ class EditRequests:
         if self._arrivals.is_behind:
             raise Trouble(NOT_NOW)
         if site is None:
+            self._remembering.edit(peer, is_whole=False)
             text.take_out(peer, own, text.measured.as_note())
             return {"edits": edits, "error": "number", "words": self._arrivals.no_number}, []
         gap, peer.gap = peer.gap, None
@@ -153,10 +161,13 @@ class EditRequests:
               refused: int | None) -> Line:
         """Shows the others changes that an editor shows already, and that were made; what the answer has besides."""
         if not changes:
+            self._remembering.edit(peer, made)
             return {}
         messages = [*chain.from_iterable(made)]
         old = self._text.measured.slice(changes[0].begin, changes[0].end)
-        key = peer.undoing.made(messages, peer.coalescing.joins(changes, old, join))
+        step, joins = step_of(messages), peer.coalescing.joins(changes, old, join)
+        key = peer.undoing.made(step, joins)
+        self._remembering.edit(peer, made, {"made": step.as_line(), "joins": joins}, is_whole=refused is None)
         if refused is not None:
             self._text.take_out(peer, own, site.text())
             return {"error": "refused", "words": str(Refused(refused)), "number": refused}

@@ -2,12 +2,14 @@
 
 docs/ENGINE.md has the protocol. Nothing here reads or writes a line's bytes, or waits for an editor.
 """
+import pathlib
 import time
 from collections.abc import Callable
 from itertools import count
 
 from share.engine import protocol
 from share.engine.editor import NOT_OPEN, Peer
+from share.engine.journal import Journal
 from share.engine.others import OtherEditors
 from share.engine.protocol import Wrong
 from share.engine.shared_note import HANDLERS, SharedNote
@@ -33,8 +35,10 @@ class Engine:
     """
 
     def __init__(self, name: str, opens: Callable[[], Session], wake: Callable[[], None], send: Callable[[], None] = lambda: None,
-                 clock: Callable[[], float] = time.monotonic):
+                 clock: Callable[[], float] = time.monotonic, journal: pathlib.Path | None = None):
         self.name, self._opens, self._wake, self._send, self._clock = name, opens, wake, send, clock
+        # Where it is noted what the next engine has to know of the editors, if anywhere.
+        self._journal = journal
         self.peers: list[Peer] = []
         self._new_who = count(1).__next__
         self._note: SharedNote | None = None
@@ -66,6 +70,9 @@ class Engine:
     def take(self, peer: Peer, waiting: list[bytes | None]) -> None:
         """Does what the first of the lines that wait says; None is one that was too long. Edits that follow one
         another are kept together, since what takes longest is to have them on the disk."""
+        if peer.is_left:
+            waiting.clear()
+            return
         request: Line = {}
         self._asked = time.monotonic()
         try:
@@ -151,7 +158,11 @@ class Engine:
         if protocol.is_id(given):
             line["id"] = given
         line |= answer
-        peer.answer_later(line)
+        if what == "open":
+            # What has come since the text that it shows is told after that.
+            peer.send(line)
+        else:
+            peer.answer_later(line)
         if what != "edit":
             # What it says is of the text as it is now.
             self._flush(peer)
@@ -166,6 +177,8 @@ class Engine:
             return self._open(peer, request)
         if what == "close":
             peer.closes = True
+            if peer.editor and self._note:
+                self._note.remembering.gone(peer.editor)
             return {}
         if not peer.is_open or self._note is None:
             raise Wrong("order", NOT_OPEN)
@@ -180,13 +193,20 @@ class Engine:
         if not self._note:
             self._note = self._opened()
         self._note.presence.colour(peer)
-        peer.open(units)
-        return self._note.opened(peer)
+        self._leave_line_of(peer)
+        return self._note.opened(peer, units, request)
+
+    def _leave_line_of(self, peer: Peer) -> None:
+        """Does nothing more that came by the line which an editor had before this one: it says itself what it did."""
+        for one in self.peers:
+            if one is not peer and peer.editor and one.editor == peer.editor:
+                one.leave()
 
     def _opened(self) -> SharedNote:
         session = self._opens()
         try:
-            note = SharedNote(self.name, session, self.peers, OtherEditors(self._new_who), self._wake, self._answer, self._clock)
+            note = SharedNote(self.name, session, self.peers, OtherEditors(self._new_who), self._wake, self._answer, self._clock,
+                              Journal(self._journal, session.identity) if self._journal else None)
         except BaseException:
             session.close()
             raise

@@ -13,6 +13,7 @@ MOST_REPLACEMENTS = 50_000
 # Greater numbers aren't the same in all languages.
 MOST_NUMBER = 2**53 - 1
 MOST_ID = 64
+EDITOR = re.compile(r"[A-Za-z0-9-]{1,64}")
 COLOUR = re.compile(r"#[0-9a-fA-F]{6}")
 
 # Made once, since each line needs one.
@@ -51,6 +52,16 @@ def parse(data: bytes | None) -> Line:
 def serialize(line: Line) -> bytes:
     """The line of an object, with its end."""
     return ENCODER.encode(line).encode("utf-8", "replace") + b"\n"
+
+
+def editor_of(request: Line) -> str:
+    """What an editor calls itself that can open again, if it does."""
+    given = request.get("editor", "")
+    if not isinstance(given, str) or given and not EDITOR.fullmatch(given):
+        raise Wrong("field", "editor has to have 1 to 64 letters, digits and -.")
+    if "again" in request and not given:
+        raise Wrong("field", "again is of an editor that said editor as it opened the note first.")
+    return given
 
 
 def edits_of(request: Line, default: int) -> int:

@@ -230,7 +230,8 @@ class Server:
     def __init__(self, name: str, opens: ServerOpens):
         self._name = name
         self._bell = Bell()
-        self._engine = Engine(name, lambda: opens(self._progress, self._bell.ring), self._bell.ring, self._send_now)
+        self._engine = Engine(name, lambda: opens(self._progress, self._bell.ring), self._bell.ring, self._send_now,
+                              journal=run_folder() / f"{name}.editors")
         self._editors: dict[Connection, Peer] = {}
         self._selector = selectors.DefaultSelector()
         self._selector.register(self._bell, selectors.EVENT_READ)

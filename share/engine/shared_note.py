@@ -11,23 +11,27 @@ from share.engine.editor import Peer
 from share.engine.edits import EditRequests
 from share.engine.formatting import Formatting
 from share.engine.history import History
+from share.engine.journal import Journal
 from share.engine.looked import PersonsLooks
 from share.engine.others import OtherEditors
 from share.engine.presence import EditorPresence
 from share.engine.protocol import Wrong
+from share.engine.rejoining import Again, Rejoining
+from share.engine.remembering import Remembering
 from share.engine.reviewing import OF_A_THREAD, Reviewing
 from share.engine.shared_text import SharedText
 from share.store import atomic
 from share.sync.session import Session
 from share.text.line import MOST_LINE, Line
 from share.text.looks import COLOURS
+from share.text.units import Units
 
 
 class SharedNote:
     """A note that editors have open. The engine's thread alone calls it; `wake` is called by any."""
 
     def __init__(self, name: str, session: Session, peers: Sequence[Peer], others: OtherEditors, wake: Callable[[], None],
-                 answer: Callable[[Peer, Line, Line], None], clock: Callable[[], float]):
+                 answer: Callable[[Peer, Line, Line], None], clock: Callable[[], float], journal: Journal | None = None):
         self.name, self.session, self._peers = name, session, peers
         self.formatting = Formatting()
         self.text = SharedText(session, peers, [others.moved, lambda change, _: self.formatting.moved(change),
@@ -35,8 +39,12 @@ class SharedNote:
         self.authors = Authors(name, session)
         self.arrivals = Arrivals(name, session, peers, self.text, self.authors)
         self.presence = EditorPresence(session, peers, self.text, others, self.authors)
-        self.edits = EditRequests(session, self.text, self.arrivals)
-        self.by_name = ByName(session, self.text, self.arrivals, self.authors)
+        self.remembering = Remembering(session, peers, journal)
+        self.remembering.is_behind = lambda: self.arrivals.is_behind
+        self.arrivals.forgets = self.remembering.forgets
+        self.edits = EditRequests(session, self.text, self.arrivals, self.remembering)
+        self.by_name = ByName(session, self.text, self.arrivals, self.authors, self.remembering)
+        self.rejoining = Rejoining(session, self.text, self.arrivals, self.edits, self.remembering)
         self.history = History(session, self.text, self.authors, wake, answer)
         self.looked = PersonsLooks(name, session, clock)
         self.changes = Changes(session, self.text, self.authors, self.looked, self.history.answer_when_done)
@@ -78,11 +86,18 @@ class SharedNote:
         """Whether an editor shows looks."""
         return any(peer.sees_looks for peer in self._peers)
 
-    def opened(self, peer: Peer) -> Line:
-        """What an editor is answered that opens the note."""
+    def opened(self, peer: Peer, units: Units, request: Line) -> Line:
+        """Opens the note for an editor; what it is answered."""
+        peer.notes_step = self.remembering.in_step
+        if "again" in request:
+            more = self.rejoining.open(peer, units, Again.read(request))
+        else:
+            more = {"text": self.text.measured.text()}
+            peer.open(units)
+            self.remembering.comes(peer)
         if peer.name:
             self.authors.are_called({self.session.number: peer.name})
-        line = {"note": self.name, "units": peer.transformer.units.name, "text": self.text.measured.text(), "version": 0, "edits": 0,
+        line = {"note": self.name, "units": units.name, **more, "version": peer.transformer.version, "edits": peer.transformer.edits,
                 "you": peer.who, "site": self.session.number, "most": MOST_LINE}
         return line | {"colours": COLOURS} if peer.sees_looks else line
 
@@ -102,7 +117,7 @@ class SharedNote:
     def close(self) -> None:
         """Closes the note; what isn't sent stays in its file."""
         with ExitStack() as closing:
-            for close in self.session.close, self.reviewing.close, self.history.close:
+            for close in self.remembering.close, self.session.close, self.reviewing.close, self.history.close:
                 closing.callback(close)
             self.looked.left(self._peers)
 

@@ -67,14 +67,7 @@ class SharedText:
 
     def changes_of(self, op: Op, units: Units) -> list[Change]:
         """The changes of an op in the note's bytes, from the last one to the first."""
-        place = self.measured.place
-        try:
-            return [Change(place(begin, units), place(end, units), swapped(units.decode(data).encode()))
-                    for begin, end, data in reversed(in_text(op, units))]
-        except OutsideText as why:
-            raise Wrong("outside", str(why)) from why
-        except Split as why:
-            raise Wrong("split", str(why)) from why
+        return changes_in(self.measured, op, units)
 
     def begin_unkept(self) -> None:
         """Remembers from now on how to take back what is changed."""
@@ -125,7 +118,7 @@ class SharedText:
         for one, names in changes:
             whole = self.measured.whole(one)
             for units, found in made.items():
-                found.append(self._in_units(whole, units))
+                found.append(change_in_units(self.measured, whole, units))
             if self._inverse is not None:
                 before = self.measured.slice(whole.begin, whole.end)
                 self._inverse.append(Change(whole.begin, whole.begin + len(whole.new), before))
@@ -137,11 +130,6 @@ class SharedText:
         for transformer in open_ones:
             transformer.changed(ops[transformer.units])
 
-    def _in_units(self, whole: Change, units: Units) -> tuple[int, int, bytes]:
-        """A change of whole characters as editors that count in these units make it."""
-        begin, end = self.measured.position(whole.begin, units), self.measured.position(whole.end, units)
-        return begin, end, units.encode(readable(swapped(whole.new)))
-
     def _move(self, one: Change, names: list[Names] | None) -> None:
         """Moves all places along with a change that was made."""
         if one.new.endswith(LINE_END):
@@ -152,3 +140,21 @@ class SharedText:
             follow(one, names)
         for peer in self._peers:
             peer.moved(one)
+
+
+def changes_in(measured: Measured, op: Op, units: Units) -> list[Change]:
+    """The changes of an op of an editor in the bytes of a note's text, from the last one to the first."""
+    place = measured.place
+    try:
+        return [Change(place(begin, units), place(end, units), swapped(units.decode(data).encode()))
+                for begin, end, data in reversed(in_text(op, units))]
+    except OutsideText as why:
+        raise Wrong("outside", str(why)) from why
+    except Split as why:
+        raise Wrong("split", str(why)) from why
+
+
+def change_in_units(measured: Measured, whole: Change, units: Units) -> tuple[int, int, bytes]:
+    """A change of whole characters of a text as editors that count in these units make it."""
+    begin, end = measured.position(whole.begin, units), measured.position(whole.end, units)
+    return begin, end, units.encode(readable(swapped(whole.new)))

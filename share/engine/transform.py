@@ -39,6 +39,14 @@ class Transformer:
         # The last edit, and what the engine's text had then that the editor's hadn't.
         self._last: tuple[Op, Op] = NOTHING, NOTHING
 
+    @classmethod
+    def resumed(cls, units: Units, version: int, edits: int, op: Op) -> "Transformer":
+        """What an editor has that opens again: a version, with so many of its edits, and what it has yet to be sent."""
+        found = cls(units)
+        found.version, found.edits, found._had, found._since = version, edits, version, version
+        found.changed(op)
+        return found
+
     @property
     def is_void(self) -> bool:
         """Whether it isn't known what the editor shows, so that it has to be sent the text."""
@@ -129,7 +137,7 @@ class Transformer:
         be sent after it. Nothing has changed yet."""
         self.seen(version)
         pending = self._pending()
-        own = self._own(changes, length - growth(pending, self.units))
+        own = op_of(changes, length - growth(pending, self.units), self.units)
         self._last = own, pending
         return transformed(own, pending, self.units)
 
@@ -160,19 +168,20 @@ class Transformer:
             return NOTHING
         return all_composed([op for _, op in self._sent] + self._unsent, self.units)
 
-    def _own(self, changes: Sequence[tuple[int, int, str]], length: int) -> Op:
-        """The op of an editor's changes, given the length of its text in units."""
-        found = []
-        for begin, end, text in changes:
-            if not 0 <= begin <= end <= length:
-                raise Wrong("outside", f"From {begin} to {end} is no stretch of a text of {length} units.")
-            try:
-                data = self.units.encode(text)
-            except UnicodeEncodeError as why:
-                raise Wrong("split", "A text has half a surrogate pair.") from why
-            found.append((begin, end, data))
-            length += self.units.count(data) - (end - begin)
-        return of_change(*found[0]) if len(found) == 1 else of_changes(found, self.units)
+
+def op_of(changes: Sequence[tuple[int, int, str]], length: int, units: Units) -> Op:
+    """The op of an editor's changes, given the length of its text in units."""
+    found = []
+    for begin, end, text in changes:
+        if not 0 <= begin <= end <= length:
+            raise Wrong("outside", f"From {begin} to {end} is no stretch of a text of {length} units.")
+        try:
+            data = units.encode(text)
+        except UnicodeEncodeError as why:
+            raise Wrong("split", "A text has half a surrogate pair.") from why
+        found.append((begin, end, data))
+        length += units.count(data) - (end - begin)
+    return of_change(*found[0]) if len(found) == 1 else of_changes(found, units)
 
 
 def _size(op: Op) -> int:

@@ -45,8 +45,13 @@ def shown_by(site: Site) -> Shown:
 
 def differences(before: Shown, now: Shown) -> list[Change] | None:
     """What differs, each as a change of the text that those before it leave; None where that can't be told by names."""
+    return differences_by(before, now, _common_ends(before.messages, now.messages))
+
+
+def differences_by(before: Shown, now: Shown, kept: Callable[[int], float] = lambda site: math.inf) -> list[Change] | None:
+    """What differs, given up to which offset the names of a site mean the same in both."""
     changes, at, begin = list[Change](), 0, 0
-    same = _same(before.names, now.names, _common_ends(before.messages, now.messages))
+    same = _same(before.names, now.names, kept)
     for one in chain(same, [_Same(len(before.text), len(now.text), 0)]):
         if one.before < at or one.now < begin or len(changes) > MOST_DIFFERENCES:
             return None

@@ -6,6 +6,7 @@ from itertools import accumulate, chain, count
 
 from share.format.operation import RESTORE, Operation
 from share.program.site import Edited, Site, Told, one_by_one
+from share.text.line import Line
 from share.text.looks import Looked, Looks
 from share.text.names import Name, Names, united, without
 
@@ -32,21 +33,38 @@ class Step:
         """Both as one edit."""
         return Step(united(self.came + other.came), united(self.went + other.went), self.looked + other.looked, self.key, self.accepts)
 
+    def as_line(self) -> Line:
+        """What a journal has of it."""
+        return {name: value for name, value in (("came", self.came), ("went", self.went), ("looked", self.looked),
+                                                ("accepts", self.accepts)) if value}
+
+    @classmethod
+    def of_line(cls, line: Line) -> "Step":
+        """The step that a journal has."""
+        came, went = ([Names(*one) for one in line.get(name, ())] for name in ("came", "went"))
+        looked = [Looked(Names(*names), Looks(*was), Looks(*became)) for names, was, became in line.get("looked", ())]
+        site, at = line.get("accepts", (0, 0))
+        return cls(came, went, looked, accepts=(site, at) if site else None)
+
+
+def step_of(operations: Iterable[Operation]) -> Step:
+    """The step of an edit that has made these."""
+    came, went, meanwhile = list[Names](), list[Names](), list[Names]()
+    for one in operations:
+        (came if one.data else meanwhile if one.kind == RESTORE else went).extend(one.names)
+    # What was shown while something was typed behind it was hidden before.
+    return Step(united(came), without(united(went), united(meanwhile)) if went else [])
+
 
 class Undoing:
-    """The edits of one editor, since it opened the note."""
+    """The edits of one editor, since it opened the note first."""
 
     def __init__(self) -> None:
         self._done: list[Step] = []
         self._undone: list[Step] = []
 
-    def made(self, operations: Iterable[Operation], joins: bool) -> int:
+    def made(self, step: Step, joins: bool) -> int:
         """Notes an edit, perhaps as one with the edit before it; the key of its step."""
-        came, went, meanwhile = list[Names](), list[Names](), list[Names]()
-        for one in operations:
-            (came if one.data else meanwhile if one.kind == RESTORE else went).extend(one.names)
-        # What was shown while something was typed behind it was hidden before.
-        step = Step(united(came), without(united(went), united(meanwhile)) if went else [])
         if joins and self._done:
             step = self._done.pop().and_then(step)
         self.add(step)
@@ -66,12 +84,36 @@ class Undoing:
         stack = self._undone if redo else self._done
         return next((step for step in reversed(stack) if among is None or step.key in among), None)
 
+    def place(self, redo: bool, step: Step) -> int:
+        """Where a step stands among those that can be taken back, or done again."""
+        stack = self._undone if redo else self._done
+        return next(place for place, one in enumerate(stack) if one is step)
+
     def done(self, redo: bool, step: Step, changed: Step) -> None:
         """Says that this was done, and what that changed, as the edit which brings it about or is taken back so."""
-        stack = self._undone if redo else self._done
-        del stack[next(place for place, one in enumerate(stack) if one is step)]
+        self._done_at(redo, self.place(redo, step), changed)
+
+    def _done_at(self, redo: bool, place: int, changed: Step) -> None:
+        del (self._undone if redo else self._done)[place]
         if changed.does_something():
             (self._done if redo else self._undone).append(changed)
+
+    def as_line(self) -> Line:
+        """What a journal has of all of it."""
+        return {"all": [[one.as_line() for one in stack] for stack in (self._done, self._undone)]}
+
+    def does(self, line: Line) -> None:
+        """Does what a journal says that was done: something was made, added, taken back or done again, or forgotten, or this is all."""
+        if "all" in line:
+            self._done, self._undone = ([Step.of_line(one) for one in stack] for stack in line["all"])
+        elif "forgets" in line:
+            self.forget()
+        elif "made" in line:
+            self.made(Step.of_line(line["made"]), line["joins"])
+        elif "adds" in line:
+            self.add(Step.of_line(line["adds"]))
+        else:
+            self._done_at(line["redo"], line["place"], Step.of_line(line["changed"]))
 
 
 def do(site: Site, step: Step, redo: bool, told: list[Told], changed: Step) -> Edited:

@@ -4,7 +4,7 @@ from collections.abc import Callable, Sequence, Set
 from share.admission.ledger import Who
 from share.format.entry import Entry, Form
 from share.format.history import Messages
-from share.format.operation import TEXT
+from share.format.operation import TEXT, Operation
 from share.program.site import Edited, Site
 from share.store.note_file import About
 from share.store.seen import Look, Still, still_counting
@@ -97,6 +97,10 @@ class EditedNote:
     def messages(self, text: int = TEXT) -> Messages:
         """All messages of a text that count, each after its causes."""
         return self._holdings.judge.let_through_in_order(text)
+
+    def message(self, site: int, seq: int) -> Operation:
+        """A message of the first text that counts."""
+        return self._holdings.judge.message(site, seq)
 
     @property
     def identity(self) -> bytes:

@@ -1,0 +1,128 @@
+"""A file that outlives an engine: lines that say of each editor what the next engine has to know so that it can open again.
+
+Each line has a checksum and is appended by one write. It isn't synced: a process may end at any moment, and then the line is there. A
+file that is damaged, or of another note or version, is read as none, and says why.
+"""
+import json
+import os
+import pathlib
+import zlib
+from collections.abc import Iterable
+from contextlib import suppress
+
+from share.engine.protocol import ENCODER
+from share.text.line import Line
+
+JOURNAL_VERSION = 1
+# From this size on a journal is to be written again, with what is still needed.
+LONG_BYTES = 8 << 20
+CHECKSUM_DIGITS = 8
+
+
+class Unreadable(Exception):
+    """Why a journal says nothing, in words."""
+
+
+class Journal:
+    """The journal of a note's editors. The engine's thread alone calls it."""
+
+    def __init__(self, path: pathlib.Path, note: bytes):
+        self._path, self._note = path, note
+        self._file: int | None = None
+        self._size = 0
+        # From which size on it is to be written again.
+        self._long = LONG_BYTES
+
+    @property
+    def is_open(self) -> bool:
+        """Whether lines can be appended."""
+        return self._file is not None
+
+    @property
+    def is_long(self) -> bool:
+        """Whether it is to be written again with what is still needed."""
+        return self._size > self._long
+
+    def read(self) -> list[Line]:
+        """The lines without the first one; Unreadable if they can't be known."""
+        try:
+            data = self._path.read_bytes()
+        except FileNotFoundError:
+            return []
+        except OSError as why:
+            raise Unreadable(f"it can't be read ({why.strerror})") from why
+        if not data:
+            return []
+        if not data.endswith(b"\n"):
+            raise Unreadable("it was cut short")
+        first, *lines = map(_line_of, data[:-1].split(b"\n"))
+        if first.get("journal") != JOURNAL_VERSION:
+            raise Unreadable("another version of the engine wrote it")
+        return lines if first.get("note") == self._note.hex() else []
+
+    def begin(self, lines: Iterable[Line]) -> bool:
+        """Begins the journal again with these lines, in place of the old one; whether that could be done."""
+        self.stop()
+        data = b"".join(map(_serialized, [{"journal": JOURNAL_VERSION, "note": self._note.hex()}, *lines]))
+        fresh = self._path.with_name(f".{self._path.name}.{os.getpid()}")
+        try:
+            self._file = os.open(fresh, os.O_WRONLY | os.O_CREAT | os.O_TRUNC | os.O_APPEND | os.O_CLOEXEC, 0o600)
+            self._append(data)
+            os.replace(fresh, self._path)
+        except OSError:
+            self.give_up(fresh)
+            return False
+        self._size, self._long = len(data), max(LONG_BYTES, 2 * len(data))
+        return True
+
+    def add(self, lines: Iterable[Line]) -> bool:
+        """Appends lines, all or none of them; whether that could be done. If not there is no journal any more."""
+        if self._file is None:
+            return False
+        data = b"".join(map(_serialized, lines))
+        try:
+            self._append(data)
+        except OSError:
+            self.give_up(self._path)
+            return False
+        self._size += len(data)
+        return True
+
+    def _append(self, data: bytes) -> None:
+        assert self._file is not None
+        if os.write(self._file, data) != len(data):
+            raise OSError("The disk is full.")
+
+    def give_up(self, path: pathlib.Path) -> None:
+        """Takes away a file that doesn't say all, since it would say something wrong."""
+        self.stop()
+        for one in {path, self._path}:
+            try:
+                one.unlink(missing_ok=True)
+            except OSError:
+                # A line that isn't whole says that it is no journal.
+                with suppress(OSError):
+                    os.truncate(one, 0)
+
+    def stop(self) -> None:
+        """Closes the file, which stays."""
+        if self._file is not None:
+            os.close(self._file)
+            self._file = None
+
+    def delete(self) -> None:
+        """Takes the file away, which nobody needs any more."""
+        self.give_up(self._path)
+
+
+def _serialized(line: Line) -> bytes:
+    data = ENCODER.encode(line).encode("utf-8", "replace")
+    return b"%08x %s\n" % (zlib.crc32(data), data)
+
+
+def _line_of(line: bytes) -> Line:
+    checksum, data = line[:CHECKSUM_DIGITS], line[CHECKSUM_DIGITS + 1:]
+    if checksum != b"%08x" % zlib.crc32(data):
+        raise Unreadable("it is damaged")
+    found: Line = json.loads(data)
+    return found

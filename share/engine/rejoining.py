@@ -1,0 +1,178 @@
+"""An editor opens again whose engine ended, or that lost its line: which of its edits are there is found out, the others are carried over
+from the text that it shows to the text of now, and what it could take back it can take back again."""
+import hashlib
+from collections.abc import Sequence
+from typing import NamedTuple
+
+from share.admission.ledger import Branch
+from share.admission.lines import Path
+from share.engine import protocol
+from share.engine.arrivals import Arrivals
+from share.engine.editor import Peer
+from share.engine.edits import EditRequests
+from share.engine.named_text import NamedText
+from share.engine.protocol import Wrong
+from share.engine.remembered import EditChanges, SiteFront, InStep, Remembered
+from share.engine.remembering import Remembering
+from share.engine.shared_text import SharedText
+from share.engine.transform import Transformer
+from share.format.history import Messages, Part
+from share.program.difference import shown_by
+from share.program.replay import REPLAYING
+from share.program.site import Site
+from share.sync.session import Session
+from share.text.delta import NOTHING, Op
+from share.text.line import Line
+from share.text.units import Units
+
+# What may be otherwise when it is tried again; after any other error of an edit those after it aren't made.
+PASSING = ("number", "unkept", "failed")
+NOT_MADE = "Before the engine ended it couldn't make all that you typed. This is missing: {}"
+MOST_WORDS_TOLD = 200
+
+
+class Again(NamedTuple):
+    """What an editor shows that opens again: when it was last in step, its edits since, and the hash of the text with these."""
+
+    version: int
+    edits: int
+    made: list[EditChanges]
+    hash: str
+
+    @classmethod
+    def read(cls, request: Line) -> "Again":
+        """What a request says."""
+        line = request["again"]
+        if not isinstance(line, dict) or not isinstance(line.get("made"), list):
+            raise Wrong("field", "again has to have version, edits, hash and made, a list of lists of changes.")
+        made: list[EditChanges] = [protocol.replacements({"changes": one}) for one in line["made"]]
+        return cls(protocol.number(line, "version"), protocol.number(line, "edits"), made, protocol.string(line, "hash"))
+
+
+class Rejoining:
+    """The request `open` with `again`. The engine's thread alone calls it."""
+
+    def __init__(self, session: Session, text: SharedText, arrivals: Arrivals, edits: EditRequests, remembering: Remembering):
+        self._session, self._text, self._arrivals, self._edits, self._remembering = session, text, arrivals, edits, remembering
+
+    def open(self, peer: Peer, units: Units, again: Again) -> Line:
+        """Opens the note for an editor; what the answer has besides. After an error it isn't open."""
+        if self._arrivals.is_behind:
+            raise Wrong("failed", "What the editor shows can't be compared now.")
+        known = self._remembering.read().of.get(peer.editor)
+        step = known.steps.get((again.version, again.edits)) if known else None
+        has = known.has_up_to(again.edits) if known and step else None
+        if known:
+            peer.undoing = known.can_undo()
+        if known and step and has is not None and has <= again.edits + len(again.made):
+            pending = self._pending(units, again, known, step, has)
+            if pending is not None:
+                has = self._carried(peer, units, again, has, pending)
+                if has == again.edits + len(again.made):
+                    self._tell_what_was_not_made(peer, again, known)
+                    return {"has": has}
+        return self._not_carried(peer, units, again, known, has)
+
+    def _pending(self, units: Units, again: Again, known: Remembered, step: InStep, has: int) -> Op | None:
+        """What has to be done to the text that the editor shows with the edits that are there, so that it becomes the text of now; None
+        where it shows another one."""
+        made = [*step.made, *again.made]
+        before, after = made[:has - step.edits], made[has - step.edits:]
+        kept = [known.edits[number] for number in range(step.edits + 1, has + 1)]
+        front = self._remembering.read().front(step.front)
+        now = dict(front)
+        for one in (stretch for edit in kept for stretch in edit.at):
+            if now.get(one.site, 0) + 1 == one.first:
+                now[one.site] = one.last
+        if now == self._remembering.front() and _is_shown(NamedText(self._text.measured.as_note()), after, units, again.hash):
+            return NOTHING
+        text = self._replayed(front)
+        try:
+            for changes, edit in zip(before, kept):
+                text.edit(changes, units, edit.new)
+        except Wrong:
+            return None
+        if not _is_shown(NamedText(text.measured.as_note()), after, units, again.hash):
+            return None
+        return text.until(shown_by(self._session.site), units)
+
+    def _replayed(self, front: SiteFront) -> NamedText:
+        """The text as messages up to these of each site made it, with names."""
+        messages = messages_up_to(self._session.site.history, front)
+        site = Site(REPLAYING, messages)
+        try:
+            shown = shown_by(site)
+        finally:
+            site.close()
+        return NamedText(shown.text, shown.names)
+
+    def _carried(self, peer: Peer, units: Units, again: Again, has: int, pending: Op) -> int:
+        """Makes the edits that aren't there; the number of the last one that is there then."""
+        peer.transformer = Transformer.resumed(units, again.version, has, pending)
+        lines = [{"do": "edit", "version": again.version, "edits": again.edits + number, "changes": changes}
+                 for number, changes in enumerate(again.made, 1) if again.edits + number > has]
+        try:
+            has += self._made(peer, lines)
+        except BaseException:
+            peer.leave_text()
+            raise
+        if has == again.edits + len(again.made):
+            self._remembering.carried(peer, (again.version, again.edits), again.made)
+        return has
+
+    def _made(self, peer: Peer, lines: Sequence[Line]) -> int:
+        """Makes edits, up to one that is refused for good; how many were made."""
+        if lines and not self._session.can_type:
+            raise Wrong("number", self._arrivals.no_number)
+        waiting: list[bytes | None] = [protocol.serialize(line) for line in lines]
+        made = 0
+        while waiting:
+            for _, answer in self._edits.make(peer, protocol.parse(waiting.pop(0)), waiting):
+                if answer.get("error") in PASSING:
+                    raise Wrong(answer["error"], answer["words"])
+                if "error" in answer:
+                    return made
+                made += 1
+        return made
+
+    def _not_carried(self, peer: Peer, units: Units, again: Again, known: Remembered | None, has: int | None) -> Line:
+        """Has the editor show the text of now. Its version and edits are numbers that it has never had."""
+        version = max([again.version, *(version for version, _ in known.steps)] if known else [again.version]) + 1
+        edits = max([again.edits + len(again.made), *known.edits] if known else [again.edits + len(again.made)])
+        peer.transformer = Transformer.resumed(units, version, edits, NOTHING)
+        peer.in_step_at = None
+        self._remembering.in_step(peer)
+        if self._remembering.trouble:
+            peer.say(self._remembering.trouble)
+        return {"text": self._text.measured.text(), **({} if has is None else {"has": has})}
+
+    @staticmethod
+    def _tell_what_was_not_made(peer: Peer, again: Again, known: Remembered) -> None:
+        """Tells the words of edits that count and were refused, of which the answers may have been lost."""
+        words = "".join(text for number, changes in enumerate(again.made, again.edits + 1)
+                        if number in known.edits and not known.edits[number].is_whole for _, _, text in changes)
+        if words:
+            peer.say(NOT_MADE.format(words[:MOST_WORDS_TOLD]))
+
+
+def messages_up_to(history: Messages, front: SiteFront) -> Messages:
+    """The first messages of each site, this many, in the order of a history."""
+    found = Messages()
+    for holder, begin, end in history.parts():
+        if isinstance(holder, Branch | Path):
+            last = min(end, front.get(holder.site, 0))
+            if begin < last:
+                found.add(Part(holder, begin, last))
+        else:
+            found += [one for one in holder.between(begin, end) if one.seq <= front.get(one.site, 0)]
+    return found
+
+
+def _is_shown(text: NamedText, edits: Sequence[EditChanges], units: Units, wanted: str) -> bool:
+    """Whether a text with these edits has a hash."""
+    try:
+        for changes in edits:
+            text.edit(changes, units)
+    except Wrong:
+        return False
+    return hashlib.sha256(text.measured.text().encode()).hexdigest() == wanted

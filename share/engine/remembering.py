@@ -1,0 +1,214 @@
+"""What an engine notes of its editors for the next one, before anybody can know of it."""
+import zlib
+from collections.abc import Callable, Iterable, Iterator, Sequence
+
+from share.admission.ledger import Branch
+from share.admission.lines import Path
+from share.engine.editor import Peer
+from share.engine.journal import Journal, Unreadable
+from share.engine.remembered import Editors, KeptEdit, MadeMessages, SiteFront, front_differing
+from share.format.history import Messages
+from share.format.operation import Operation
+from share.program.site import Site
+from share.sync.session import Session
+from share.text.line import Line
+from share.text.names import Names
+
+
+class HistoryFront:
+    """How many messages of each site the text is made of. The engine's thread alone calls it."""
+
+    def __init__(self) -> None:
+        self._site: Site | None = None
+        self._length = 0
+        self._front: SiteFront = {}
+        # What was told last.
+        self.told: SiteFront = {}
+
+    def now(self, site: Site) -> SiteFront:
+        """How many there are now."""
+        if site is not self._site or len(site.history) < self._length:
+            self._site, self._length, self._front = site, 0, {}
+        if len(site.history) > self._length:
+            self._front = dict(self._front)
+            for of, seq in _last_of_each(site.history[self._length:]):
+                self._front[of] = max(self._front.get(of, 0), seq)
+        self._length = len(site.history)
+        return self._front
+
+    def more(self, site: Site) -> list[tuple[int, int]]:
+        """What there is otherwise than was told last, which counts as told then."""
+        before, self.told = self.told, self.now(site)
+        return [] if before is self.told else [*front_differing(before, self.told).items()]
+
+
+class Remembering:
+    """Writes a note's journal. The engine's thread alone calls it. An editor that gave itself no name isn't remembered."""
+
+    def __init__(self, session: Session, peers: Sequence[Peer], journal: Journal | None):
+        self._session, self._peers, self._journal = session, peers, journal
+        self._fronts = HistoryFront()
+        # What was made and isn't written yet.
+        self._gathered: list[Line] = []
+        # Why what was noted before this engine isn't known, if so.
+        self.trouble = ""
+        # Whether the text isn't what the site has, so that nobody is in step.
+        self.is_behind: Callable[[], bool] = lambda: False
+        if journal:
+            self._begin(journal)
+
+    def _begin(self, journal: Journal) -> None:
+        """Decides at once what is there of what the last engine was making: its numbers may be used again from here on."""
+        editors = self.read()
+        editors.settle(self._is_kept)
+        front = self._fronts.now(self._session.site)
+        if editors.of:
+            journal.begin(editors.lines(front))
+            self._fronts.told = front
+
+    def front(self) -> SiteFront:
+        """How many messages of each site the text is made of now."""
+        return self._fronts.now(self._session.site)
+
+    def read(self) -> Editors:
+        """What is noted of editors."""
+        try:
+            return Editors(self._journal.read() if self._journal else ())
+        except Unreadable as why:
+            self.trouble = f"What was noted of this editor isn't known, since {why}."
+        except (KeyError, ValueError, TypeError, IndexError, StopIteration) as why:
+            self.trouble = f"What was noted of this editor isn't known, since it is no journal ({why})."
+        return Editors()
+
+    def _is_kept(self, one: MadeMessages) -> bool:
+        """Whether messages are in the note's file, and are these."""
+        site = self._session.site
+        if self._fronts.now(site).get(one.site, 0) < one.last:
+            return False
+        return one.checksum == checksum(self._session.message(one.site, seq) for seq in range(one.first, one.last + 1))
+
+    def edit(self, peer: Peer, made: Sequence[Sequence[Operation]] = (), undo: Line | None = None, is_whole: bool = True) -> None:
+        """Gathers what an editor's last edit made, change by change from the last one to the first."""
+        if peer.editor:
+            new = [names for parts in reversed(made) for one in parts if (names := one.new)]
+            edit = KeptEdit(_as_made([one for parts in made for one in parts]), _joined_names(new), is_whole)
+            self._gathered.append(edit.as_line(peer.editor, peer.transformer.edits) | ({"undo": undo} if undo else {}))
+
+    def by_name(self, peer: Peer, messages: Sequence[Operation], undo: Line) -> None:
+        """Gathers what is made by names for an editor."""
+        if peer.editor:
+            self._gathered.append({"of": peer.editor, "at": _as_made(messages), "undo": undo})
+
+    def write(self) -> None:
+        """Writes what was gathered, before it is kept."""
+        lines, self._gathered = self._gathered, []
+        if lines:
+            self._add(lines)
+
+    def forget_gathered(self) -> None:
+        """Forgets what was gathered, since it wasn't made."""
+        self._gathered.clear()
+
+    def unkept(self, messages: Sequence[Operation]) -> None:
+        """Notes that messages weren't kept, so that others may be called the same."""
+        self.forget_gathered()
+        if messages:
+            self._add([{"unkept": [messages[0].site, messages[0].seq]}])
+
+    def forgets(self, peer: Peer) -> None:
+        """Notes that an editor can take nothing back."""
+        peer.undoing.forget()
+        if peer.editor:
+            self._add([{"of": peer.editor, "undo": {"forgets": True}}])
+
+    def comes(self, peer: Peer) -> None:
+        """Notes that an editor has opened the note, of which nothing that was before counts."""
+        if peer.editor:
+            self._add([{"of": peer.editor, "gone": True}])
+            self.in_step(peer)
+
+    def in_step(self, peer: Peer) -> None:
+        """Notes that an editor that takes over what it is sent now shows the text as it is."""
+        at = peer.transformer.version, peer.transformer.edits
+        if peer.editor and at != peer.in_step_at and not self.is_behind():
+            peer.in_step_at = at
+            more = self._fronts.more(self._session.site)
+            self._add([{"of": peer.editor, "step": at, **({"front": more} if more else {})}])
+
+    def carried(self, peer: Peer, before: tuple[int, int], made: object) -> None:
+        """Notes that an editor shows what it showed before, with these of its edits, and nothing that came since."""
+        if not peer.transformer.has_news():
+            self.in_step(peer)
+        elif peer.editor:
+            peer.in_step_at = at = peer.transformer.version, peer.transformer.edits
+            self._add([{"of": peer.editor, "step": at, "as": before, "made": made}])
+
+    def gone(self, editor: str) -> None:
+        """Forgets an editor."""
+        if self._journal and self._journal.is_open:
+            self._add([{"of": editor, "gone": True}])
+
+    def _add(self, lines: list[Line]) -> None:
+        """Writes lines; where there is no journal it is begun first, with what is known."""
+        journal = self._journal
+        if not journal:
+            return
+        if not journal.is_open and not self._begins_again(journal):
+            return
+        if not journal.add(lines):
+            # Nothing that is known is of use to an editor any more, but from its next step on.
+            self._fronts.told = {}
+            for peer in self._peers:
+                peer.in_step_at = None
+        elif journal.is_long:
+            journal.begin(self.read().lines(self._fronts.told))
+
+    def _begins_again(self, journal: Journal) -> bool:
+        now = self._fronts.now(self._session.site)
+        undo: Iterable[Line] = ({"of": peer.editor, "undo": peer.undoing.as_line()} for peer in self._peers if peer.editor)
+        if not journal.begin([{"front": [*now.items()]}, *undo]):
+            return False
+        self._fronts.told = now
+        return True
+
+    def close(self) -> None:
+        """Ends; the journal stays as long as an editor may come again."""
+        if self._journal:
+            if self.read().of:
+                self._journal.stop()
+            else:
+                self._journal.delete()
+
+
+def _last_of_each(messages: Messages) -> Iterator[tuple[int, int]]:
+    """The sites of messages in a row, and the last one of each part that they have."""
+    for holder, begin, end in messages.parts():
+        if isinstance(holder, Branch | Path):
+            yield holder.site, end
+        else:
+            yield from ((one.site, one.seq + one.size - 1) for one in holder.between(begin, end))
+
+
+def checksum(messages: Iterable[Operation]) -> int:
+    """What tells messages from others of the same numbers."""
+    return zlib.crc32(b"".join(spelling for one in messages for spelling in one.spellings()))
+
+
+def _as_made(messages: Sequence[Operation]) -> list[MadeMessages]:
+    """Messages of one site that follow one another, as one stretch."""
+    if not messages:
+        return []
+    last = messages[-1]
+    return [MadeMessages(last.site, messages[0].seq, last.seq + last.size - 1, checksum(messages))]
+
+
+def _joined_names(names: Iterable[Names]) -> list[Names]:
+    """Names in their order, those that go on with one another in one."""
+    found: list[Names] = []
+    for one in names:
+        last = found[-1] if found else None
+        if last and (last.site, last.at + last.length) == (one.site, one.at):
+            found[-1] = last._replace(length=last.length + one.length)
+        else:
+            found.append(one)
+    return found
