@@ -252,20 +252,21 @@ They come in where they were typed."
 ;;;; A note is closed while there is no engine
 
 (defun vialshoal-again--wait ()
-  "Wait a moment for the engine, if it is away."
+  "Wait a moment until the engine has all, or the next one if it ended."
   (let ((end (+ (vialshoal--now) vialshoal-again--patience)))
-    (while (and vialshoal--is-away (< (vialshoal--now) end))
+    (while (and (< vialshoal--answered vialshoal--made)
+                (or vialshoal--is-away (process-live-p vialshoal--process))
+                (< (vialshoal--now) end))
       (vialshoal-again--start (current-buffer))
-      (accept-process-output vialshoal--process 0.05)))
-  (not vialshoal--is-away))
+      (accept-process-output vialshoal--process 0.05))))
 
 (defun vialshoal-again--has-all ()
   "Say whether an engine has all that was typed here, or will have it."
   (or (not (vialshoal--takes-keys))
       (progn (vialshoal--flush)
-             (not (and vialshoal--is-away
-                       (< vialshoal--answered vialshoal--made))))
-      (vialshoal-again--wait)))
+             (vialshoal-again--wait)
+             (or (= vialshoal--answered vialshoal--made)
+                 (not vialshoal--is-away)))))
 
 (defun vialshoal-again--may-close ()
   "Ask whether the note may be closed, if something would be lost."

@@ -22,7 +22,7 @@ local MOST_NAME = 64
 local STEADY_SECONDS = 2
 -- Neovim's end waits so long at most for an engine that has to read yet, as on a busy machine.
 local END_MILLISECONDS = 10000
--- Who closes a note whose engine ended waits so long at most for the next one.
+-- Who closes a note waits so long at most until its engine, or the next one if it ended, has all that was typed.
 local AWAY_MILLISECONDS = 5000
 -- So often it is looked whether a command still holds places for which lines wait.
 local AGAIN_MILLISECONDS = 50
@@ -452,16 +452,14 @@ function M.open(name, log, link, makes)
   api.nvim_set_current_buf(buffer)
 end
 
---- Waits for the engine of a note that is away, and keeps the text beside if none comes.
+--- Waits until the engine of a note, which may have ended, has all that was typed. Keeps the text beside if there is none.
 local function wait_for_engine(note)
+  local function has_all() return note.made == note.answered end
   if api.nvim_buf_is_loaded(note.buffer) and not note.applies then
     note:flush()
-    if note.made == note.answered then
-      return
-    end
-    vim.wait(AWAY_MILLISECONDS, function() return not note.is_away end)
+    vim.wait(AWAY_MILLISECONDS, has_all)
   end
-  if note.is_away and note.made ~= note.answered then
+  if note.is_away and not has_all() then
     beside(text.join(note.lines, note.has_end))
   end
 end
@@ -472,7 +470,7 @@ function M.close(buffer)
   if not note or note.is_waiting then
     return
   end
-  if note.is_away then
+  if note:takes_keys() then
     note.is_waiting = true
     wait_for_engine(note)
   end
