@@ -17,6 +17,8 @@
 ;; looked, `M-x vialshoal-remark' and `M-x vialshoal-suggest' begin a review.
 ;;
 ;; All is kept as it is typed.  The mode line says whether others have it.
+;; If the engine ends, type on: it is started again, and gets what it lacks.
+;; `M-x vialshoal-put-back' types words again that the note didn't take.
 ;;
 ;; While a command that asks holds places, as `M-%' does, others' text waits.
 ;; Bookmarks, desktops and, as "/vialshoal:NAME", recent files open notes again.
