@@ -17,6 +17,8 @@
 ;; looked, `M-x vialshoal-remark' and `M-x vialshoal-suggest' begin a review.
 ;;
 ;; All is kept as it is typed.  The mode line says whether others have it.
+;; If the engine ends, type on: it is started again, and gets what it lacks.
+;; `M-x vialshoal-put-back' types words again that the note didn't take.
 ;;
 ;; While a command that asks holds places, as `M-%' does, others' text waits.
 ;; Bookmarks, desktops and, as "/vialshoal:NAME", recent files open notes again.
@@ -89,6 +91,11 @@ Another major mode leaves it."
 An engine that is started again has to find the same note.")
 (vialshoal--defvar vialshoal--is-open nil
   "Whether the engine has opened the note.")
+(vialshoal--defvar vialshoal--is-away nil
+  "Whether the engine ended that had the note open, and none has opened it again.
+The user types on meanwhile.")
+(vialshoal--defvar vialshoal--editor nil
+  "The name by which engines know this editor again.")
 (vialshoal--defvar vialshoal--begun 0
   "When the engine was started.")
 (vialshoal--defvar vialshoal--version 0
@@ -97,6 +104,14 @@ An engine that is started again has to find the same note.")
   "How many edits were made here.")
 (vialshoal--defvar vialshoal--answered 0
   "How many of them the engine has answered.")
+(vialshoal--defvar vialshoal--sent 0
+  "How many of them were sent to this engine, or carried over to it.")
+(vialshoal--defvar vialshoal--step '(0 . 0)
+  "The version and the edits at which the editor was last in step.
+It had exactly the engine's text then.")
+(vialshoal--defvar vialshoal--edits nil
+  "The edits made since then, and those that aren't answered; the last first.
+Each is its number, a list of changes, how it joins, and a marker.")
 (vialshoal--defvar vialshoal--since nil
   "Since when not all of them are answered.")
 (vialshoal--defvar vialshoal--mirror nil
@@ -125,7 +140,8 @@ are made with no hook called.")
 (vialshoal--defvar vialshoal--asked 0
   "How many requests had a number.")
 (vialshoal--defvar vialshoal--waiting nil
-  "What is to be done with the answers: an alist by the requests' numbers.")
+  "What is to be done with the answers, by the requests' numbers.
+Each is a list of the number, the function to call, and the request.")
 (vialshoal--defvar vialshoal--cursors nil
   "Others' cursors.")
 (vialshoal--defvar vialshoal--overlays nil
@@ -179,6 +195,9 @@ holds places is one edit.")
 (defconst vialshoal--most-text 1000000
   "An edit has so many characters at most, so that its line isn't too long.")
 
+(defconst vialshoal--steady-seconds 2
+  "An engine that ran for so long is started again at once when it ends.")
+
 (defmacro vialshoal--in-note (&rest body)
   "Run BODY in the note's buffer, where this one is an indirect one of it.
 An indirect buffer has copies of all variables, which go stale."
@@ -226,6 +245,11 @@ no edit of the user's: the region stays, and undo knows nothing of it."
   (setq vialshoal--words words)
   (message "%s" words))
 
+(defun vialshoal--say-once (words)
+  "Show WORDS in the echo area, unless they were said last."
+  (unless (equal words vialshoal--words)
+    (vialshoal--say words)))
+
 (defun vialshoal--shown-colour (colour)
   "Return COLOUR where it is one, and else that of text."
   (if (and (stringp colour)
@@ -247,11 +271,14 @@ no edit of the user's: the region stays, and undo knows nothing of it."
 (defun vialshoal--ask (then &rest line)
   "Send the engine LINE, and call THEN with its answer."
   (vialshoal--in-note
-    (unless vialshoal--is-open
-      (user-error "This note isn't open"))
+    (cond (vialshoal--is-away
+           (user-error "%s" (concat "This was not done, because the engine is "
+                                    "being started again.  Nothing is lost; "
+                                    "repeat it in a moment")))
+          ((not vialshoal--is-open) (user-error "This note isn't open")))
     (vialshoal--flush)
     (cl-incf vialshoal--asked)
-    (push (cons vialshoal--asked then) vialshoal--waiting)
+    (push (list vialshoal--asked then (plist-get line :do)) vialshoal--waiting)
     (apply #'vialshoal--send :id vialshoal--asked line)))
 
 (defun vialshoal--read (line)
@@ -323,10 +350,13 @@ while a command holds places as numbers."
     (vialshoal--tell-version)))
 
 (defun vialshoal--take-ahead (line)
-  "Take in LINE ahead of those that wait, if it answers an edit.
-So what a command does is sent, and kept, while it goes on."
+  "Take in LINE ahead of those that wait, if the text stays as it is by it.
+It answers an edit, or an opening to which edits were carried over.  So
+what a command does is sent, and kept, while it goes on."
   (let ((line (ignore-errors (vialshoal--read line))))
-    (when (and (equal (plist-get line :answer) "edit")
+    (when (and (or (equal (plist-get line :answer) "edit")
+                   (and (equal (plist-get line :answer) "open")
+                        (not (plist-member line :text))))
                (not (plist-get line :error)))
       (vialshoal--take-answer line)
       t)))
@@ -359,21 +389,35 @@ From then on it keeps what is needed to carry edits over from there."
   "Take in the answer LINE."
   (let ((edits (and (equal (plist-get line :answer) "edit")
                     (plist-get line :edits)))
-        (then (alist-get (plist-get line :id) vialshoal--waiting)))
+        (then (car (alist-get (plist-get line :id) vialshoal--waiting))))
     (when (plist-get line :error)
-      (vialshoal--say (concat (plist-get line :words)
-                              (vialshoal--beside-words)))
-      (unless (or (plist-get line :edits) (plist-get line :id))
-        (vialshoal--send :do "text" :edits vialshoal--made)))
+      (vialshoal--take-error line edits))
     (when edits
-      (setq vialshoal--answered edits)
-      (unless (plist-get line :error)
-        (setq vialshoal--beside nil))
-      (when (= edits vialshoal--made)
-        (restore-buffer-modified-p nil)))
+      (vialshoal--take-answered line edits))
     (when then
       (setf (alist-get (plist-get line :id) vialshoal--waiting nil t) nil)
       (funcall then line))))
+
+(defun vialshoal--take-error (line edits)
+  "Tell the error of LINE; if it is to EDITS, keep the words of these."
+  (let ((words (plist-get line :words)))
+    (if edits
+        (vialshoal-again--refused words edits)
+      (vialshoal--say-once (concat words (vialshoal--beside-words))))
+    (unless (or (plist-get line :edits) (plist-get line :id))
+      (vialshoal--send :do "text" :edits vialshoal--made))))
+
+(defun vialshoal--take-answered (line edits)
+  "Note that LINE answers all edits up to EDITS."
+  (setq vialshoal--answered edits)
+  (unless (plist-get line :error)
+    (setq vialshoal--beside nil)
+    (when (and (= edits vialshoal--made)
+               (eql (plist-get line :version) vialshoal--version))
+      (setq vialshoal--step (cons vialshoal--version edits))))
+  (vialshoal--forget-edits)
+  (when (= edits vialshoal--made)
+    (restore-buffer-modified-p nil)))
 
 ;;;; Edits
 
@@ -381,7 +425,7 @@ From then on it keeps what is needed to carry edits over from there."
   "Gather a change: LENGTH characters gave way to those from BEG to END."
   (vialshoal--in-note
     (unless (or (eq vialshoal--applying (current-buffer))
-                (not vialshoal--is-open))
+                (not (vialshoal--takes-keys)))
       (unless vialshoal--diverts
         (save-restriction
           (widen)
@@ -567,24 +611,52 @@ Then it is sent with what follows, before the next line is looked at."
              vialshoal--most-unanswered)
       (vialshoal--flush))))
 
+(defun vialshoal--takes-keys ()
+  "Say whether what the user types counts as edits of the note."
+  (or vialshoal--is-open vialshoal--is-away))
+
 (defun vialshoal--flush ()
-  "Send what was gathered, as one edit; in parts where that is much."
-  (when (and vialshoal--is-open (not vialshoal--is-lost))
+  "Send what was gathered, as one edit; in parts where that is much.
+While there is no engine it is numbered, and sent later."
+  (when (and (vialshoal--takes-keys) (not vialshoal--is-lost))
     (vialshoal--find-changes)
     (when vialshoal--changes
-      (let ((edits (vialshoal--in-edits (nreverse vialshoal--changes)))
-            (made vialshoal--made))
+      (let ((edits (vialshoal--in-edits (nreverse vialshoal--changes))))
         (when (= vialshoal--answered vialshoal--made)
           (setq vialshoal--since (vialshoal--now)))
         ;; All count before the first is sent: while it is, lines can come.
         (setq vialshoal--changes nil
-              vialshoal--unseen 0
-              vialshoal--made (+ made (length edits)))
+              vialshoal--unseen 0)
         (dolist (edit edits)
-          (vialshoal--send-edit (cl-incf made) edit
-                                (if (eq edit (car edits)) vialshoal--joins t)))
+          (vialshoal--number edit (if (eq edit (car edits)) vialshoal--joins t)))
         (when vialshoal--joins
-          (setq vialshoal--joins t))))))
+          (setq vialshoal--joins t))
+        (vialshoal--send-edits)))))
+
+(defun vialshoal--number (edit joins)
+  "Give EDIT, a list, the next number, and keep it.
+By JOINS, which has the values of `vialshoal--joins', it is undone with
+the one before or not."
+  (push (list (cl-incf vialshoal--made) edit joins
+              (copy-marker (min (1+ (aref (car edit) 0)) (1+ (buffer-size)))))
+        vialshoal--edits))
+
+(defun vialshoal--send-edits ()
+  "Send the edits that this engine hasn't, in the order of their numbers."
+  (while (and vialshoal--is-open (< vialshoal--sent vialshoal--made))
+    (pcase-let ((`(,number ,edit ,joins)
+                 (assq (cl-incf vialshoal--sent) vialshoal--edits)))
+      (vialshoal--send-edit number edit joins))))
+
+(defun vialshoal--forget-edits ()
+  "Forget the edits that are answered and came before the last step."
+  (let ((most (min vialshoal--answered (cdr vialshoal--step))))
+    (setq vialshoal--edits
+          (cl-delete-if (lambda (edit)
+                          (when (<= (car edit) most)
+                            (set-marker (nth 3 edit) nil)
+                            t))
+                        vialshoal--edits))))
 
 (defun vialshoal--in-edits (list)
   "Split LIST into lists that are an edit each.
@@ -601,9 +673,7 @@ Positions make lines long, too, where there are many changes."
     (nreverse (cons (nreverse edit) edits))))
 
 (defun vialshoal--send-edit (number edit joins)
-  "Send EDIT, a list, as that of this NUMBER.
-Whether it is undone with the one before is what JOINS says, which has
-the values of `vialshoal--joins'."
+  "Send EDIT, a list, as that of this NUMBER, with JOINS."
   (apply #'vialshoal--send :do "edit" :version vialshoal--version
          :edits number :changes (vconcat edit)
          (pcase joins
@@ -634,7 +704,8 @@ the values of `vialshoal--joins'."
 (defun vialshoal--is-behind ()
   "Say whether lines are to be read before a key is taken.
 Half a second without all edits answered is how a macro types."
-  (and (< vialshoal--answered vialshoal--made)
+  (and vialshoal--is-open
+       (< vialshoal--answered vialshoal--made)
        (> (vialshoal--now) (+ vialshoal--since 0.5))))
 
 (defun vialshoal--catch-up ()
@@ -684,9 +755,9 @@ Half a second without all edits answered is how a macro types."
   "Commands that look for places, ask, and change what is at the numbers.")
 
 (defun vialshoal--hold (command &rest arguments)
-  "Call COMMAND with ARGUMENTS; what others type comes in after it.
-The engine carries over what the command did, as all that was typed
-before others' text came in."
+  "Call COMMAND with ARGUMENTS, and apply what others typed after it.
+The engine transforms the command's edits over that, as all edits that
+were made before others' text was applied."
   (let ((buffer (vialshoal--in-note (and vialshoal--note (current-buffer)))))
     (if (not buffer)
         (apply command arguments)
@@ -696,7 +767,8 @@ before others' text came in."
         (vialshoal--let-go buffer)))))
 
 (defun vialshoal--begin-hold (buffer)
-  "Have lines that come to BUFFER wait for a command, which is one edit."
+  "Leave the lines that arrive in BUFFER unread until a command has ended.
+All changes that the command makes are undone together."
   (with-current-buffer buffer
     (when (zerop vialshoal--holds)
       (vialshoal--flush)
@@ -705,13 +777,14 @@ before others' text came in."
     (cl-incf vialshoal--holds)))
 
 (defun vialshoal--let-go (buffer)
-  "Have lines come in to BUFFER that waited for a command."
+  "Read the lines that arrived in BUFFER while a command was at work.
+If another command is still at work, they stay unread."
   (when (buffer-live-p buffer)
     (with-current-buffer buffer
       (setq vialshoal--holds (max 0 (1- vialshoal--holds)))
       (when (zerop vialshoal--holds)
         (vialshoal--flush)
-        ;; Evil's commands say themselves what is undone together.
+        ;; Under Evil the hooks of commands set `vialshoal--joins'.
         (unless (bound-and-true-p evil-local-mode)
           (setq vialshoal--joins nil))
         (vialshoal--take-lines)))))
@@ -779,7 +852,9 @@ Where a region isn't shown as one, every command may work on it."
   (if (plist-member line :text)
       (vialshoal--become (plist-get line :text))
     (vialshoal--change (plist-get line :changes)))
-  (setq vialshoal--is-lost nil)
+  (setq vialshoal--is-lost nil
+        vialshoal--step (cons vialshoal--version vialshoal--made))
+  (vialshoal--forget-edits)
   (when-let ((cursor (plist-get line :cursor)))
     (vialshoal--go-to (1+ cursor)))
   (cl-incf vialshoal--unseen)
@@ -948,12 +1023,14 @@ its text."
     (pre-command-hook . vialshoal--pre-command)
     (post-command-hook . vialshoal--post-command)
     (after-change-major-mode-hook . vialshoal--guard)
+    (kill-buffer-query-functions . vialshoal-again--may-close)
     (kill-buffer-hook . vialshoal--close))
   "The hooks of a note's buffer.")
 
 (defun vialshoal--set-up ()
   "Have this buffer be a note."
   (add-hook 'kill-emacs-hook #'vialshoal--close-all)
+  (add-hook 'kill-emacs-query-functions #'vialshoal-again--may-close-all)
   (add-hook 'clone-indirect-buffer-hook #'vialshoal--cloned)
   (add-hook 'minibuffer-setup-hook #'vialshoal--hold-region)
   (dolist (command vialshoal--holding)
@@ -1008,7 +1085,8 @@ What is typed there is sent by the note's own buffer."
 (defun vialshoal--state-words ()
   "Return how the note is, in words."
   (let ((of (plist-get vialshoal--state :of)))
-    (cond ((not (process-live-p vialshoal--process)) "closed")
+    (cond (vialshoal--is-away "engine ended, all is kept here")
+          ((not (process-live-p vialshoal--process)) "closed")
           (vialshoal--is-open (vialshoal--log-words))
           (of (format "opening %s of %s" (plist-get vialshoal--state :done) of))
           (t "opening"))))
@@ -1117,19 +1195,32 @@ that isn't here, the user is asked, if ASKS is non-nil."
   "Start the engine, with LOG and LINK if any, and have it open the note.
 If ASKS is non-nil, it makes no note that isn't here."
   (vialshoal--forget)
-  (setq buffer-read-only t
-        vialshoal--begun (vialshoal--now)
+  (unless vialshoal--is-away
+    (setq buffer-read-only t
+          vialshoal--state nil
+          vialshoal--editor (vialshoal--new-editor)))
+  (setq vialshoal--begun (vialshoal--now)
         vialshoal--process (vialshoal--make-process log link))
   (vialshoal--send-open asks))
 
+(defun vialshoal--new-editor ()
+  "Return a name that no other editor has."
+  (substring (secure-hash 'sha256 (format "%S" (list (system-name) (emacs-pid)
+                                                     (buffer-name) (random)
+                                                     (current-time))))
+             0 32))
+
 (defun vialshoal--send-open (asks)
-  "Have the engine open the note; if ASKS is non-nil, only one that is here."
+  "Have the engine open the note; if ASKS is non-nil, only one that is here.
+It is told what it has to carry over from an engine that has ended."
+  (setq vialshoal--waiting (list (list 0 #'vialshoal--opened "open")))
   (apply #'vialshoal--send :id 0 :do "open" :protocol 1 :units ["utf-32"]
          :name (vialshoal--shown-name vialshoal-name)
          (append (and vialshoal-colour (list :colour vialshoal-colour))
                  (and vialshoal-shows-remarks '(:remarks t))
-                 (and asks (list :new :false))))
-  (setq vialshoal--waiting (list (cons 0 #'vialshoal--opened))))
+                 (and asks (list :new :false))
+                 (list :editor vialshoal--editor)
+                 (vialshoal-again--to-carry-over))))
 
 (defun vialshoal--ask-for-new (buffer)
   "Ask whether the note of BUFFER, which isn't here, is to be made."
@@ -1143,12 +1234,7 @@ If ASKS is non-nil, it makes no note that isn't here."
 (defun vialshoal--forget ()
   "Forget all that an engine said."
   (setq vialshoal--is-open nil
-        vialshoal--version 0
-        vialshoal--made 0
-        vialshoal--answered 0
-        vialshoal--asked 0
         vialshoal--waiting nil
-        vialshoal--state nil
         vialshoal--remarks nil
         vialshoal--place nil
         vialshoal--piece nil
@@ -1191,7 +1277,12 @@ If ASKS is non-nil, it makes no note that isn't here."
 (defun vialshoal--opened (line)
   "Take in LINE, the answer to `open'."
   (pcase (plist-get line :error)
-    ('nil (vialshoal--fill line))
+    ('nil (if vialshoal--is-away
+              (vialshoal-again--opened line)
+            (vialshoal--fill line)))
+    ((guard vialshoal--is-away)
+     (vialshoal--part)
+     (vialshoal-again--start-later))
     ;; Not within the filter, which may run while the user types.
     ("absent" (run-at-time 0 nil #'vialshoal--ask-for-new (current-buffer)))
     (_ (vialshoal--part))))
@@ -1206,11 +1297,15 @@ If ASKS is non-nil, it makes no note that isn't here."
   (setq vialshoal--version (plist-get line :version)
         vialshoal--made (plist-get line :edits)
         vialshoal--answered vialshoal--made
+        vialshoal--sent vialshoal--made
+        vialshoal--step (cons vialshoal--version vialshoal--made)
         vialshoal--is-lost nil
         vialshoal--changes nil)
+  (vialshoal--forget-edits)
   (vialshoal--become (plist-get line :text))
   (restore-buffer-modified-p nil)
   (setq vialshoal--tick (buffer-chars-modified-tick)
+        vialshoal--is-away nil
         vialshoal--is-open t)
   (when vialshoal--wanted-place
     (vialshoal--go-to (min vialshoal--wanted-place (point-max)))
@@ -1218,29 +1313,25 @@ If ASKS is non-nil, it makes no note that isn't here."
   (force-mode-line-update))
 
 (defun vialshoal--sentinel (process _event)
-  "Start the engine anew where PROCESS has ended unasked."
+  "Start the engine again if PROCESS has ended unasked."
   (let ((buffer (process-get process 'vialshoal-buffer)))
     (when (and (buffer-live-p buffer) (not (process-live-p process)))
       (with-current-buffer buffer
         (when (eq process vialshoal--process)
-          (vialshoal--ended))))
+          (vialshoal--ended (vialshoal--last-error)))))
     (let ((errors (process-get process 'vialshoal-errors)))
       (when (and (buffer-live-p errors) (not (process-live-p process)))
         (kill-buffer errors)))))
 
-(defun vialshoal--ended ()
-  "Start the engine anew, unless it hadn't opened the note for long."
-  (let ((words (vialshoal--last-error)))
+(defun vialshoal--ended (words)
+  "Have the user type on though the engine ended, which said WORDS.
+If it never had the note open, there is nothing to type into."
+  (vialshoal--show-cursors nil)
+  (if (vialshoal--takes-keys)
+      (vialshoal-again--ended words)
     (setq buffer-read-only t)
-    (vialshoal--show-cursors nil)
-    (force-mode-line-update)
-    (if (not (and vialshoal--is-open
-                  (> (vialshoal--now) (+ vialshoal--begun 2))))
-        (vialshoal--say (format "The note isn't open any more.  %s"
-                                (or words "")))
-      (vialshoal--say (format "The engine has ended, and is started anew.  %s"
-                              (or words "")))
-      (vialshoal--start))))
+    (vialshoal--say (format "The note isn't open any more.  %s" (or words ""))))
+  (force-mode-line-update))
 
 (defun vialshoal--last-error ()
   "Return the last line that the engine wrote of its own trouble."
@@ -1267,9 +1358,10 @@ If ASKS is non-nil, it makes no note that isn't here."
   "Close the note, with all sent that was typed.
 An indirect buffer has the note go on."
   (when (and vialshoal--note (not (buffer-base-buffer)))
-    (when vialshoal--is-open
+    (when (vialshoal--takes-keys)
       (vialshoal--flush))
     (run-hooks 'vialshoal--close-hook)
+    (vialshoal-again--close)
     (vialshoal--part)
     (vialshoal--forget)
     (when vialshoal--timer
@@ -1685,6 +1777,12 @@ If there is one, ask before it is replaced, unless REPLACES."
 (when load-file-name
   (add-to-list 'load-path (file-name-directory load-file-name)))
 (autoload 'vialshoal-review--noticed "vialshoal-review")
+(dolist (function '(vialshoal-again--close vialshoal-again--ended
+                    vialshoal-again--may-close vialshoal-again--may-close-all
+                    vialshoal-again--opened vialshoal-again--refused
+                    vialshoal-again--start-later
+                    vialshoal-again--to-carry-over))
+  (autoload function "vialshoal-again"))
 (dolist (function '(vialshoal-evil--set-up vialshoal-evil--pre-command
                     vialshoal-evil--post-command vialshoal-evil--changed))
   (autoload function "vialshoal-evil"))
@@ -1696,6 +1794,7 @@ If there is one, ask before it is replaced, unless REPLACES."
                   vialshoal-revise vialshoal-withdraw
                   vialshoal-show-remark vialshoal-next-remark
                   vialshoal-previous-remark)
+                 ("vialshoal-again" vialshoal-put-back)
                  ("vialshoal-remarks" vialshoal-remarks)
                  ("vialshoal-changed" vialshoal-changed)
                  ("vialshoal-suggesting" vialshoal-suggest-mode)))

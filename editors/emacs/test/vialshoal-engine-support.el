@@ -88,6 +88,24 @@
   (apply function arguments)
   (vialshoal--post-command))
 
+(defun vialshoal-engine--holder (person)
+  "Return the process id of the engine that has the note picnic of PERSON open.
+It is nil if there is none."
+  (let* ((path (format "%s/%s/run/picnic.lock" vialshoal-engine--folder person))
+         (inode (file-attribute-inode-number (file-attributes path))))
+    (with-temp-buffer
+      (insert-file-contents-literally "/proc/locks")
+      (and (re-search-forward
+            (format "FLOCK +ADVISORY +WRITE +\\([0-9]+\\) [0-9a-f:]+:%s " inode)
+            nil t)
+           (string-to-number (match-string 1))))))
+
+(defun vialshoal-engine--kill (person)
+  "Kill the engine that has the note picnic of PERSON open."
+  (signal-process (vialshoal-engine--wait
+                   (lambda () (vialshoal-engine--holder person)))
+                  'SIGKILL))
+
 (defun vialshoal-engine--type (buffer text)
   "Type TEXT at point in BUFFER."
   (with-current-buffer buffer

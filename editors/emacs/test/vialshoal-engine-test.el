@@ -108,24 +108,95 @@
         (vialshoal-undo))
       (vialshoal-engine--shows ada "a b a b a b\n"))))
 
-(ert-deftest vialshoal-engine-an-engine-that-ends-is-started-again ()
+;; Each key is there once, and in its order, however the engine ends.
+
+(defun vialshoal-engine-test--types-while-killed (ada kill)
+  "Type into ADA while KILL ends the engine, 6 times; return what was typed."
+  (random "killed")
+  (let ((typed ""))
+    (dotimes (turn 6)
+      (let* ((keys (format "%d:%s\n" turn (make-string (+ 5 (random 20)) ?x)))
+             (at (random (length keys))))
+        (dotimes (number (length keys))
+          (when (= number at)
+            (funcall kill))
+          (vialshoal-engine--type ada (substring keys number (1+ number)))
+          (accept-process-output nil 0))
+        (setq typed (concat typed keys)))
+      (should (equal (vialshoal-support--text ada) typed))
+      ;; Every other time the next engine ends before it has all.
+      (when (cl-evenp turn)
+        (vialshoal-engine--wait (lambda () (vialshoal-engine--is-open ada)))))
+    (vialshoal-engine--wait (lambda () (vialshoal-engine--is-quiet ada)))
+    typed))
+
+(defun vialshoal-engine--is-open (buffer)
+  "Say whether the engine of BUFFER has the note open, as one that ran long."
+  (with-current-buffer buffer
+    (when vialshoal--is-open
+      (setq vialshoal--begun 0))))
+
+(defun vialshoal-engine-test--takes-all-back (ada typed)
+  "Take back in ADA what was TYPED, step by step."
+  (while (not (string-empty-p typed))
+    (with-current-buffer ada
+      (vialshoal-undo))
+    (vialshoal-engine--wait
+     (lambda () (not (equal typed (vialshoal-support--text ada)))))
+    (let ((text (vialshoal-support--text ada)))
+      (should (string-prefix-p text typed))
+      (setq typed text))))
+
+(ert-deftest vialshoal-engine-each-key-is-kept-where-the-engine-is-killed ()
+  (vialshoal-engine-with-folder
+    (let* ((ada (vialshoal-engine--open "Ada"))
+           (typed (vialshoal-engine-test--types-while-killed
+                   ada (lambda () (vialshoal-engine--kill "Ada")))))
+      (should (equal typed (vialshoal-support--text ada)))
+      (vialshoal-engine-test--takes-all-back ada typed))))
+
+(ert-deftest vialshoal-engine-each-key-is-kept-where-the-line-to-it-ends ()
+  (vialshoal-engine-with-folder
+    (let* ((ada (vialshoal-engine--open "Ada"))
+           (typed (vialshoal-engine-test--types-while-killed
+                   ada (lambda ()
+                         (signal-process
+                          (vialshoal-engine--wait
+                           (lambda ()
+                             (with-current-buffer ada
+                               (and (process-live-p vialshoal--process)
+                                    vialshoal--process))))
+                          'SIGKILL)))))
+      (kill-buffer ada)
+      (let ((again (vialshoal-engine--open "Ada")))
+        (should (equal typed (vialshoal-support--text again)))))))
+
+(ert-deftest vialshoal-engine-others-type-while-an-engine-is-killed ()
+  (vialshoal-engine-with-folder
+    (pcase-let ((`(,ada ,bo) (vialshoal-engine--two)))
+      (vialshoal-engine--type ada "ada:\nbo:\n")
+      (vialshoal-engine--shows bo "ada:\nbo:\n")
+      (with-current-buffer ada (goto-char 5))
+      (with-current-buffer bo (goto-char 9))
+      (dotimes (number 3)
+        (vialshoal-engine--type ada (format "a%d " number))
+        (vialshoal-engine--kill "Ada")
+        (vialshoal-engine--type bo (format "b%d " number))
+        (vialshoal-engine--type ada "c ")
+        (vialshoal-engine--wait (lambda () (vialshoal-engine--is-open ada)))
+        (vialshoal-engine--type ada "d "))
+      (should (equal (vialshoal-engine--meet (list ada bo))
+                     "ada:a0 c d a1 c d a2 c d \nbo:b0 b1 b2 \n")))))
+
+(ert-deftest vialshoal-engine-who-closes-without-an-engine-loses-nothing ()
   (vialshoal-engine-with-folder
     (let ((ada (vialshoal-engine--open "Ada")))
       (vialshoal-engine--type ada "kept")
-      (with-current-buffer ada
-        (vialshoal-engine--wait (lambda () (vialshoal-engine--is-quiet ada)))
-        (setq vialshoal--begun 0)
-        (let ((process vialshoal--process))
-          (signal-process process 'SIGKILL)
-          (vialshoal-engine--wait
-           (lambda () (and (not (eq process vialshoal--process))
-                           vialshoal--is-open (not buffer-read-only)))))
-        (goto-char (point-max)))
+      (vialshoal-engine--kill "Ada")
       (vialshoal-engine--type ada " and more")
-      (vialshoal-engine--wait (lambda () (vialshoal-engine--is-quiet ada)))
       (kill-buffer ada)
-      (let ((again (vialshoal-engine--open "Ada")))
-        (should (equal (vialshoal-support--text again) "kept and more"))))))
+      (should (equal (vialshoal-support--text (vialshoal-engine--open "Ada"))
+                     "kept and more")))))
 
 (ert-deftest vialshoal-engine-a-file-is-saved ()
   (vialshoal-engine-with-folder

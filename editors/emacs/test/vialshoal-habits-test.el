@@ -221,8 +221,12 @@ sys.exit(main())
         (should (equal (vialshoal-support--text) "tea"))
         (should (equal vialshoal--words
                        (concat "There is no version 99 that this editor can "
-                               "have.  The note has another text; that of "
-                               "before is in *picnic as it was here*"))))
+                               "have.  What you typed is kept, and isn't in "
+                               "the note: \"!\".  M-x vialshoal-put-back puts "
+                               "it back.  The note has another text; that of "
+                               "before is in *picnic as it was here*")))
+        (vialshoal-put-back)
+        (vialshoal-engine--shows ada "tea!"))
       (kill-buffer "*picnic as it was here*"))))
 
 (ert-deftest vialshoal-habits-undo-takes-a-count-and-a-region ()

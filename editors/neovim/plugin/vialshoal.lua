@@ -34,6 +34,10 @@ command('VialshoalHistory', function()
   require('vialshoal').history()
 end, { desc = 'Go through the older texts of this note' })
 
+command('VialshoalPutBack', function()
+  require('vialshoal').put_back()
+end, { desc = "Type the words again that you typed and the note didn't take" })
+
 command('VialshoalWho', function(given)
   require('vialshoal').who(given.line1, given.line2)
 end, { range = true, desc = 'Say who wrote the line, or those of the range' })

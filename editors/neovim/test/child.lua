@@ -12,7 +12,7 @@ function Child.started(folder, person, name, link, program)
     rpc = true,
     env = { VIALSHOAL_DATA = folder .. '/' .. person, VIALSHOAL_LINK = link, VIALSHOAL_PROGRAM = program },
   })
-  local self = setmetatable({ job = job, person = person }, Child)
+  local self = setmetatable({ job = job, person = person, folder = folder }, Child)
   self:run([[
     vim.opt.runtimepath:prepend(...)
     vim.cmd('runtime plugin/vialshoal.lua')
@@ -100,6 +100,22 @@ function Child:says_and_goes_on(keys)
     self:press('<CR>')
   end
   return not blocks
+end
+
+--- The process that has the note open; nil if there is none.
+function Child:engine()
+  local stat = vim.loop.fs_stat(('%s/%s/run/picnic.lock'):format(self.folder, self.person))
+  for line in io.lines('/proc/locks') do
+    local process, inode = line:match('FLOCK +ADVISORY +WRITE +(%d+) [%x:]+:(%d+) ')
+    if stat and tonumber(inode) == stat.ino then
+      return tonumber(process)
+    end
+  end
+end
+
+--- Kills the process that has the note open.
+function Child:kill_engine()
+  vim.loop.kill(support.wait(function() return self:engine() end, 'an engine'), 'sigkill')
 end
 
 --- Its text.

@@ -49,18 +49,93 @@ with_folder('a command does its work where it was told to', function(open, folde
   Child.meet({ ada, bo })
 end)
 
-with_folder('an engine that ends is started again', function(open)
+--- Whether the engine of a Neovim has the note open, as one that ran for long.
+local function is_open(child)
+  return child:run('v.note().begun = 0; return v.note().is_open')
+end
+
+--- Types while something ends the engine, 6 times; what was typed.
+local function types_while_killed(child, kills)
+  math.randomseed(18)
+  local typed = ''
+  child:type('i')
+  for turn = 1, 6 do
+    local keys = ('%d:%s'):format(turn, ('x'):rep(math.random(5, 25)))
+    local at = math.random(#keys)
+    for number = 1, #keys do
+      if number == at then
+        kills()
+      end
+      child:press(keys:sub(number, number))
+    end
+    child:press('<CR>')
+    typed = typed .. keys .. '\n'
+    -- Every other time the next engine ends before it has all.
+    if turn % 2 == 0 then
+      support.wait(function() return is_open(child) end, 'the next engine')
+    end
+  end
+  child:type('<Esc>')
+  support.wait(function() return child:is_quiet() end, 'all to be kept')
+  return typed
+end
+
+with_folder('each key is kept where the engine is killed', function(open)
   local ada = open('Ada')
-  ada:type('ikept<Esc>')
+  ada:type('ibefore<Esc>')
   support.wait(function() return ada:is_quiet() end)
-  ada:run('v.note().begun = 0; first = v.note().job; vim.fn.jobstop(first)')
-  support.wait(function()
-    return ada:run('return v.note().job ~= first and v.note().is_open and vim.bo.modifiable')
-  end, 'the next engine')
-  ada:type('A and more<Esc>')
-  support.wait(function() return ada:is_quiet() end)
+  ada:type('A<CR><Esc>')
+  local typed = 'before\n' .. types_while_killed(ada, function() ada:kill_engine() end)
+  support.same(typed, ada:text())
+  -- Step by step, to what was typed before the first kill.
+  while typed ~= '' do
+    ada:type('u')
+    support.wait(function() return ada:text() ~= typed end, 'an undo')
+    local left = ada:text()
+    support.same(typed:sub(1, #left), left)
+    assert(#left < #typed, left)
+    typed = left
+  end
   ada:quit()
-  support.same('kept and more', open('Ada'):text())
+  open('Ada'):shows('')
+end)
+
+with_folder('each key is kept where the line to the engine ends', function(open)
+  local ada = open('Ada')
+  local typed = types_while_killed(ada, function()
+    support.wait(function()
+      return ada:run('return v.note().job ~= nil and pcall(vim.loop.kill, vim.fn.jobpid(v.note().job), "sigkill")')
+    end, 'an engine')
+  end)
+  support.same(typed, ada:text())
+  ada:quit()
+  support.same(typed, open('Ada'):text())
+end)
+
+with_folder('others type while an engine is killed', function(open, folder)
+  local ada, bo = two(open, folder)
+  ada:type('iada:<CR>bo:<CR><Esc>')
+  bo:shows('ada:\nbo:\n')
+  ada:type('ggA')
+  bo:type('2GA')
+  for number = 0, 2 do
+    ada:type('a' .. number .. ' ')
+    ada:kill_engine()
+    bo:type('b' .. number .. ' ')
+    ada:type('c ')
+    support.wait(function() return is_open(ada) end, 'the next engine')
+    ada:type('d ')
+  end
+  support.same('ada:a0 c d a1 c d a2 c d \nbo:b0 b1 b2 \n', Child.meet({ ada, bo }))
+end)
+
+with_folder('who quits without an engine loses nothing', function(open)
+  local ada = open('Ada')
+  ada:type('ikept')
+  ada:kill_engine()
+  ada:type(' and more<Esc>')
+  ada:quit()
+  open('Ada'):shows('kept and more')
 end)
 
 with_folder('who quits at once loses nothing', function(open)

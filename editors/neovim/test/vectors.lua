@@ -56,7 +56,8 @@ local function play(case)
       if name == 'cursor' then
         support.same(value, note:place_of(vim.api.nvim_win_get_cursor(0)), of)
       else
-        support.same(value, has[name], of)
+        -- More can be said behind words, as where others are kept.
+        support.same(value, name == 'words' and has[name] and has[name]:sub(1, #value) or has[name], of)
       end
     end
     fake.check(note)

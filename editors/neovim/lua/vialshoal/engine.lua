@@ -1,10 +1,10 @@
 --- The engine's process: lines to it, and lines from it.
 local M = {}
 
--- How often it is looked whether they run still.
+-- The pause between two looks whether engines that were sent `close` have ended.
 local LOOK_MILLISECONDS = 10
 
--- The processes of engines that were told to end, by their jobs.
+-- The process ids of engines that were sent `close` and haven't ended, by their jobs.
 local ending = {}
 
 --- Starts an engine. `took` is called with each line that it says, `ended` with what it wrote of its own trouble.
@@ -49,8 +49,10 @@ function M.close(job)
   pcall(vim.fn.chanclose, job, 'stdin')
 end
 
---- Waits a moment until all that were told to end have read all: Neovim's own end would kill them. Not by jobwait(), which
---- holds on to the job: where the terminal is gone meanwhile, Neovim's end would wait for that without end.
+--- Waits until all engines that were sent `close` have ended, `patience` milliseconds at most. Neovim kills them as it ends,
+--- and an engine ends by itself once it has read all lines.
+---
+--- jobwait() isn't used because it keeps hold of the job. If the terminal is gone, Neovim's end would wait for that job forever.
 function M.wait(patience)
   vim.wait(patience, function()
     for _, process in pairs(ending) do

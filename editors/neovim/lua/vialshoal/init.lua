@@ -4,6 +4,7 @@
 --- names come from other people: they are shown, and nothing in them is obeyed.
 local api = vim.api
 local Note = require('vialshoal.note')
+local again = require('vialshoal.again')
 local cursors = require('vialshoal.cursors')
 local engine = require('vialshoal.engine')
 local history = require('vialshoal.history')
@@ -17,10 +18,12 @@ local M = {}
 
 local PREFIX = 'vialshoal://'
 local MOST_NAME = 64
--- An engine that ends sooner isn't started again.
+-- An engine that ran for so long is started again at once when it ends.
 local STEADY_SECONDS = 2
 -- Neovim's end waits so long at most for an engine that has to read yet, as on a busy machine.
 local END_MILLISECONDS = 10000
+-- Who closes a note waits so long at most until its engine, or the next one if it ended, has all that was typed.
+local AWAY_MILLISECONDS = 5000
 -- So often it is looked whether a command still holds places for which lines wait.
 local AGAIN_MILLISECONDS = 50
 
@@ -150,7 +153,9 @@ end
 
 --- Saves a note as a file, which `:write` names.
 function M.write(note, path)
-  if path == PREFIX .. note.name then
+  if path == PREFIX .. note.name and note.is_away then
+    return say.words('The engine is being started again. What you typed last is kept here until then.')
+  elseif path == PREFIX .. note.name then
     vim.bo[note.buffer].modified = false
     return say.words('All is kept; :w FILE saves it as a file.')
   end
@@ -199,23 +204,39 @@ end
 
 local start, send_open
 
---- Starts the engine again that has ended unasked, unless it ended at once.
+--- Starts the engine again, after a pause that grows with each try. The user types on meanwhile.
+local function start_later(note)
+  local pause = again.pause(note.tries)
+  note.tries = note.tries + 1
+  vim.defer_fn(function()
+    if notes[note.buffer] == note and note.is_away and not note.job then
+      start(note)
+    end
+  end, pause * 1000)
+end
+
+--- Has the user type on though the engine ended, and starts it again; unless it never had the note open.
 local function ended(note, words)
   if notes[note.buffer] ~= note or note.is_closing then
     return
   end
-  local was_steady = note.is_open and clock() > note.begun + STEADY_SECONDS
-  note.is_open = false
-  vim.bo[note.buffer].modifiable = false
+  note.job, note.came = nil, {}
   note.shows.cursors({})
-  review.ended(note)
-  if was_steady then
-    say.words('The engine has ended, and is started anew. ' .. words)
-    start(note)
-  else
-    note.job = nil
-    say.words("The note isn't open any more. " .. words)
+  if not note:takes_keys() then
+    vim.bo[note.buffer].modifiable = false
+    review.ended(note)
+    return say.words("The note isn't open any more. " .. words)
   end
+  if note.is_open and clock() > note.begun + STEADY_SECONDS then
+    note.tries = 0
+  end
+  if note.is_open then
+    local was_asked = note:engine_ended()
+    say.words('The engine ended and is started again. Nothing is lost; type on. '
+      .. (was_asked and 'Look whether your last command was done, and else repeat it. ' or '') .. words)
+    review.ended(note)
+  end
+  start_later(note)
 end
 
 --- Does what a line says, and asks for the whole text where that fails.
@@ -249,7 +270,10 @@ end
 
 --- Starts a note's engine, and has it open the note.
 function start(note)
-  note.begun, note.types, note.came = clock(), false, {}
+  note.begun, note.came = clock(), {}
+  if not note.is_away then
+    note.types, note.editor = false, again.new_editor()
+  end
   local job
   job = engine.start(note.command, note.environment, function(line)
     if note.job == job then
@@ -285,19 +309,21 @@ end
 function send_open(note)
   note.waiting = {
     [0] = function(answer)
-      if answer.error == 'absent' then
+      if answer.error == 'absent' and not note.is_away then
         return vim.schedule(function() ask_for_new(note) end)
       elseif answer.error then
         engine.close(note.job)
         note.job = nil
-        return
+        return note.is_away and start_later(note)
       end
       note:opened(answer)
-      vim.bo[note.buffer].modified = false
+      vim.bo[note.buffer].modified = note.answered ~= note.made
+      note:tell_place()
     end,
   }
   note.send({ id = 0, ['do'] = 'open', protocol = 1, units = { 'utf-8' }, name = text.name(M.options.name),
-    colour = M.options.colour, new = note.makes, remarks = M.options.remarks or nil })
+    colour = M.options.colour, new = note.makes, remarks = M.options.remarks or nil, editor = note.editor,
+    again = again.to_carry_over(note) })
 end
 
 --- Tells once that the log can't be reached, and that all is sent again: a status line may not have that.
@@ -332,7 +358,7 @@ local function new_note(buffer, name, log, link, makes)
       vim.cmd('redrawstatus!')
     end,
   })
-  note.name = name
+  note.name, note.tries = name, 0
   -- Who names a log or has a link means a note that may not be here yet.
   note.makes = makes or (log or '') .. (link or '') ~= ''
   note.command = vim.list_extend(vim.deepcopy(M.options.command), { 'engine', name })
@@ -426,11 +452,27 @@ function M.open(name, log, link, makes)
   api.nvim_set_current_buf(buffer)
 end
 
+--- Waits until the engine of a note, which may have ended, has all that was typed. Keeps the text beside if there is none.
+local function wait_for_engine(note)
+  local function has_all() return note.made == note.answered end
+  if api.nvim_buf_is_loaded(note.buffer) and not note.applies then
+    note:flush()
+    vim.wait(AWAY_MILLISECONDS, has_all)
+  end
+  if note.is_away and not has_all() then
+    beside(text.join(note.lines, note.has_end))
+  end
+end
+
 --- Closes a buffer's note, with all sent that was typed.
 function M.close(buffer)
   local note = notes[buffer]
-  if not note then
+  if not note or note.is_waiting then
     return
+  end
+  if note:takes_keys() then
+    note.is_waiting = true
+    wait_for_engine(note)
   end
   notes[buffer] = nil
   note.is_closing = true
@@ -498,6 +540,11 @@ function M.redo(count)
   with_note(function(note) undo.ask(note, 'redo', count) end)
 end
 
+--- Types the words again that the note didn't take.
+function M.put_back()
+  with_note(again.put_back)
+end
+
 --- Goes through the older texts.
 function M.history()
   with_note(history.open)
@@ -547,7 +594,9 @@ end
 --- How a note is, in words.
 function M.state_words(note)
   local state = note.state
-  if not note.job then
+  if note.is_away then
+    return 'engine ended, all is kept here'
+  elseif not note.job then
     return 'closed'
   elseif not note.is_open then
     return state.of and ('opening %d of %d'):format(state.done, state.of) or 'opening'

@@ -6,6 +6,7 @@
 --- `has_end` and the option 'endofline' say that it is there; with 'nofixendofline' none is added to a text that has
 --- none. One that is typed here is shown as an empty line, until others change the end.
 local api = vim.api
+local again = require('vialshoal.again')
 local interrupt = require('vialshoal.interrupt')
 local text = require('vialshoal.text')
 
@@ -29,27 +30,76 @@ local HOLDING = { '^no', '^c', '^r', '^[iR]c' }
 function Note.new(buffer, send, clock, shows)
   return setmetatable({
     buffer = buffer, send = send, clock = clock, shows = shows,
-    is_open = false, version = 0, made = 0, answered = 0, since = 0, lines = { '' }, has_end = false,
-    changes = {}, state = {}, cursors = {}, waiting = {}, asked = 0, seen = 0, place_sent = 0,
+    is_open = false, version = 0, made = 0, answered = 0, sent_edits = 0, since = 0, lines = { '' }, has_end = false,
+    -- Whether the engine ended that had the note open, and none has opened it again. The user types on meanwhile.
+    is_away = false,
+    -- The version and the edits at which this editor was last in step: it had exactly the engine's text. And the edits that
+    -- were made since then or aren't answered, in their order: number, changes, how they join, and where the first change is.
+    step = { version = 0, edits = 0 }, edits = {},
+    changes = {}, state = {}, cursors = {}, waiting = {}, requests = {}, asked = 0, seen = 0, place_sent = 0,
     review = { threads = {}, unanswered = {} },
     -- What of the changes is undone together, by their numbers.
     unit_of = setmetatable({}, { __mode = 'k' }),
   }, Note)
 end
 
---- Takes in the answer to `open`, and shows the text.
+--- Takes in the answer to `open`, and shows the text, unless that is here.
 function Note:opened(line)
-  self.version, self.made, self.answered = line.version, line.edits, line.edits
-  self.changes, self.waiting, self.place, self.is_lost, self.is_open = {}, {}, nil, false, true
+  local was_away, missing = self.is_away, self:edits_after(math.max(self.answered, line.has or 0))
+  self.version, self.answered, self.sent_edits = line.version, line.edits, line.edits
+  self.step = { version = line.version, edits = line.edits }
+  self.place, self.is_away, self.is_open = nil, false, true
   self.told_version, self.remarks, self.review = nil, nil, { threads = {}, unanswered = {} }
   if self.suggesting then
     self.suggesting:soon()
   end
-  if self:size() == 0 then
-    self:fill(line.text)
+  if was_away and not line.text then
+    self:carried_over()
   else
-    self:become(line.text)
+    self.made, self.changes, self.edits = line.edits, {}, {}
+    self:show_opened(line.text)
+    if was_away then
+      again.keep(self, "The note is open again, and what you typed last couldn't be carried over.", missing)
+    end
   end
+end
+
+--- Goes on with the text that is here, as another engine has the edits that it was told.
+function Note:carried_over()
+  self:forget_edits()
+  if self.answered == self.made then
+    vim.bo[self.buffer].modified = false
+  end
+  self.shows.words('The note is open again. All that you typed is kept.')
+  self:send_edits()
+end
+
+--- Shows the text of a note that was opened.
+function Note:show_opened(new)
+  if self.is_lost then
+    self:look()
+    self.is_lost = false
+  end
+  if self:size() == 0 then
+    self:fill(new)
+  else
+    self:become(new)
+  end
+end
+
+--- Has the user type on, as the engine ended. What it was asked is dropped; whether the user asked something.
+function Note:engine_ended()
+  local was_asked = false
+  for id in pairs(self.waiting) do
+    was_asked = was_asked or self.requests[id] ~= nil and self.requests[id] ~= 'remarks'
+  end
+  self.is_away, self.is_open, self.waiting, self.requests = true, false, {}, {}
+  return was_asked
+end
+
+--- Whether what the user types counts as edits.
+function Note:takes_keys()
+  return self.is_open or self.is_away
 end
 
 -- Edits.
@@ -57,7 +107,7 @@ end
 --- Takes note of a change that the user, or a plug-in, made: lines `first` to `last` gave way to those up to
 --- `new_last`.
 function Note:changed(first, last, new_last)
-  if self.applies or self.is_lost or not self.is_open then
+  if self.applies or self.is_lost or not self:takes_keys() then
     return
   end
   if self.suggesting then
@@ -157,6 +207,7 @@ function Note:add(change)
       last = last - 1
     end
     table.insert(self.changes, { from, to, new:sub(begin, last) })
+    self:move_kept(self.changes[#self.changes])
     self.unit_of[self.changes[#self.changes]] = self.unit
     from = from + last - begin + 1
     to, begin = from, last + 1
@@ -217,10 +268,12 @@ end
 
 --- Takes note that the hidden line end came or went, by the option 'endofline'.
 function Note:end_changed(has_end)
-  if self.is_open and has_end ~= self.has_end and self.suggesting then
+  if not self:takes_keys() or has_end == self.has_end then
+    return
+  elseif self.suggesting then
     self.is_unsure = true
     self:soon()
-  elseif self.is_open and has_end ~= self.has_end then
+  else
     interrupt.behind(self.find_changes, self)
     local size = self:size()
     self.has_end = has_end
@@ -240,9 +293,9 @@ function Note:flush_command()
   end
 end
 
---- Sends what was gathered as one edit; in parts where that is much.
+--- Sends what was gathered as one edit; in parts where that is much. While there is no engine it is numbered, and sent later.
 function Note:flush()
-  if self.is_open and not self.is_lost then
+  if self:takes_keys() and not self.is_lost then
     interrupt.behind(self.find_changes, self)
     self:send_changes()
   end
@@ -292,8 +345,46 @@ function Note:send_changes()
   self.changes, self.seen = {}, 0
   for number, edit in ipairs(edits) do
     self.made = self.made + 1
-    self.send({ ['do'] = 'edit', version = self.version, edits = self.made, changes = edit,
-      join = self:joins(edit, number == 1) })
+    table.insert(self.edits, { number = self.made, changes = edit, join = self:joins(edit, number == 1), place = edit[1][1] })
+  end
+  self:send_edits()
+end
+
+--- Sends the edits that this engine hasn't, in the order of their numbers.
+function Note:send_edits()
+  if not self.is_open then
+    return
+  end
+  for _, edit in ipairs(self:edits_after(self.sent_edits)) do
+    self.sent_edits = edit.number
+    self.send({ ['do'] = 'edit', version = self.version, edits = edit.number, changes = edit.changes, join = edit.join })
+  end
+end
+
+--- The edits that are kept and come behind a number, in their order.
+function Note:edits_after(number)
+  local first = self.edits[1] and math.max(1, number - self.edits[1].number + 2) or 1
+  return vim.list_slice(self.edits, first)
+end
+
+--- Forgets the edits that are answered and came before the last step.
+function Note:forget_edits()
+  self.edits = self:edits_after(math.min(self.answered, self.step.edits))
+end
+
+--- Takes note that this editor has exactly the engine's text.
+function Note:is_in_step()
+  self.step = { version = self.version, edits = self.made }
+  self:forget_edits()
+end
+
+--- Moves the places of what is kept along with a change.
+function Note:move_kept(change)
+  for _, edit in ipairs(self.edits) do
+    edit.place = text.moved(edit.place, change, false)
+  end
+  if self.refused then
+    self.refused.place = text.moved(self.refused.place, change, false)
   end
 end
 
@@ -314,7 +405,7 @@ end
 
 --- Whether lines are to be read before a key is taken. Only a macro types for half a second without all answered.
 function Note:is_behind()
-  return self.answered < self.made and self.clock() > self.since + BUSY_SECONDS
+  return self.is_open and self.answered < self.made and self.clock() > self.since + BUSY_SECONDS
 end
 
 --- Has the half second begin anew.
@@ -324,7 +415,7 @@ end
 
 --- Lets others' text in before a key, where it was held back too long.
 function Note:before_key()
-  if not self.is_open then
+  if not self:takes_keys() then
     return
   end
   self:flush_command()
@@ -363,11 +454,12 @@ function Note:is_held()
   return holds
 end
 
---- Takes in a line that answers an edit ahead of those that wait, so that what a command does is sent while it goes on.
+--- Takes in a line ahead of those that wait, if it leaves the text as it is: it answers an edit, or carries edits over to
+--- another engine. So what a command does is sent while it goes on.
 function Note:take_ahead(line)
-  if line:find('^{"answer":"edit"') and self:is_held() then
-    local answer = vim.json.decode(line)
-    if not answer.error then
+  if (line:find('^{"answer":"edit"') or line:find('^{"answer":"open"')) and self:is_held() then
+    local answer = vim.json.decode(line, { luanil = { object = true } })
+    if not answer.error and not answer.text then
       self:answer(answer)
       return true
     end
@@ -387,12 +479,14 @@ end
 
 --- Sends a request, and calls `answered` with its answer.
 function Note:ask(request, answered)
-  if not self.is_open then
+  if self.is_away then
+    return self.shows.words('This was not done, because the engine is being started again. Nothing is lost; repeat it in a moment.')
+  elseif not self.is_open then
     return self.shows.words("This note isn't open.")
   end
   self:flush()
   self.asked = self.asked + 1
-  self.waiting[self.asked] = answered
+  self.waiting[self.asked], self.requests[self.asked] = answered, request['do']
   request.id = self.asked
   self.send(request)
 end
@@ -419,25 +513,46 @@ function Note:take(line)
 end
 
 function Note:answer(line)
+  local edits = line.answer == 'edit' and line.edits
   if line.error then
-    self.shows.words(line.words .. (self.beside and ' ' .. self.beside or ''))
-    if not line.edits and not line.id then
-      self.send({ ['do'] = 'text', edits = self.made })
-    end
+    self:failed(line, edits)
   end
-  if line.answer == 'edit' and line.edits then
-    self.answered = line.edits
-    if not line.error then
-      self.beside = nil
-    end
-    if self.answered == self.made then
-      vim.bo[self.buffer].modified = false
-    end
+  if edits then
+    self:answered_up_to(line, edits)
   end
   local answered = line.id and self.waiting[line.id]
   if answered then
-    self.waiting[line.id] = nil
+    self.waiting[line.id], self.requests[line.id] = nil, nil
     answered(line)
+  end
+end
+
+--- Says an error. If it is one to edits, their words are kept.
+function Note:failed(line, edits)
+  if edits then
+    again.keep(self, line.words, vim.tbl_filter(function(edit) return edit.number <= edits end, self:edits_after(self.answered)))
+  elseif not self.is_away or line.words ~= self.told_why then
+    -- An engine that can't open the note is started again and again, and that is said once.
+    self.told_why = self.is_away and line.words or nil
+    self.shows.words(line.words .. (self.beside and ' ' .. self.beside or ''))
+  end
+  if not line.edits and not line.id then
+    self.send({ ['do'] = 'text', edits = self.made })
+  end
+end
+
+--- Takes note that all edits up to a number are answered.
+function Note:answered_up_to(line, edits)
+  self.answered = edits
+  if not line.error then
+    self.beside = nil
+    if edits == self.made and line.version == self.version then
+      self.step = { version = self.version, edits = edits }
+    end
+  end
+  self:forget_edits()
+  if self.answered == self.made then
+    vim.bo[self.buffer].modified = false
   end
 end
 
@@ -475,6 +590,7 @@ function Note:take_text(line)
   else
     self:change(line.changes)
   end
+  self:is_in_step()
   if line.cursor then
     self:go_to(line.cursor)
   end
@@ -509,6 +625,7 @@ function Note:change(changes)
   self:apply(function()
     for _, change in ipairs(changes) do
       self:move_places(kept, change)
+      self:move_kept(change)
       if self.suggesting then
         self.suggesting:follow(change)
       end

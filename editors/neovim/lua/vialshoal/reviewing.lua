@@ -236,7 +236,8 @@ local function show(words)
   return buffer
 end
 
---- Puts away what is shown of how the text of a suggestion has changed; what that would become, if it was this suggestion's.
+--- Closes the window that compares the texts of a suggestion whose passage has changed. Returns the text that accepting this
+--- thread would give, if the window was about this thread.
 local function put_away(note, thread)
   local shown = note.shown_changed or {}
   note.shown_changed = nil
