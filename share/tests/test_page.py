@@ -512,12 +512,16 @@ class Alone(Pages):
         window.type(" or not")
         window.shows("answered or not")
         os.kill(engine, signal.SIGKILL)
+        window.type(", typed on")
         window.state("kept here alone")
+        window.shows("answered or not, typed on")
+        self.assert_kept(self.data, window)
+        # What was typed before is taken back, too.
+        for _ in range(3):
+            window.press("undo")
+        window.shows("")
+        window.press("redo")
         window.shows("answered")
-        window.click_on("#words p button")
-        window.gives("document.querySelector('#past-text .CodeMirror').CodeMirror.getValue()", "answered or not")
-        window.press("back")
-        window.type("again")
         self.assert_kept(self.data, window)
 
     def test_a_server_that_ended_is_known_again_and_another_one_gets_nothing(self) -> None:
@@ -527,9 +531,9 @@ class Alone(Pages):
         window.type("kept")
         wait_for(lambda: kept(self.data) == "kept", "the text to be kept")
         server.close()
-        window.state("bin/note web has ended. What was answered is kept.")
-        window.type("not")
-        self.assertEqual(window.text(), "kept")
+        window.state("bin/note web has ended. This page goes on when it runs again. Type on: what you type is kept in this page until then.")
+        window.type(" and more")
+        self.assertEqual(window.text(), "kept and more")
         said = asyncio.run(said_to_another(server.port, 4))
         self.assertRegex(b"|".join(said), rb"^again [0-9a-f]{64}(\|again [0-9a-f]{64}){3}$")
         self.assertEqual(len(set(said)), 4)
@@ -537,11 +541,12 @@ class Alone(Pages):
         self.assertEqual(again.port, server.port)
         window.state("kept here alone")
         window.type(Keys.END, " on")
+        window.shows("kept and more on")
         self.assert_kept(self.data, window)
         # The tab has the secret of now.
         window.driver.refresh()
         window.wait_for(f"document.title === 'note' && !{MIRROR}.getOption('readOnly')")
-        window.shows("kept on")
+        window.shows("kept and more on")
         window.told()
 
     def test_the_past_has_colours_of_who_wrote_what(self) -> None:

@@ -9,6 +9,7 @@ const UNANSWERED = 10;
 const MOST_CHANGES = 10_000;
 // The notices after which an editor that only reads says which version it has.
 const NOTICES = 100;
+const NOT_CARRIED = "The note's engine ended, and the next one can't tell where this belongs.";
 
 /** A text after changes, each of which counts in the text that those before it leave. */
 export function changed(text, changes) {
@@ -28,6 +29,9 @@ function moved(place, changes) {
 export function opensLine(column, text) {
   return column === 0 && text.endsWith("\n");
 }
+
+/** Bytes in hexadecimal digits. */
+export const hex = (bytes) => [...new Uint8Array(bytes)].map((one) => one.toString(16).padStart(2, "0")).join("");
 
 /** A line that is to be sent, in pieces of bytes. */
 export function* pieces(line, size) {
@@ -62,10 +66,14 @@ export class Client {
   #clock;
   // Whether the note itself answers, in this page: what is typed is handed on at once then, and holds nobody's text back.
   #isHere;
-  // Since when there has been an edit without an answer at every moment.
-  #since = 0;
+  // From when on there has been an edit without an answer at every moment.
+  #busyFrom = 0;
   #notices = 0;
   #gathered = [];
+  // When this editor was last in step with the engine, and the changes of each edit since then. An editor of a note that answers here has none.
+  #inStep;
+  #since = [];
+  #isAway = false;
   // The edits that aren't answered: the number of each, its changes, and where the first one is now.
   #unanswered = [];
   #asked = new Map();
@@ -75,6 +83,7 @@ export class Client {
     this.version = opened.version;
     this.made = opened.edits;
     this.answered = opened.edits;
+    this.#inStep = { version: opened.version, edits: opened.edits };
     this.#isHere = opened.here === true;
     this.#send = send;
     this.#view = view;
@@ -97,11 +106,12 @@ export class Client {
   }
 
   #make(changes, more) {
-    if (this.answered === this.made) this.#since = this.#clock();
+    if (this.answered === this.made) this.#busyFrom = this.#clock();
     this.made += 1;
     this.#notices = 0;
     this.#unanswered.push({ edits: this.made, changes, place: changes[0][0] });
-    this.#send({ do: "edit", version: this.version, edits: this.made, changes, ...more });
+    if (!this.#isHere) this.#since.push(changes);
+    if (!this.#isAway) this.#send({ do: "edit", version: this.version, edits: this.made, changes, ...more });
   }
 
   /** The text was changed: places of what isn't answered go along. */
@@ -116,16 +126,17 @@ export class Client {
 
   /** Whether the next key is to be kept until the last edit is answered. */
   waits() {
-    return !this.#isHere && this.answered < this.made && this.#clock() > this.#since + BUSY_MS;
+    return !this.#isHere && this.answered < this.made && this.#clock() > this.#busyFrom + BUSY_MS;
   }
 
   /** Says that this took too long. */
   gaveUp() {
-    this.#since = this.#clock();
+    this.#busyFrom = this.#clock();
   }
 
   /** Sends a request, for its answer. Of a quiet one the user isn't told that it failed: whoever asks does that. */
   ask(request, isQuiet = false) {
+    if (this.#isAway) return Promise.resolve({ error: "away" });
     this.#flush();
     this.#ids += 1;
     const id = this.#ids;
@@ -138,10 +149,48 @@ export class Client {
     return this.ask({ ...request, version: this.version }, isQuiet);
   }
 
-  /** Says that nothing more comes; what was asked isn't answered. */
-  end() {
+  /** The engine has ended. What was asked isn't answered, and what is typed from now on waits for the next engine. */
+  away() {
+    this.#isAway = true;
     for (const { resolve } of this.#asked.values()) resolve({ error: "away" });
     this.#asked.clear();
+  }
+
+  /** What the next engine is told of the text that is shown: when it was last in step, and the edits since then. */
+  again() {
+    this.#flush();
+    return { ...this.#inStep, made: [...this.#since] };
+  }
+
+  /** The next engine has opened the note: it has all edits up to a number, and the later ones are sent; or it shows another text. */
+  back(opened) {
+    this.#isAway = false;
+    if ("text" in opened) {
+      this.#replaced(opened);
+      return;
+    }
+    const { version, edits } = opened;
+    this.#since = this.#since.slice(edits - this.#inStep.edits);
+    [this.version, this.#inStep, this.#busyFrom] = [version, { version, edits }, this.#clock()];
+    this.#since.forEach((changes, at) => this.#send({ do: "edit", version, edits: edits + 1 + at, changes }));
+    this.#answered({ edits });
+    this.#flush();
+  }
+
+  /** Shows the engine's text. The words of edits that it doesn't have are their user's. */
+  #replaced({ text, version, edits, has = this.answered }) {
+    this.#flush();
+    this.#moves(this.#view.replace(text));
+    const some = this.#unanswered.filter((one) => one.edits > has);
+    [this.version, this.made, this.answered, this.#inStep] = [version, edits, edits, { version, edits }];
+    [this.#since, this.#unanswered] = [[], []];
+    if (some.length) this.#view.refused(NOT_CARRIED, some.flatMap((one) => one.changes), some[0].place);
+    this.#view.answered();
+  }
+
+  /** Shows the engine's text of now, with all edits. */
+  #steps() {
+    [this.#inStep, this.#since] = [{ version: this.version, edits: this.made }, []];
   }
 
   /** Has stretches be bold, or of a colour. */
@@ -151,6 +200,7 @@ export class Client {
 
   /** Says where the user's cursor is, and the other end of a selection. */
   cursor(at, anchor) {
+    if (this.#isAway) return;
     this.#flush();
     this.#send({ do: "cursor", version: this.version, at, ...(anchor === undefined ? {} : { anchor }) });
   }
@@ -178,11 +228,12 @@ export class Client {
   }
 
   /** All up to an edit is kept, or it is refused with those before it that weren't answered. */
-  #answered({ edits, error, words }) {
+  #answered({ edits, error, words, version }) {
     const isLater = (one) => one.edits > edits;
     const some = this.#unanswered.filter((one) => !isLater(one));
     this.#unanswered = this.#unanswered.filter(isLater);
     this.answered = edits;
+    if (edits === this.made && version === this.version) this.#steps();
     if (error) this.#view.refused(words, some.flatMap((one) => one.changes), some[0]?.place ?? 0);
     this.#view.answered();
   }
@@ -214,7 +265,9 @@ export class Client {
     }
   }
 
+  /** A notice that has a version was taken over. */
   #seen() {
+    this.#steps();
     this.#notices += 1;
     if (this.#notices < NOTICES) return;
     this.#notices = 0;

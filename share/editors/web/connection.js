@@ -1,6 +1,6 @@
 // The way to the page's server: lines come and go. Where the server has ended it is waited for, and known again by a key that
 // it gave the page, since whoever has its port meanwhile may be another one.
-import { Lines, pieces } from "./client.js";
+import { hex, Lines, pieces } from "./client.js";
 
 const PIECE = 1 << 17;
 const AGAIN_MS = 500;
@@ -10,13 +10,11 @@ const NONCE_BYTES = 32;
 const WRONG_SECRET = 1008;
 const NO_ENGINE = 1011;
 
-const hex = (bytes) => [...new Uint8Array(bytes)].map((one) => one.toString(16).padStart(2, "0")).join("");
-
 /** What a user is told of an end. */
 function wordsOf(code, reason) {
   if (code === WRONG_SECRET) return "This page can't be opened so: open the file that bin/note web has named.";
-  return code === NO_ENGINE ? `${reason} Trying again. What was answered is kept.`
-    : "bin/note web has ended. What was answered is kept. This page goes on when it runs again.";
+  return code === NO_ENGINE ? `${reason} It is started again.`
+    : "bin/note web has ended. This page goes on when it runs again.";
 }
 
 /** What shows that somebody has the key, as `guard.py` spells it. */

@@ -1,6 +1,6 @@
 // The page of a note: a way to the note's engine, and what is shown of it.
 import { Changes, isHeard } from "./aloud.js";
-import { Client } from "./client.js";
+import { Client, hex } from "./client.js";
 import { Editor, paste } from "./editor.js";
 import { Finding } from "./finding.js";
 import { Formatted } from "./formatted.js";
@@ -24,15 +24,18 @@ import { Writers } from "./writers.js";
 const CURSOR_MS = 50;
 // After how many lines that wait the engine is told what the text has.
 const WAITING = 100;
+const GO_ON = "Type on: what you type is kept in this page until then.";
 
 /** @type {(id: string) => any} */
 const element = (id) => document.getElementById(id);
 
 export class Page {
   #connection;
-  // Who talks to the engine; none while there is no connection. And who did so last.
+  // Who talks to the engines; none until the first one has opened the note. By this name the next engine knows this editor.
   #client;
-  #last;
+  #editorName = crypto.randomUUID();
+  // How often the note was begun to be opened.
+  #openings = 0;
   #cursorTimer;
   #isRenamed = false;
   #state = new State(() => this.#unanswered);
@@ -164,7 +167,7 @@ export class Page {
 
   /** How many edits of the user's aren't kept, as far as it is known. */
   get #unanswered() {
-    return this.#last?.unanswered ?? 0;
+    return this.#client?.unanswered ?? 0;
   }
 
   /** What is printed. */
@@ -193,10 +196,24 @@ export class Page {
     else if (line.words) say(line.words);
   }
 
-  #open({ name, missing }) {
+  async #open({ name, missing }) {
     this.formatted.missing = missing;
     element("name").value = sessionStorage.getItem("name") ?? name;
-    this.#send({ do: "open", id: 0, protocol: 1, units: ["utf-16"], looks: true, remarks: true, name: element("name").value });
+    this.#openings += 1;
+    const number = this.#openings;
+    const again = await this.#again();
+    if (number !== this.#openings) return;
+    this.#send({ do: "open", id: 0, protocol: 1, units: ["utf-16"], looks: true, remarks: true, name: element("name").value,
+      editor: this.#editorName, ...(again && { again }) });
+  }
+
+  /** What the next engine is told of what is shown here, if something is. */
+  async #again() {
+    if (!this.#client) return undefined;
+    this.editor.tell();
+    const [again, text] = [this.#client.again(), this.editor.text];
+    const hash = await crypto.subtle.digest("SHA-256", new TextEncoder().encode(text));
+    return { ...again, hash: hex(hash) };
   }
 
   #opened(line) {
@@ -206,13 +223,15 @@ export class Page {
     }
     document.title = line.note;
     element("note").textContent = line.note;
-    const before = this.editor.text;
-    if (this.#unanswered && before !== line.text) this.past.offers(before);
-    this.editor.replace(line.text);
-    this.editor.looks([]);
     for (const option of element("colour").options) option.style.color = colourOf(line.colours[option.value]);
-    this.#client = new Client(line, (request) => this.#send(request), this.#view(line.colours));
-    this.#last = this.#client;
+    if (this.#client) {
+      this.editor.tell();
+      this.#client.back(line);
+    } else {
+      this.editor.replace(line.text);
+      this.editor.looks([]);
+      this.#client = new Client(line, (request) => this.#send(request), this.#view(line.colours));
+    }
     this.#state.follows();
     this.present.begin();
     this.review.opened();
@@ -220,15 +239,15 @@ export class Page {
   }
 
   #ended(words) {
-    this.#client?.end();
-    this.#client = undefined;
-    this.editor.types = false;
+    this.#openings += 1;
+    this.editor.tell();
+    this.#client?.away();
     this.editor.cursors([]);
     if (this.#isRenamed) {
-      this.#isRenamed = false;
+      [this.#isRenamed, this.#client, this.#editorName] = [false, undefined, crypto.randomUUID()];
       return true;
     }
-    showState(words, true);
+    showState(this.#client ? `${words} ${GO_ON}` : words, true);
     return false;
   }
 

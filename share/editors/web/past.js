@@ -1,7 +1,6 @@
 // The note's history: its text as it was, with colours of who wrote what.
 import { colourAt, nameOf, pale } from "./people.js";
 import { OPTIONS } from "./editor.js";
-import { say } from "./said.js";
 
 /* global CodeMirror */
 
@@ -90,28 +89,15 @@ export class Past {
     for (const { site } of [...steps, ...this.#leftOut]) {
       if (!this.#sites.has(site)) this.#sites.set(site, this.#sites.size);
     }
-    this.#open(true);
+    this.#open();
     element("at").max = String(steps.length + (this.#leftOut.length ? 1 : 0));
     element("at").value = String(steps.length);
     await this.#look();
   }
 
-  /** Offers the user's text of before an interruption, of which the note may lack some. */
-  offers(text) {
-    const button = Object.assign(document.createElement("button"), { textContent: "Show it" });
-    button.addEventListener("click", () => {
-      this.#open(false);
-      element("authors").replaceChildren();
-      element("step").textContent = "your text as it was before the interruption";
-      this.#set(text, []);
-    });
-    say("Your last edits weren't answered, and the note is another one now. Your text of before is kept beside. ", button);
-  }
-
-  #open(slides) {
+  #open() {
     element("past").hidden = false;
     element("sheets").hidden = true;
-    for (const id of ["at", "earlier", "later", "since-here"]) element(id).hidden = !slides;
     element("recover").hidden = true;
   }
 
