@@ -44,18 +44,18 @@ class Journal:
         return self._size > self._long
 
     def read(self) -> list[Line]:
-        """The lines without the first one; Unreadable if they can't be known."""
+        """The lines without the first one; Unreadable if they can't be known. A last line without an end is left out: a kill cut its
+        write, so what it was to say was never kept or sent."""
         try:
             data = self._path.read_bytes()
         except FileNotFoundError:
             return []
         except OSError as why:
             raise Unreadable(f"it can't be read ({why.strerror})") from why
-        if not data:
+        whole = data[:data.rfind(b"\n") + 1]
+        if not whole:
             return []
-        if not data.endswith(b"\n"):
-            raise Unreadable("it was cut short")
-        first, *lines = map(_line_of, data[:-1].split(b"\n"))
+        first, *lines = map(_line_of, whole[:-1].split(b"\n"))
         if first.get("journal") != JOURNAL_VERSION:
             raise Unreadable("another version of the engine wrote it")
         return lines if first.get("note") == self._note.hex() else []

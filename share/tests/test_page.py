@@ -531,7 +531,8 @@ class Alone(Pages):
         window.type("kept")
         wait_for(lambda: kept(self.data) == "kept", "the text to be kept")
         server.close()
-        window.state("bin/note web has ended. This page goes on when it runs again. Type on: what you type is kept in this page until then.")
+        window.state("bin/note web has ended. This page goes on when it runs again. "
+                     "Type on: what you type is kept in this page until then.")
         window.type(" and more")
         self.assertEqual(window.text(), "kept and more")
         said = asyncio.run(said_to_another(server.port, 4))

@@ -228,7 +228,7 @@ export class Client {
   }
 
   /** All up to an edit is kept, or it is refused with those before it that weren't answered. */
-  #answered({ edits, error, words, version }) {
+  #answered({ edits, error = "", words = "", version = -1 }) {
     const isLater = (one) => one.edits > edits;
     const some = this.#unanswered.filter((one) => !isLater(one));
     this.#unanswered = this.#unanswered.filter(isLater);
