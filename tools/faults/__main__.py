@@ -27,7 +27,10 @@ from tools.refusals.scripts import Script
 from tools.refusals.tally import Difference
 from tools.running import folder_in_memory
 
-FEW = ["among-leftovers", "leftovers", "pipe", "link", "two-sites", "past-4-mib", "too-long", "writer-and-reader"]
+FEW = [
+    "among-leftovers", "leftovers", "pipe", "link", "mode-600", "mode-640", "mode-of-a-new-file", "two-sites", "past-4-mib", "too-long",
+    "writer-and-reader",
+]  # fmt: skip
 MOST_SHOWN = 20
 
 # What is tried, by its name.

@@ -1,9 +1,10 @@
-"""Cases of their own: files that killed writes have left, names of what is no plain file, long files, the help."""
+"""Cases of their own: files that killed writes have left, names of what is no plain file, modes, long files, the help."""
 from __future__ import annotations
 
 import os
 import resource
 import stat
+import tempfile
 from collections.abc import Callable
 from pathlib import Path
 
@@ -30,6 +31,8 @@ USES = events(
     "1 reopen 1 s; 1 type 1 0 Edit.Load s; 1 open user 1; 1 point 0 1; 1 click 0 1; 1 keep 1 s; 2 reopen 1 s; 1 keep 1 s",
     *SCREEN,
 )
+# The scripts that write the name, each with the line that does.
+WRITES = ((KEEPS, 1), (STORES, 2))
 TWO_SITES = events("two-sites", "1 type 1 0 abc; 2 take 1 m1; 1 keep 1 s; 2 keep 1 s")
 GOES_ON = events("goes-on", "1 reopen 1 s; 1 front 1; 1 keep 1 t")
 GOES_ON_PACKED = events("goes-on-packed", "1 reopen 1 s; 1 front 1; 1 keep 1 t packed")
@@ -49,7 +52,7 @@ def refused(player: Player, script: Script, at: int, answer: str) -> bytes:
 def leftovers(player: Player) -> None:
     """Where a thousand files are left nothing is written, and all else is done; with one of them fewer everything is."""
     full = left(MOST_BESIDE)
-    for script, write in ((KEEPS, 1), (STORES, 2)):
+    for script, write in WRITES:
         hold(ended(player, script, full), 0, refused(player, script, write, "refused 22"), [full])
         clean = ended(player, script, {})
         for number in (0, 500, MOST_BESIDE - 1):
@@ -71,17 +74,59 @@ def named_socket(path: Path) -> None:
 
 
 def no_plain_file(make: Callable[[Path], None]) -> Callable[[Player], None]:
-    """Something else of a file's name is read as a file that is absent, at once, and a write takes its place. Where it has the
+    """Something else of a file's name is read as a file that is absent, at once, and isn't written: it stays. Where it has the
     name of a file that isn't whole, another such name is taken."""
 
     def holds(player: Player) -> None:
-        clean = ended(player, USES, {})
-        for name in ("s", f"{BESIDE}0"):
+        for script, write in WRITES:
+            wrote = refused(player, script, write, "refused 22")
             with player.folder({}) as folder:
-                make(folder / name)
-                lie = files_below(folder)
-                with player.begun(USES, Mode.AT_HAND, folder) as begun:
-                    hold(begun.ended(), 0, clean.wrote, [{**lie, **clean.files}])
+                make(folder / "s")
+                lie, there = files_below(folder), (folder / "s").lstat()
+                with player.begun(script, Mode.AT_HAND, folder) as begun:
+                    hold(begun.ended(), 0, wrote, [lie])
+                if not os.path.samestat((folder / "s").lstat(), there):
+                    raise Difference(f"{script.name} puts something else in its place")
+        clean = ended(player, USES, {})
+        with player.folder({}) as folder:
+            make(folder / f"{BESIDE}0")
+            lie = files_below(folder)
+            with player.begun(USES, Mode.AT_HAND, folder) as begun:
+                hold(begun.ended(), 0, clean.wrote, [{**lie, **clean.files}])
+
+    return holds
+
+
+def mode_of(path: Path) -> int:
+    return stat.S_IMODE(path.stat().st_mode)
+
+
+def usual_mode(room: Path) -> int:
+    """The mode of a new file."""
+    with tempfile.TemporaryDirectory(dir=room) as made:
+        path = Path(made) / "new"
+        path.touch()
+        return mode_of(path)
+
+
+def mode(before: int | None) -> Callable[[Player], None]:
+    """A file that is replaced keeps its mode, and at none of the calls may others do more with the new file than with the old
+    one. If there was no file, the new one has the usual mode."""
+
+    def holds(player: Player) -> None:
+        wanted = usual_mode(player.room) if before is None else before
+        for script, _ in WRITES:
+            with player.folder({}) as folder:
+                if before is not None:
+                    (folder / "s").touch()
+                    (folder / "s").chmod(before)
+                with player.begun(script, Mode.AT_HAND, folder) as begun:
+                    while begun.traced.next():
+                        for path in folder.iterdir():
+                            if mode_of(path) & ~wanted:
+                                raise Difference(f"{script.name}: {path.name} has mode {mode_of(path):o}")
+                if mode_of(folder / "s") != wanted:
+                    raise Difference(f"{script.name} leaves mode {mode_of(folder / 's'):o} in place of {wanted:o}")
 
     return holds
 
@@ -161,6 +206,10 @@ CASES: dict[str, Callable[[Player], None]] = {
     "link": no_plain_file(link),
     "link-to-nothing": no_plain_file(link_to_nothing),
     "socket": no_plain_file(named_socket),
+    "mode-600": mode(0o600),
+    "mode-640": mode(0o640),
+    "mode-664": mode(0o664),
+    "mode-of-a-new-file": mode(None),
     "two-sites": equal_lengths,
     "past-4-mib": long_file(1100),
     "too-long": too_long,

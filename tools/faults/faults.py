@@ -12,7 +12,7 @@ FAILED, INTERRUPTED, NO_MEMORY = ERRORS["EIO"], ERRORS["EINTR"], ERRORS["ENOMEM"
 NOTHING_TAKEN = Fault("no byte taken", answer=0)
 KILLED = Fault("killed before it", kills=True)
 # The calls of a write after whose failure the new file is removed.
-OF_A_WRITE = {"write", "fsync", "fdatasync", "rename", "renameat", "renameat2", "link", "linkat"}
+OF_A_WRITE = {"write", "fsync", "fdatasync", "fchmod", "rename", "renameat", "renameat2", "link", "linkat"}
 # Of more equal calls than this, one after the other, the first, the last and the one in the middle are tried.
 MOST_EQUAL = 6
 

@@ -1,6 +1,7 @@
 """Compares a run in which a call failed, or in which the program was killed at it, with what the pages say."""
 from __future__ import annotations
 
+import errno
 from enum import Enum
 
 from tools.faults.faults import INTERRUPTED, NO_MEMORY
@@ -54,6 +55,11 @@ def is_rename(call: Call) -> bool:
     return call.name.startswith(("rename", "link"))
 
 
+def only_asks(call: Call) -> bool:
+    """Whether a call has no buffer to fill. By such a call Rust's library asks once whether the system has it; if not, another does."""
+    return call.result == -errno.EFAULT
+
+
 class Judge:
     """Judges runs of one script, given in one mode."""
 
@@ -78,7 +84,8 @@ class Judge:
         call, line = self.plain.calls[number], self.plain.lines[number] - 1
         if removal or call.name in REMOVALS:
             ended = self.without_left(ended)
-        needs_no_answer = fault.count is not None or fault is INTERRUPTED or call.name in ("close", "lseek", *REMOVALS)
+        is_harmless = fault.count is not None or fault is INTERRUPTED or only_asks(call)
+        needs_no_answer = is_harmless or call.name in ("close", "lseek", *REMOVALS)
         if needs_no_answer and ended.wrote == self.plain.wrote:
             return self.same(ended)
         if fault.count is not None:

@@ -30,6 +30,7 @@ HOLD, LET = 0x7FF00000, 0x7FFF0000
 OF_DESCRIPTORS = {
     0: "read", 1: "write", 3: "close", 5: "fstat", 8: "lseek", 17: "pread64", 18: "pwrite64", 19: "readv", 20: "writev",
     74: "fsync", 75: "fdatasync", 77: "ftruncate",
+    91: "fchmod",
 }  # fmt: skip
 OF_NAMES = {
     2: "open", 4: "stat", 6: "lstat", 76: "truncate", 82: "rename", 86: "link", 87: "unlink", 257: "openat",

@@ -8,11 +8,11 @@ use Rattle.std.specs.declared.io.ErrorKind.TheVariants.{OutOfMemory}
 use Rattle.looks.specs.declared.refusal.Refusal.{Refusal}
 use Rattle.looks.specs.declared.refusal.Refusal.TheVariants.{OutOfMemory as Refused}
 use Rattle.folder_shelf.specs.Calls.{Fails, MakesFile, NoFault, Perhaps, Removes, Same, SyncsFolder, Well}
-use Rattle.folder_shelf.specs.Moments.{Among, Anything, Content, CrashLeaves, File, Goes, History, Moment, Names, Plain, Since, Survives, lasting, seen}
+use Rattle.folder_shelf.specs.Moments.{Among, Anything, Content, CrashLeaves, File, Goes, History, Moment, Names, Plain, Since, Special, Survives, lasting, mode_of, seen}
 use Rattle.folder_shelf.specs.Whole.{BeforeOrAfter, GivenUp, IsBeside, IsHindered, IsPlacedWhole, MakesBeside, Placing, Replaced}
 use Rattle.folder_shelf.proofs.Leading.{since_call, since_since, since_weaker}
 use Rattle.folder_shelf.proofs.Reading.{fails_after}
-use Rattle.folder_shelf.proofs.Replacing.{PlacingFails, before_or_after_made, before_or_after_placing, content_other, placing_removes, placing_same, placing_synced, survives_other}
+use Rattle.folder_shelf.proofs.Replacing.{PlacingFails, before_or_after_made, before_or_after_placing, content_other, made_mode, made_seen, placing_removes, placing_same, placing_synced, survives_other}
 
 module _ (beside : List ℕ) (file : ℕ) (name bytes : List ℕ) (is_beside : IsBeside beside) (not_beside : ¬ IsBeside name) where
   differs : beside ≢ name
@@ -74,8 +74,20 @@ module _ (beside : List ℕ) (file : ℕ) (name bytes : List ℕ) (is_beside : I
     )
     others_leave other d found (left, inr among, survives) = absurd (subst (λ (l : List Names). Among l other left) syncs.kept among)
 
+    not_made : name ≡ beside → ⊥
+    not_made e = differs (sym e)
+
+    has_mode : (before : ℕ) → mode_of a name ≡ Some before → mode_of n name ≡ Some before
+    has_mode before is =
+        ap (λ (left : Option ℕ). option_map (λ k. (n.files k).mode) left) name_file
+        ∙ ap (λ (x : ℕ). Some x) (ap (λ (files : ℕ → File). (files file).mode) syncs.files
+        ∙ placed.whole.mode before (made_mode beside file a m makes name not_made ∙ is))
+
+    was_plain : seen a name ≢ Some Special
+    was_plain is = placed.whole.plain (made_seen beside file a m makes name not_made ∙ is)
+
     is_replaced : NoFault a m → NoFault z n → Replaced name bytes a n
-    is_replaced first last = record { shows = shows; leaves = here_left; others_show = same_seen; others_leave = others_leave; no_fault = last ∙ (placed.no_fault ∙ first) }
+    is_replaced first last = record { shows = shows; leaves = here_left; mode = has_mode; plain = was_plain; others_show = same_seen; others_leave = others_leave; no_fault = last ∙ (placed.no_fault ∙ first) }
 
   -- a file was made, and then this was so
   pub record AfterMaking (Last : Moment → Moment → Type 0) (a z : Moment) : Type 0 where

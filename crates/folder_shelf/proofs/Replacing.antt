@@ -3,8 +3,8 @@ use Rattle.std.proofs.Common.{◌≡◌, ◌≢◌, ◌⊎◌, inl, inr, ℕ, tr
 use Rattle.std.specs.Prelude.{Option, Some, None}
 use Rattle.std.specs.Option.{option_map}
 use Rattle.std.specs.declared.io.Error.{Error}
-use Rattle.folder_shelf.specs.Calls.{AppendsToFile, Fails, MakesFile, Moves, NoFault, Perhaps, Removes, Same, Syncs, SyncsFolder, Touches, Well}
-use Rattle.folder_shelf.specs.Moments.{Among, Content, CrashLeaves, File, Goes, History, Moment, Names, Plain, Since, Survives, lasting, seen}
+use Rattle.folder_shelf.specs.Calls.{AppendsToFile, Fails, MakesFile, Moves, NoFault, Perhaps, Removes, Same, Syncs, SyncsFolder, TakesMode, Touches, Well}
+use Rattle.folder_shelf.specs.Moments.{Among, Content, CrashLeaves, File, Goes, History, Moment, Names, Plain, Since, Special, Survives, lasting, mode_of, seen}
 use Rattle.folder_shelf.specs.Whole.{BeforeOrAfter, IsBeside, IsPlacedWhole, IsWhole, MakesBeside, Placing}
 use Rattle.folder_shelf.proofs.Leading.{since_call, since_since}
 use Rattle.folder_shelf.proofs.Reading.{fails_after}
@@ -17,6 +17,11 @@ pub seen_same : (old now : Moment) (n : List ℕ) → Same old now → seen now 
 seen_same old now n same =
     ap (λ (names : Names). option_map (λ k. (now.files k).content) (names n)) same.names
     ∙ ap (λ (files : ℕ → File). option_map (λ k. (files k).content) (old.names n)) same.files
+
+mode_same : (old now : Moment) (n : List ℕ) → Same old now → mode_of now n ≡ mode_of old n
+mode_same old now n same =
+    ap (λ (names : Names). option_map (λ k. (now.files k).mode) (names n)) same.names
+    ∙ ap (λ (files : ℕ → File). option_map (λ k. (files k).mode) (old.names n)) same.files
 
 pub lasting_same : (old now : Moment) → now.names ≡ old.names → now.kept ≡ old.kept → (n : List ℕ) (left : Option ℕ)
     → Among (lasting now) n left → Among (lasting old) n left
@@ -42,10 +47,41 @@ pub content_other : (old now : ℕ → File) (left : Option ℕ)
 content_other old now None same = refl
 content_other old now (Some k) same = ap (λ (f : File). Some f.content) (same k refl)
 
+mode_other : (old now : ℕ → File) (left : Option ℕ)
+    → ((k : ℕ) → left ≡ Some k → now k ≡ old k) → option_map (λ k. (now k).mode) left ≡ option_map (λ k. (old k).mode) left
+mode_other old now None same = refl
+mode_other old now (Some k) same = ap (λ (f : File). Some f.mode) (same k refl)
+
+-- the making of a file leaves the files of other names
+module _ (beside : List ℕ) (file : ℕ) (old mid : Moment) (makes : MakesFile beside file old mid) (n : List ℕ) (differs : n ≡ beside → ⊥) where
+  made_files : (k : ℕ) → old.names n ≡ Some k → mid.files k ≡ old.files k
+  made_files k is = makes.files k (λ e. makes.fresh n (inl (sym (is ∙ ap (λ (j : ℕ). Some j) e))))
+
+  made_names : mid.names n ≡ old.names n
+  made_names = elim (makes.others n) [
+    | inl e ↦ absurd (differs e)
+    | inr same ↦ same
+  ]
+
+  pub made_mode : mode_of mid n ≡ mode_of old n
+  made_mode =
+      ap (λ (left : Option ℕ). option_map (λ k. (mid.files k).mode) left) made_names
+      ∙ mode_other old.files mid.files (old.names n) made_files
+
+  pub made_seen : seen mid n ≡ seen old n
+  made_seen =
+      ap (λ (left : Option ℕ). option_map (λ k. (mid.files k).content) left) made_names
+      ∙ content_other old.files mid.files (old.names n) made_files
+
+-- a file has the mode of a name's file, which is plain, if there is one
+pub record Takes (file : ℕ) (name : List ℕ) (old now : Moment) : Type 0 where
+  pub mode : (before : ℕ) → mode_of old name ≡ Some before → (now.files file).mode ≡ before
+  pub plain : seen old name ≢ Some Special
+
 -- Between the making of a file and the end, beside the moment before.
 pub record Under (beside : List ℕ) (file : ℕ) (name bytes : List ℕ) (old now : Moment) : Type 0 where
   pub names : (n : List ℕ) → (now.names n ≡ old.names n) ⊎ (n ≡ beside)
-      ⊎ ((n ≡ name) × (now.names n ≡ Some file) × ((now.files file).content ≡ Plain bytes))
+      ⊎ ((n ≡ name) × (now.names n ≡ Some file) × ((now.files file).content ≡ Plain bytes) × Takes file name old now)
   pub kept : (n : List ℕ) (left : Option ℕ) → Among (lasting now) n left → Among (lasting old) n left ⊎ (n ≡ beside)
       ⊎ ((n ≡ name) × (left ≡ Some file) × ((now.files file).content ≡ Plain bytes) × ((now.files file).synced ≡ true))
   pub files : (k : ℕ) → k ≢ file → now.files k ≡ old.files k
@@ -63,6 +99,11 @@ module _ (beside : List ℕ) (file : ℕ) (name bytes : List ℕ) (old now : Mom
   shows_old n e =
       ap (λ (left : Option ℕ). option_map (λ k. (now.files k).content) left) e
       ∙ content_other old.files now.files (old.names n) (same_at n (old.names n) (inl refl))
+
+  mode_old : (n : List ℕ) → now.names n ≡ old.names n → mode_of now n ≡ mode_of old n
+  mode_old n e =
+      ap (λ (left : Option ℕ). option_map (λ k. (now.files k).mode) left) e
+      ∙ mode_other old.files now.files (old.names n) (same_at n (old.names n) (inl refl))
 
   seen_under : (n : List ℕ) → (seen now n ≡ seen old n) ⊎ (n ≡ beside) ⊎ ((n ≡ name) × (seen now n ≡ Some (Plain bytes)))
   seen_under n = elim (under.names n) [
@@ -88,6 +129,20 @@ module _ (beside : List ℕ) (file : ℕ) (name bytes : List ℕ) (old now : Mom
     is_new : (other : List ℕ) → other ≡ beside → IsBeside other × (old.names other ≡ None)
     is_new other e = (subst (λ (n : List ℕ). IsBeside n) (sym e) is_beside, ap old.names e ∙ under.absent)
 
+    has_mode : (before : ℕ) → mode_of old name ≡ Some before → mode_of now name ≡ Some before
+    has_mode before is = elim (under.names name) [
+      | inl e ↦ mode_old name e ∙ is
+      | inr (inl e) ↦ absurd (not_named e)
+      | inr (inr w) ↦ ap (λ (left : Option ℕ). option_map (λ k. (now.files k).mode) left) w.1 ∙ ap (λ (x : ℕ). Some x) (w.3.mode before is)
+    ]
+
+    stays_special : seen old name ≡ Some Special → seen now name ≡ Some Special
+    stays_special is = elim (under.names name) [
+      | inl e ↦ shows_old name e ∙ is
+      | inr (inl e) ↦ absurd (not_named e)
+      | inr (inr w) ↦ absurd (w.3.plain is)
+    ]
+
     pub under_before_or_after : BeforeOrAfter name bytes old now
     under_before_or_after = record {
       shows = elim (seen_under name) [
@@ -100,6 +155,8 @@ module _ (beside : List ℕ) (file : ℕ) (name bytes : List ℕ) (old now : Mom
         | inr (inl e) ↦ absurd (not_named e)
         | inr (inr w) ↦ inr w.1
       ];
+      mode = has_mode;
+      special = stays_special;
       others_show = λ other differs. elim (seen_under other) [
         | inl before ↦ inl before
         | inr (inl e) ↦ inr (is_new other e)
@@ -113,16 +170,16 @@ module _ (beside : List ℕ) (file : ℕ) (name bytes : List ℕ) (old now : Mom
     }
 
 -- a file that was made, and the writing to it and the naming since
-pub under_made : (beside : List ℕ) (file : ℕ) (name bytes : List ℕ) (old mid now : Moment)
+pub under_made : (beside : List ℕ) (file : ℕ) (name bytes : List ℕ) (old mid now : Moment) → (name ≡ beside → ⊥)
     → MakesFile beside file old mid → Placing file beside name bytes mid now → Under beside file name bytes old now
-under_made beside file name bytes old mid now makes placing = record {
+under_made beside file name bytes old mid now differs makes placing = record {
   names = λ n. elim (placing.names n) [
     | inl e ↦ elim (makes.others n) [
       | inl b ↦ inr (inl b)
       | inr same ↦ inl (e ∙ same)
     ]
     | inr (inl b) ↦ inr (inl b)
-    | inr (inr w) ↦ inr (inr (w.0, w.1 ∙ makes.here, w.2.content makes.content))
+    | inr (inr w) ↦ inr (inr (w.0, w.1 ∙ makes.here, w.2.content makes.content, takes w.2))
   ];
   kept = λ n left among. elim (placing.kept n left among) [
     | inl before ↦ made_kept n left before
@@ -134,6 +191,12 @@ under_made beside file name bytes old mid now makes placing = record {
   fresh = makes.fresh;
 }
   where
+    takes : IsWhole file name bytes mid now → Takes file name old now
+    takes whole = record {
+      mode = λ before is. whole.mode before (made_mode beside file old mid makes name differs ∙ is);
+      plain = λ is. whole.plain (made_seen beside file old mid makes name differs ∙ is);
+    }
+
     made_kept : (n : List ℕ) (left : Option ℕ) → Among (lasting mid) n left → Among (lasting old) n left ⊎ (n ≡ beside)
         ⊎ ((n ≡ name) × (left ≡ Some file) × ((now.files file).content ≡ Plain bytes) × ((now.files file).synced ≡ true))
     made_kept n left (inl is) = elim (makes.others n) [
@@ -150,28 +213,34 @@ pub before_or_after_made : (name bytes : List ℕ) (old now : Moment) → (¬ Is
 before_or_after_made name bytes old now not_beside (inl same) = record {
   shows = inl (seen_same old now name same);
   leaves = λ found left. inl (leaves_same old now same name found left);
+  mode = λ before is. mode_same old now name same ∙ is;
+  special = λ is. seen_same old now name same ∙ is;
   others_show = λ other differs. inl (seen_same old now other same);
   others_leave = λ other differs found left. inl (leaves_same old now same other found left);
 }
 before_or_after_made name bytes old now not_beside (inr m) =
-    under_before_or_after m.0 m.1 name bytes old now (under_made m.0 m.1 name bytes old now now m.3 (placing_start m.1 m.0 name bytes now)) m.2 not_beside
+    under_before_or_after m.0 m.1 name bytes old now (under_made m.0 m.1 name bytes old now now (λ e. not_beside (subst (λ (n : List ℕ). IsBeside n) (sym e) m.2)) m.3 (placing_start m.1 m.0 name bytes now)) m.2 not_beside
 
 pub before_or_after_placing : (beside : List ℕ) (file : ℕ) (name bytes : List ℕ) (old mid now : Moment) → IsBeside beside → (¬ IsBeside name)
     → MakesFile beside file old mid → Placing file beside name bytes mid now → BeforeOrAfter name bytes old now
 before_or_after_placing beside file name bytes old mid now is_beside not_beside makes placing =
-    under_before_or_after beside file name bytes old now (under_made beside file name bytes old mid now makes placing) is_beside not_beside
+    under_before_or_after beside file name bytes old now
+    (under_made beside file name bytes old mid now (λ e. not_beside (subst (λ (n : List ℕ). IsBeside n) (sym e) is_beside)) makes placing)
+    is_beside not_beside
 
 -- One call more, while a file is placed.
 module _ (file : ℕ) (beside name bytes : List ℕ) (old mid now : Moment) (placing : Placing file beside name bytes old mid) where
-  whole_then : now.files ≡ mid.files → IsWhole file bytes old mid → IsWhole file bytes old now
+  whole_then : now.files ≡ mid.files → IsWhole file name bytes old mid → IsWhole file name bytes old now
   whole_then files w = record {
     content = λ empty. ap (λ (fs : ℕ → File). (fs file).content) files ∙ w.content empty;
     synced = ap (λ (fs : ℕ → File). (fs file).synced) files ∙ w.synced;
+    mode = λ before is. ap (λ (fs : ℕ → File). (fs file).mode) files ∙ w.mode before is;
+    plain = w.plain;
   }
 
   -- a name that is as it was in between
   names_then : now.files ≡ mid.files → (n : List ℕ) → now.names n ≡ mid.names n
-      → (now.names n ≡ old.names n) ⊎ (n ≡ beside) ⊎ ((n ≡ name) × (now.names n ≡ old.names beside) × IsWhole file bytes old now)
+      → (now.names n ≡ old.names n) ⊎ (n ≡ beside) ⊎ ((n ≡ name) × (now.names n ≡ old.names beside) × IsWhole file name bytes old now)
   names_then files n e = elim (placing.names n) [
     | inl same ↦ inl (e ∙ same)
     | inr (inl b) ↦ inr (inl b)
@@ -179,7 +248,7 @@ module _ (file : ℕ) (beside name bytes : List ℕ) (old mid now : Moment) (pla
   ]
 
   kept_then : now.files ≡ mid.files → (n : List ℕ) (left : Option ℕ) → Among (lasting mid) n left
-      → Among (lasting old) n left ⊎ (n ≡ beside) ⊎ ((n ≡ name) × (left ≡ old.names beside) × IsWhole file bytes old now)
+      → Among (lasting old) n left ⊎ (n ≡ beside) ⊎ ((n ≡ name) × (left ≡ old.names beside) × IsWhole file name bytes old now)
   kept_then files n left among = elim (placing.kept n left among) [
     | inl before ↦ inl before
     | inr (inl b) ↦ inr (inl b)
@@ -194,7 +263,7 @@ module _ (file : ℕ) (beside name bytes : List ℕ) (old mid now : Moment) (pla
   }
 
   removes_kept : Removes beside mid now → (n : List ℕ) (left : Option ℕ) → Among (lasting now) n left
-      → Among (lasting old) n left ⊎ (n ≡ beside) ⊎ ((n ≡ name) × (left ≡ old.names beside) × IsWhole file bytes old now)
+      → Among (lasting old) n left ⊎ (n ≡ beside) ⊎ ((n ≡ name) × (left ≡ old.names beside) × IsWhole file name bytes old now)
   removes_kept removes n left (inl is) = elim (removes.others n) [
     | inl b ↦ inr (inl b)
     | inr same ↦ kept_then removes.files n left (inl (is ∙ same))
@@ -234,7 +303,7 @@ module _ (file : ℕ) (beside name bytes : List ℕ) where
   -- the bytes are on the disk
   pub record Written (old now : Moment) : Type 0 where
     pub touches : Touches file old now
-    pub whole : IsWhole file bytes old now
+    pub whole : IsWhole file name bytes old now
     pub no_fault : NoFault old now
 
   touches_same : (old now : Moment) → Same old now → Touches file old now
@@ -258,15 +327,17 @@ module _ (file : ℕ) (beside name bytes : List ℕ) where
   touches_perhaps old now (inl same) = touches_same old now same
   touches_perhaps old now (inr touches) = touches
 
-  whole_moved : (old mid now : Moment) → now.files ≡ mid.files → IsWhole file bytes old mid → IsWhole file bytes old now
+  whole_moved : (old mid now : Moment) → now.files ≡ mid.files → IsWhole file name bytes old mid → IsWhole file name bytes old now
   whole_moved old mid now files w = record {
     content = λ empty. ap (λ (fs : ℕ → File). (fs file).content) files ∙ w.content empty;
     synced = ap (λ (fs : ℕ → File). (fs file).synced) files ∙ w.synced;
+    mode = λ before is. ap (λ (fs : ℕ → File). (fs file).mode) files ∙ w.mode before is;
+    plain = w.plain;
   }
 
-  moved_kept : (old mid now : Moment) → Touches file old mid → IsWhole file bytes old now → Moves beside name mid now
+  moved_kept : (old mid now : Moment) → Touches file old mid → IsWhole file name bytes old now → Moves beside name mid now
       → (n : List ℕ) (left : Option ℕ) → Among (lasting now) n left
-      → Among (lasting old) n left ⊎ (n ≡ beside) ⊎ ((n ≡ name) × (left ≡ old.names beside) × IsWhole file bytes old now)
+      → Among (lasting old) n left ⊎ (n ≡ beside) ⊎ ((n ≡ name) × (left ≡ old.names beside) × IsWhole file name bytes old now)
   moved_kept old mid now touches whole moves n left (inl is) = elim (moves.others n) [
     | inl b ↦ inr (inl b)
     | inr (inl e) ↦ inr (inr (e, is ∙ (ap now.names e ∙ (moves.here ∙ ap (λ (names : Names). names beside) touches.names)), whole))
@@ -277,7 +348,7 @@ module _ (file : ℕ) (beside name bytes : List ℕ) where
 
   placing_moves : (old mid now : Moment) → Written old mid → Moves beside name mid now → Placing file beside name bytes old now
   placing_moves old mid now written moves =
-      let whole : IsWhole file bytes old now = whole_moved old mid now moves.files written.whole in
+      let whole : IsWhole file name bytes old now = whole_moved old mid now moves.files written.whole in
       record {
         names = λ n. elim (moves.others n) [
           | inl b ↦ inr (inl b)
@@ -302,39 +373,83 @@ module _ (file : ℕ) (beside name bytes : List ℕ) where
     no_fault = none ∙ written.no_fault;
   }
 
-  pub put_append_fails : (error : Error) (h0 h1 : Option History) → Goes (Perhaps error (Touches file)) h0 h1 → Since IsPlaced (PlacingFails error) h0 h1
-  put_append_fails error = since_call (Perhaps error (Touches file)) IsPlaced (PlacingFails error)
+  -- the file has these bytes, and the mode of the name's file
+  record Filled (filled : List ℕ) (old now : Moment) : Type 0 where
+    touches : Touches file old now
+    content : (old.files file).content ≡ Plain [] → (now.files file).content ≡ Plain filled
+    takes : Takes file name old now
+    no_fault : NoFault old now
+
+  pub put_mode_fails : (error : Error) (h0 h1 : Option History) → Goes (Perhaps error (Touches file)) h0 h1 → Since IsPlaced (PlacingFails error) h0 h1
+  put_mode_fails error = since_call (Perhaps error (Touches file)) IsPlaced (PlacingFails error)
       (λ m n step. placing_touches m n (touches_perhaps m n step.0))
       (λ m n step. (placing_touches m n (touches_perhaps m n step.0), step.1))
 
-  appended : (h0 h1 : Option History) → Goes (Well (AppendsToFile file bytes)) h0 h1 → Since IsPlaced (Well (AppendsToFile file bytes)) h0 h1
-  appended = since_call (Well (AppendsToFile file bytes)) IsPlaced (Well (AppendsToFile file bytes)) (λ m n step. placing_touches m n step.0.touches) (λ m n step. step)
+  moded : (h0 h1 : Option History) → Goes (Well (TakesMode file name)) h0 h1 → Since IsPlaced (Filled []) h0 h1
+  moded = since_call (Well (TakesMode file name)) IsPlaced (Filled []) (λ m n step. placing_touches m n step.0.touches)
+      (λ m n step. record {
+        touches = step.0.touches;
+        content = λ empty. step.0.content ∙ empty;
+        takes = record { mode = step.0.mode; plain = step.0.plain };
+        no_fault = step.1;
+      })
 
-  pub put_sync_fails : (error : Error) (k : ℕ) → k ≡ file → (h0 h1 h2 : Option History) → Goes (Well (AppendsToFile file bytes)) h0 h1
+  filled_fails : (filled : List ℕ) (error : Error) (k : ℕ) → k ≡ file → (h0 h1 h2 : Option History) → Since IsPlaced (Filled filled) h0 h1
       → Goes (Perhaps error (Touches k)) h1 h2 → Since IsPlaced (PlacingFails error) h0 h2
-  put_sync_fails error k is h0 h1 h2 a b =
+  filled_fails filled error k is h0 h1 h2 a b =
       let step : Goes (Perhaps error (Touches file)) h1 h2 = subst (λ (j : ℕ). Goes (Perhaps error (Touches j)) h1 h2) is b in
-      since_since IsPlaced (Well (AppendsToFile file bytes)) (Touches file) (Perhaps error (Touches file)) IsPlaced (PlacingFails error)
+      since_since IsPlaced (Filled filled) (Touches file) (Perhaps error (Touches file)) IsPlaced (PlacingFails error)
       (λ m n p. p)
-      (λ l m n x y. placing_touches l n (touches_touches l m n x.0.touches y))
-      (λ l m n x y. (placing_touches l n (touches_touches l m n x.0.touches (touches_perhaps m n y.0)), fails_after error l m n x.1 y.1))
-      h0 h1 h2 (appended h0 h1 a)
+      (λ l m n x y. placing_touches l n (touches_touches l m n x.touches y))
+      (λ l m n x y. (placing_touches l n (touches_touches l m n x.touches (touches_perhaps m n y.0)), fails_after error l m n x.no_fault y.1))
+      h0 h1 h2 a
       (since_call (Perhaps error (Touches file)) (Touches file) (Perhaps error (Touches file)) (λ m n s. touches_perhaps m n s.0) (λ m n s. s) h1 h2 step)
 
-  written : (k : ℕ) → k ≡ file → (h0 h1 h2 : Option History) → Goes (Well (AppendsToFile file bytes)) h0 h1
-      → Goes (Well (Syncs k)) h1 h2 → Since IsPlaced Written h0 h2
-  written k is h0 h1 h2 a b =
-      let step : Goes (Well (Syncs file)) h1 h2 = subst (λ (j : ℕ). Goes (Well (Syncs j)) h1 h2) is b in
-      since_since IsPlaced (Well (AppendsToFile file bytes)) (Touches file) (Well (Syncs file)) IsPlaced Written
+  pub put_append_fails : (error : Error) (h0 h1 h2 : Option History) → Goes (Well (TakesMode file name)) h0 h1
+      → Goes (Perhaps error (Touches file)) h1 h2 → Since IsPlaced (PlacingFails error) h0 h2
+  put_append_fails error h0 h1 h2 a b = filled_fails [] error file refl h0 h1 h2 (moded h0 h1 a) b
+
+  filled_then : (l m n : Moment) → Filled [] l m → Well (AppendsToFile file bytes) m n → Filled bytes l n
+  filled_then l m n x y = record {
+    touches = touches_touches l m n x.touches y.0.touches;
+    content = λ empty. y.0.content [] (x.content empty);
+    takes = record { mode = λ before is. y.0.mode ∙ x.takes.mode before is; plain = x.takes.plain };
+    no_fault = y.1 ∙ x.no_fault;
+  }
+
+  appended : (h0 h1 h2 : Option History) → Goes (Well (TakesMode file name)) h0 h1 → Goes (Well (AppendsToFile file bytes)) h1 h2
+      → Since IsPlaced (Filled bytes) h0 h2
+  appended h0 h1 h2 a b =
+      since_since IsPlaced (Filled []) (Touches file) (Well (AppendsToFile file bytes)) IsPlaced (Filled bytes)
       (λ m n p. p)
-      (λ l m n x y. placing_touches l n (touches_touches l m n x.0.touches y))
+      (λ l m n x y. placing_touches l n (touches_touches l m n x.touches y))
+      filled_then
+      h0 h1 h2 (moded h0 h1 a)
+      (since_call (Well (AppendsToFile file bytes)) (Touches file) (Well (AppendsToFile file bytes)) (λ m n s. s.0.touches) (λ m n s. s) h1 h2 b)
+
+  pub put_sync_fails : (error : Error) (k : ℕ) → k ≡ file → (h0 h1 h2 h3 : Option History) → Goes (Well (TakesMode file name)) h0 h1
+      → Goes (Well (AppendsToFile file bytes)) h1 h2 → Goes (Perhaps error (Touches k)) h2 h3 → Since IsPlaced (PlacingFails error) h0 h3
+  put_sync_fails error k is h0 h1 h2 h3 a b d = filled_fails bytes error k is h0 h2 h3 (appended h0 h1 h2 a b) d
+
+  written : (k : ℕ) → k ≡ file → (h0 h1 h2 h3 : Option History) → Goes (Well (TakesMode file name)) h0 h1
+      → Goes (Well (AppendsToFile file bytes)) h1 h2 → Goes (Well (Syncs k)) h2 h3 → Since IsPlaced Written h0 h3
+  written k is h0 h1 h2 h3 a b d =
+      let step : Goes (Well (Syncs file)) h2 h3 = subst (λ (j : ℕ). Goes (Well (Syncs j)) h2 h3) is d in
+      since_since IsPlaced (Filled bytes) (Touches file) (Well (Syncs file)) IsPlaced Written
+      (λ m n p. p)
+      (λ l m n x y. placing_touches l n (touches_touches l m n x.touches y))
       (λ l m n x y. record {
-        touches = touches_touches l m n x.0.touches y.0.touches;
-        whole = record { content = λ empty. y.0.content ∙ x.0.content [] empty; synced = y.0.synced };
-        no_fault = y.1 ∙ x.1;
+        touches = touches_touches l m n x.touches y.0.touches;
+        whole = record {
+          content = λ empty. y.0.content ∙ x.content empty;
+          synced = y.0.synced;
+          mode = λ before is. y.0.mode ∙ x.takes.mode before is;
+          plain = x.takes.plain;
+        };
+        no_fault = y.1 ∙ x.no_fault;
       })
-      h0 h1 h2 (appended h0 h1 a)
-      (since_call (Well (Syncs file)) (Touches file) (Well (Syncs file)) (λ m n s. s.0.touches) (λ m n s. s) h1 h2 step)
+      h0 h2 h3 (appended h0 h1 h2 a b)
+      (since_call (Well (Syncs file)) (Touches file) (Well (Syncs file)) (λ m n s. s.0.touches) (λ m n s. s) h2 h3 step)
 
   abbrev IsMoved : Moment → Moment → Type 0
   IsMoved mid now = Same mid now ⊎ Moves beside name mid now
@@ -343,22 +458,24 @@ module _ (file : ℕ) (beside name bytes : List ℕ) where
   placing_moved old mid now w (inl same) = placing_touches old now (touches_touches old mid now w.touches (touches_same mid now same))
   placing_moved old mid now w (inr moves) = placing_moves old mid now w moves
 
-  pub put_placed : (k : ℕ) → k ≡ file → (h0 h1 h2 h3 : Option History) → Goes (Well (AppendsToFile file bytes)) h0 h1
-      → Goes (Well (Syncs k)) h1 h2 → Goes (Well (Moves beside name)) h2 h3 → Since IsPlaced (IsPlacedWhole file beside name bytes) h0 h3
-  put_placed k is h0 h1 h2 h3 a b d =
+  pub put_placed : (k : ℕ) → k ≡ file → (h0 h1 h2 h3 h4 : Option History) → Goes (Well (TakesMode file name)) h0 h1
+      → Goes (Well (AppendsToFile file bytes)) h1 h2 → Goes (Well (Syncs k)) h2 h3 → Goes (Well (Moves beside name)) h3 h4
+      → Since IsPlaced (IsPlacedWhole file beside name bytes) h0 h4
+  put_placed k is h0 h1 h2 h3 h4 a b d e =
       since_since IsPlaced Written IsMoved (Well (Moves beside name)) IsPlaced (IsPlacedWhole file beside name bytes)
       (λ m n p. p)
       placing_moved
       (λ l m n x y. placed_moves l m n x y.0 y.1)
-      h0 h2 h3 (written k is h0 h1 h2 a b)
-      (since_call (Well (Moves beside name)) IsMoved (Well (Moves beside name)) (λ m n s. inr s.0) (λ m n s. s) h2 h3 d)
+      h0 h3 h4 (written k is h0 h1 h2 h3 a b d)
+      (since_call (Well (Moves beside name)) IsMoved (Well (Moves beside name)) (λ m n s. inr s.0) (λ m n s. s) h3 h4 e)
 
-  pub put_move_fails : (error : Error) (k : ℕ) → k ≡ file → (h0 h1 h2 h3 : Option History) → Goes (Well (AppendsToFile file bytes)) h0 h1
-      → Goes (Well (Syncs k)) h1 h2 → Goes (Perhaps error (Moves beside name)) h2 h3 → Since IsPlaced (PlacingFails error) h0 h3
-  put_move_fails error k is h0 h1 h2 h3 a b d =
+  pub put_move_fails : (error : Error) (k : ℕ) → k ≡ file → (h0 h1 h2 h3 h4 : Option History) → Goes (Well (TakesMode file name)) h0 h1
+      → Goes (Well (AppendsToFile file bytes)) h1 h2 → Goes (Well (Syncs k)) h2 h3 → Goes (Perhaps error (Moves beside name)) h3 h4
+      → Since IsPlaced (PlacingFails error) h0 h4
+  put_move_fails error k is h0 h1 h2 h3 h4 a b d e =
       since_since IsPlaced Written IsMoved (Perhaps error (Moves beside name)) IsPlaced (PlacingFails error)
       (λ m n p. p)
       placing_moved
       (λ l m n x y. (placing_moved l m n x y.0, fails_after error l m n x.no_fault y.1))
-      h0 h2 h3 (written k is h0 h1 h2 a b)
-      (since_call (Perhaps error (Moves beside name)) IsMoved (Perhaps error (Moves beside name)) (λ m n s. s.0) (λ m n s. s) h2 h3 d)
+      h0 h3 h4 (written k is h0 h1 h2 h3 a b d)
+      (since_call (Perhaps error (Moves beside name)) IsMoved (Perhaps error (Moves beside name)) (λ m n s. s.0) (λ m n s. s) h3 h4 e)

@@ -3,8 +3,8 @@ use Rattle.std.specs.Prelude.{◌≡◌, ◌≢◌, ◌⊎◌, ◌<◌, ◌≤�
 use Rattle.std.specs.IoError.{error_kind}
 use Rattle.std.specs.declared.io.Error.{Error}
 use Rattle.std.specs.declared.io.ErrorKind.TheVariants.{AlreadyExists, OutOfMemory}
-use Rattle.folder_shelf.specs.Moments.{Among, Moment, Plain, lasting, seen}
-use Rattle.folder_shelf.specs.declared.folder.TheConstants.{MAX_PIECE}
+use Rattle.folder_shelf.specs.Moments.{Among, Moment, Plain, Special, lasting, mode_of, seen}
+use Rattle.folder_shelf.specs.declared.folder.TheConstants.{MAX_PIECE, PRIVATE}
 
 -- no name and no file changes
 pub record Same (old new : Moment) : Type 0 where
@@ -34,6 +34,11 @@ pub record MakesFile (name : List ℕ) (file : ℕ) (old new : Moment) : Type 0 
   pub content : (new.files file).content ≡ Plain []
   pub files : (other : ℕ) → other ≢ file → new.files other ≡ old.files other
 
+-- a new file that is to take the place of a name's plain file, if there is one, is its owner's alone
+pub record IsMadeFor (target : List ℕ) (file : ℕ) (old new : Moment) : Type 0 where
+  pub private : mode_of old target ≢ None → (new.files file).mode ≡ PRIVATE
+  pub plain : seen old target ≢ Some Special
+
 -- A making that failed: the name has a file, and nothing has changed; or otherwise, and then a file may have been made.
 abbrev pub MakesNot : Error → (name : List ℕ) → (old new : Moment) → Type 0
 MakesNot error name old new =
@@ -50,11 +55,20 @@ pub record Touches (file : ℕ) (old new : Moment) : Type 0 where
 pub record AppendsToFile (file : ℕ) (bytes : List ℕ) (old new : Moment) : Type 0 where
   pub touches : Touches file old new
   pub content : (before : List ℕ) → (old.files file).content ≡ Plain before → (new.files file).content ≡ Plain (before ++ bytes)
+  pub mode : (new.files file).mode ≡ (old.files file).mode
+
+-- a file has the mode of a name's file, if there is one; and that is plain
+pub record TakesMode (file : ℕ) (name : List ℕ) (old new : Moment) : Type 0 where
+  pub touches : Touches file old new
+  pub content : (new.files file).content ≡ (old.files file).content
+  pub mode : (before : ℕ) → mode_of old name ≡ Some before → (new.files file).mode ≡ before
+  pub plain : seen old name ≢ Some Special
 
 -- a file's content is on the disk
 pub record Syncs (file : ℕ) (old new : Moment) : Type 0 where
   pub touches : Touches file old new
   pub content : (new.files file).content ≡ (old.files file).content
+  pub mode : (new.files file).mode ≡ (old.files file).mode
   pub synced : (new.files file).synced ≡ true
 
 -- a name takes the file of another, in place of its own

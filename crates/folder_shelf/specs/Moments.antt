@@ -12,6 +12,8 @@ pub data Content : Type 0 where
 pub record File : Type 0 where
   pub content : Content
   pub synced : Bool
+  -- what its owner, its group and others may do with it
+  pub mode : ℕ
 
 -- the file of each name, by its number
 abbrev pub Names : Type 0
@@ -34,6 +36,10 @@ pub record History : Type 0 where
 -- what a name leads to
 abbrev pub seen : Moment → (name : List ℕ) → Option Content
 seen moment name = option_map (λ file. (moment.files file).content) (moment.names name)
+
+-- the mode of a name's file
+abbrev pub mode_of : Moment → (name : List ℕ) → Option ℕ
+mode_of moment name = option_map (λ file. (moment.files file).mode) (moment.names name)
 
 -- some of these names has this file, or none
 abbrev pub Among : List Names → (name : List ℕ) → Option ℕ → Type 0

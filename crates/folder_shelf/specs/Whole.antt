@@ -4,7 +4,7 @@ use Rattle.std.specs.IoError.{error_kind}
 use Rattle.std.specs.declared.io.Error.{Error}
 use Rattle.std.specs.declared.io.ErrorKind.TheVariants.{AlreadyExists, OutOfMemory}
 use Rattle.folder_shelf.specs.Calls.{CallFailed, MakesFile, NoFault, Same}
-use Rattle.folder_shelf.specs.Moments.{Among, Content, CrashLeaves, Moment, Plain, lasting, seen}
+use Rattle.folder_shelf.specs.Moments.{Among, Content, CrashLeaves, Moment, Plain, Special, lasting, mode_of, seen}
 use Rattle.folder_shelf.specs.declared.whole_files.TheConstants.{BESIDE, MAX_FILE_LEN}
 
 -- the name of a file that isn't whole yet
@@ -12,18 +12,24 @@ abbrev pub IsBeside : List ℕ → Type 0
 IsBeside name = (number : List ℕ) × (name ≡ BESIDE.now ++ number)
 
 -- At a moment of the replacing of a file: the name shows what it did before, or the new bytes, whole, and a crash leaves
--- under it what it could before, or the new bytes, whole; so does another name, but for a new file beside.
+-- under it what it could before, or the new bytes, whole; so does another name, but for a new file beside. The name's file has
+-- the mode that it had before, and what is no plain file stays.
 pub record BeforeOrAfter (name bytes : List ℕ) (old now : Moment) : Type 0 where
   pub shows : (seen now name ≡ seen old name) ⊎ (seen now name ≡ Some (Plain bytes))
   pub leaves : (found : Option Content) → CrashLeaves now name found → CrashLeaves old name found ⊎ (found ≡ Some (Plain bytes))
+  pub mode : (before : ℕ) → mode_of old name ≡ Some before → mode_of now name ≡ Some before
+  pub special : seen old name ≡ Some Special → seen now name ≡ Some Special
   pub others_show : (other : List ℕ) → other ≢ name → (seen now other ≡ seen old other) ⊎ (IsBeside other × (old.names other ≡ None))
   pub others_leave : (other : List ℕ) → other ≢ name → (found : Option Content) → CrashLeaves now other found
       → CrashLeaves old other found ⊎ (IsBeside other × (old.names other ≡ None))
 
--- The file is replaced: the name shows the new bytes, whole, a crash leaves them, and no other name has changed.
+-- The file is replaced: the name shows the new bytes, whole, a crash leaves them, and no other name has changed. The file has
+-- the mode of the one before, if there was one, which was plain.
 pub record Replaced (name bytes : List ℕ) (old now : Moment) : Type 0 where
   pub shows : seen now name ≡ Some (Plain bytes)
   pub leaves : (found : Option Content) → CrashLeaves now name found → found ≡ Some (Plain bytes)
+  pub mode : (before : ℕ) → mode_of old name ≡ Some before → mode_of now name ≡ Some before
+  pub plain : seen old name ≢ Some Special
   pub others_show : (other : List ℕ) → other ≢ name → seen now other ≡ seen old other
   pub others_leave : (other : List ℕ) → other ≢ name → (found : Option Content) → CrashLeaves now other found → CrashLeaves old other found
   pub no_fault : NoFault old now
@@ -42,18 +48,21 @@ GivenUp error old now =
 abbrev pub MakesBeside : (old now : Moment) → Type 0
 MakesBeside old now = Same old now ⊎ ((beside : List ℕ) × (file : ℕ) × IsBeside beside × MakesFile beside file old now)
 
--- a file that was new, and so empty, has these bytes, and they are on the disk
-pub record IsWhole (file : ℕ) (bytes : List ℕ) (old now : Moment) : Type 0 where
+-- a file that was new, and so empty, has these bytes, and they are on the disk; it has the mode of the name's file, if there is
+-- one, which is plain
+pub record IsWhole (file : ℕ) (name bytes : List ℕ) (old now : Moment) : Type 0 where
   pub content : (old.files file).content ≡ Plain [] → (now.files file).content ≡ Plain bytes
   pub synced : (now.files file).synced ≡ true
+  pub mode : (before : ℕ) → mode_of old name ≡ Some before → (now.files file).mode ≡ before
+  pub plain : seen old name ≢ Some Special
 
 -- While bytes are written to a new file beside, which then takes a name: no other name and no other file changes, and the
 -- name has another file, or may have it after a crash, only when that file is whole.
 pub record Placing (file : ℕ) (beside name bytes : List ℕ) (old now : Moment) : Type 0 where
   pub names : (other : List ℕ) → (now.names other ≡ old.names other) ⊎ (other ≡ beside)
-      ⊎ ((other ≡ name) × (now.names other ≡ old.names beside) × IsWhole file bytes old now)
+      ⊎ ((other ≡ name) × (now.names other ≡ old.names beside) × IsWhole file name bytes old now)
   pub kept : (other : List ℕ) (left : Option ℕ) → Among (lasting now) other left → Among (lasting old) other left ⊎ (other ≡ beside)
-      ⊎ ((other ≡ name) × (left ≡ old.names beside) × IsWhole file bytes old now)
+      ⊎ ((other ≡ name) × (left ≡ old.names beside) × IsWhole file name bytes old now)
   pub files : (other : ℕ) → other ≢ file → now.files other ≡ old.files other
 
 -- the name has the file, which is whole
@@ -62,7 +71,7 @@ pub record IsPlacedWhole (file : ℕ) (beside name bytes : List ℕ) (old now : 
   pub gone : beside ≢ name → now.names beside ≡ None
   pub here : now.names name ≡ old.names beside
   pub others : (other : List ℕ) → (other ≡ beside) ⊎ (other ≡ name) ⊎ (now.names other ≡ old.names other)
-  pub whole : IsWhole file bytes old now
+  pub whole : IsWhole file name bytes old now
   pub no_fault : NoFault old now
 
 -- a name has no plain file, or one that is too long

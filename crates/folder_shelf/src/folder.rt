@@ -1,11 +1,14 @@
 ghost use Rattle.std.specs.Prelude.{◌≡◌, ◌+◌, IfErr, IfOk, OnOk, length};
-ghost use Rattle.folder_shelf.specs.Calls.{AnswersLength, AppendsToFile, GivesPiece, MakesFile, MakesNot, Moves, Perhaps, Removes, Same, Syncs, SyncsFolder, Touches, Well};
+ghost use Rattle.folder_shelf.specs.Calls.{AnswersLength, AppendsToFile, GivesPiece, IsMadeFor, MakesFile, MakesNot, Moves, Perhaps, Removes, Same, Syncs, SyncsFolder, TakesMode, Touches, Well};
 ghost use Rattle.folder_shelf.specs.Moments.{Goes};
 
 use std::io;
 
 /// The most bytes that one call reads.
 pub const MAX_PIECE: usize = 1 << 20;
+
+/// The mode of a new file that is to take the place of another, until it has the mode of that: its owner reads and writes it.
+pub const PRIVATE: u32 = 0o600;
 
 /// A folder in which nobody else writes meanwhile, by the calls that it takes.
 pub trait Folder {
@@ -24,10 +27,17 @@ pub trait Folder {
     // How many bytes of an open file were read.
     ghost place: { Self.File → ℕ };
 
-    /// Makes a file under a name that has none, and opens it for writing.
-    fn make_new(&mut self, name: &str) -> io::Result<Self::File>
+    /// Makes a file under a name that has none, and opens it for writing. It is to take the place of the target's plain file,
+    /// and is private if there is one. It fails if the target is something else.
+    fn make_new(&mut self, name: &str, target: &str) -> io::Result<Self::File>
         ensures ok { IfOk result (λ file. Goes (Well (MakesFile name.now (number file))) (history self.old) (history self.new)) }
+        ensures target { IfOk result (λ file. Goes (IsMadeFor target.now (number file)) (history self.old) (history self.new)) }
         ensures err { IfErr result (λ error. Goes (MakesNot error name.now) (history self.old) (history self.new)) };
+
+    /// Gives a file the mode of a name's plain file, if it has one. It fails if the name has something else.
+    fn take_mode(&mut self, file: &Self::File, name: &str) -> io::Result<()>
+        ensures ok { OnOk result (Goes (Well (TakesMode (number file.now) name.now)) (history self.old) (history self.new)) }
+        ensures err { IfErr result (λ error. Goes (Perhaps error (Touches (number file.now))) (history self.old) (history self.new)) };
 
     /// Writes these bytes at a file's end.
     fn append(&mut self, file: &mut Self::File, bytes: &[u8]) -> io::Result<()>

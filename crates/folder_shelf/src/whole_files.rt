@@ -109,8 +109,12 @@ fn is_taken(why: &io::Error) -> bool
     matches!(why.kind(), ErrorKind::AlreadyExists)
 }
 
-// A new file beside the others, and its name.
-fn new_beside<F: Folder>(folder: &mut F, alloc: Global) -> io::Result<(F::File, String)>
+// A new file beside the others, which is to take the place of that of a name, and its own name.
+fn new_beside<F: Folder>(
+    folder: &mut F,
+    alloc: Global,
+    target: &str,
+) -> io::Result<(F::File, String)>
     ensures beside { IfOk result (λ made. IsBeside (string_bytes made.1)) }
     ensures no_file { IfOk result (λ made. IsFalse (is_file_name (string_bytes made.1))) }
     ensures ok { IfOk result (λ made. Since MakesBeside (Well (MakesFile (string_bytes made.1) (F.number made.0)))
@@ -119,7 +123,7 @@ fn new_beside<F: Folder>(folder: &mut F, alloc: Global) -> io::Result<(F::File, 
 {
     for number in 0..MAX_BESIDE {
         let name = name_beside(alloc, number)?;
-        match folder.make_new(name.as_str()) {
+        match folder.make_new(name.as_str(), target) {
             Ok(file) => return Ok((file, name)),
             Err(why) if is_taken(&why) => {}
             Err(why) => return Err(why),
@@ -128,7 +132,7 @@ fn new_beside<F: Folder>(folder: &mut F, alloc: Global) -> io::Result<(F::File, 
     Err(ErrorKind::AlreadyExists.into())
 }
 
-// Writes the bytes to a new file, waits until the disk has them, and gives it the name.
+// Gives a new file the mode of the name's, writes the bytes to it, waits until the disk has them, and gives it the name.
 fn write_and_rename<F: Folder>(
     folder: &mut F,
     mut file: F::File,
@@ -142,6 +146,7 @@ fn write_and_rename<F: Folder>(
         (λ old now. Placing (F.number file) beside.now name.now bytes.now old now × Fails error old now)
         (F.history folder.old) (F.history folder.new)) }
 {
+    folder.take_mode(&file, name)?;
     folder.append(&mut file, bytes)?;
     folder.sync(&file)?;
     folder.rename(beside, name)
@@ -155,7 +160,7 @@ pub fn replace<F: Folder>(folder: &mut F, alloc: Global, name: &str, bytes: &[u8
     ensures done { OnOk result (Since Anything (Replaced name.now bytes.now) (F.history folder.old) (F.history folder.new)) }
     ensures cause { IfErr result (λ error. Since Anything (GivenUp error) (F.history folder.old) (F.history folder.new)) }
 {
-    let (file, beside) = new_beside(folder, alloc)?;
+    let (file, beside) = new_beside(folder, alloc, name)?;
     match write_and_rename(folder, file, beside.as_str(), name, bytes) {
         Ok(()) => folder.sync_folder(),
         Err(why) => {

@@ -5,13 +5,20 @@ use std::io;
 /// The most bytes that one call reads.
 pub const MAX_PIECE: usize = 1 << 20;
 
+/// The mode of a new file that is to take the place of another, until it has the mode of that: its owner reads and writes it.
+pub const PRIVATE: u32 = 0o600;
+
 /// A folder in which nobody else writes meanwhile, by the calls that it takes.
 pub trait Folder {
     /// An open file.
     type File;
 
-    /// Makes a file under a name that has none, and opens it for writing.
-    fn make_new(&mut self, name: &str) -> io::Result<Self::File>;
+    /// Makes a file under a name that has none, and opens it for writing. It is to take the place of the target's plain file,
+    /// and is private if there is one. It fails if the target is something else.
+    fn make_new(&mut self, name: &str, target: &str) -> io::Result<Self::File>;
+
+    /// Gives a file the mode of a name's plain file, if it has one. It fails if the name has something else.
+    fn take_mode(&mut self, file: &Self::File, name: &str) -> io::Result<()>;
 
     /// Writes these bytes at a file's end.
     fn append(&mut self, file: &mut Self::File, bytes: &[u8]) -> io::Result<()>;

@@ -7,7 +7,7 @@ mod folder_shelf;
 mod host_folder;
 mod whole_files;
 
-pub use folder::{Folder, MAX_PIECE};
+pub use folder::{Folder, MAX_PIECE, PRIVATE};
 pub use folder_shelf::{FolderShelf, HostShelf};
 pub use host_folder::HostFolder;
 

@@ -72,11 +72,15 @@ fn is_taken(why: &io::Error) -> bool {
     matches!(why.kind(), ErrorKind::AlreadyExists)
 }
 
-// A new file beside the others, and its name.
-fn new_beside<F: Folder>(folder: &mut F, alloc: Global) -> io::Result<(F::File, String)> {
+// A new file beside the others, which is to take the place of that of a name, and its own name.
+fn new_beside<F: Folder>(
+    folder: &mut F,
+    alloc: Global,
+    target: &str,
+) -> io::Result<(F::File, String)> {
     for number in 0..MAX_BESIDE {
         let name = name_beside(alloc, number)?;
-        match folder.make_new(name.as_str()) {
+        match folder.make_new(name.as_str(), target) {
             Ok(file) => return Ok((file, name)),
             Err(why) if is_taken(&why) => {}
             Err(why) => return Err(why),
@@ -85,7 +89,7 @@ fn new_beside<F: Folder>(folder: &mut F, alloc: Global) -> io::Result<(F::File, 
     Err(ErrorKind::AlreadyExists.into())
 }
 
-// Writes the bytes to a new file, waits until the disk has them, and gives it the name.
+// Gives a new file the mode of the name's, writes the bytes to it, waits until the disk has them, and gives it the name.
 fn write_and_rename<F: Folder>(
     folder: &mut F,
     mut file: F::File,
@@ -93,6 +97,7 @@ fn write_and_rename<F: Folder>(
     name: &str,
     bytes: &[u8],
 ) -> io::Result<()> {
+    folder.take_mode(&file, name)?;
     folder.append(&mut file, bytes)?;
     folder.sync(&file)?;
     folder.rename(beside, name)
@@ -103,7 +108,7 @@ fn write_and_rename<F: Folder>(
 ///
 /// Asks of its caller: `¬ IsBeside name.now`.
 pub fn replace<F: Folder>(folder: &mut F, alloc: Global, name: &str, bytes: &[u8]) -> io::Result<()> {
-    let (file, beside) = new_beside(folder, alloc)?;
+    let (file, beside) = new_beside(folder, alloc, name)?;
     match write_and_rename(folder, file, beside.as_str(), name, bytes) {
         Ok(()) => folder.sync_folder(),
         Err(why) => {

@@ -1,7 +1,7 @@
 //! A folder over memory that tells its history, and of which calls fail by chance.
 use super::dice::Dice;
-use super::told::{Content, Kept, Moment, Names};
-use folder_shelf::Folder;
+use super::told::{Content, Kept, Moment, Names, USUAL};
+use folder_shelf::{Folder, PRIVATE};
 use std::io::{self, ErrorKind};
 
 /// An open file: its number, and how many bytes of it were read.
@@ -27,6 +27,8 @@ pub struct FolderInMemory {
     pub dice: Dice,
     /// One call in so many fails; none at 0.
     pub fails: usize,
+    /// The mode of a new file.
+    pub usual: u32,
 }
 
 impl FolderInMemory {
@@ -36,6 +38,7 @@ impl FolderInMemory {
             past: Vec::new(),
             dice,
             fails,
+            usual: USUAL,
         }
     }
 
@@ -82,7 +85,8 @@ impl FolderInMemory {
         for name in moment.lasting_names() {
             let names = &lasting[dice.below(lasting.len())];
             if let Some(file) = names.get(&name) {
-                left.push((name, surviving(&moment.files[*file], &mut dice)));
+                let kept = &moment.files[*file];
+                left.push((name, surviving(kept, &mut dice), kept.mode));
             }
         }
         FolderInMemory::new(Moment::of(left), dice, self.fails)
@@ -119,11 +123,22 @@ fn number_of(moment: &Moment, name: &str) -> io::Result<usize> {
         .ok_or_else(|| ErrorKind::NotFound.into())
 }
 
+// The mode of a name's plain file, if it has one; something else is an error.
+fn mode_of(moment: &Moment, name: &str) -> io::Result<Option<u32>> {
+    match moment.seen(name) {
+        Some(Content::Special) => Err(ErrorKind::InvalidInput.into()),
+        _ => Ok(moment.mode(name)),
+    }
+}
+
 impl Folder for FolderInMemory {
     type File = Open;
 
-    fn make_new(&mut self, name: &str) -> io::Result<Open> {
-        let end = if self.now.names.contains_key(name) {
+    fn make_new(&mut self, name: &str, target: &str) -> io::Result<Open> {
+        let (old, usual) = (mode_of(&self.now, target), self.usual);
+        let end = if let Err(why) = &old {
+            End::Before(why.kind())
+        } else if self.now.names.contains_key(name) {
             End::Before(ErrorKind::AlreadyExists)
         } else {
             self.end()
@@ -133,9 +148,19 @@ impl Folder for FolderInMemory {
             moment.files.push(Kept {
                 content: Content::Plain(Vec::new()),
                 synced: false,
+                mode: if matches!(old, Ok(Some(_))) { PRIVATE } else { usual },
             });
             rename_all(moment, |names| _ = names.insert(name.to_owned(), number));
             Ok(Open { number, place: 0 })
+        })
+    }
+
+    fn take_mode(&mut self, file: &Open, name: &str) -> io::Result<()> {
+        self.go(|moment| {
+            if let Some(mode) = mode_of(moment, name)? {
+                moment.files[file.number].mode = mode;
+            }
+            Ok(())
         })
     }
 

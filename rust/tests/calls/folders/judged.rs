@@ -1,7 +1,7 @@
 //! Each call of the folder over memory, held to what a folder's contract says of it.
 use super::in_memory::{FolderInMemory, Open};
 use super::told::{Content, Moment, Names};
-use folder_shelf::{Folder, MAX_PIECE};
+use folder_shelf::{Folder, MAX_PIECE, PRIVATE};
 use std::io::{self, ErrorKind};
 
 pub struct Judged {
@@ -51,6 +51,12 @@ fn makes(name: &str, file: usize, old: &Moment, new: &Moment) -> bool {
         && other_files_stay(file, old, new)
 }
 
+// Whether a new file that is to take the place of a name's plain file, if there is one, is its owner's alone.
+fn is_made_for(target: &str, file: usize, old: &Moment, new: &Moment) -> bool {
+    old.seen(target) != Some(&Content::Special)
+        && (!old.names.contains_key(target) || new.files[file].mode == PRIVATE)
+}
+
 fn makes_not(why: &io::Error, name: &str, old: &Moment, new: &Moment) -> bool {
     if why.kind() == ErrorKind::AlreadyExists {
         return old.names.contains_key(name) && same(old, new) && no_fault(old, new);
@@ -63,15 +69,27 @@ fn touches(file: usize, old: &Moment, new: &Moment) -> bool {
     old.names == new.names && old.kept == new.kept && other_files_stay(file, old, new)
 }
 
+fn takes_mode(file: usize, name: &str, old: &Moment, new: &Moment) -> bool {
+    touches(file, old, new)
+        && new.files[file].content == old.files[file].content
+        && old.mode(name).is_none_or(|mode| new.files[file].mode == mode)
+        && old.seen(name) != Some(&Content::Special)
+}
+
 fn appends(file: usize, bytes: &[u8], old: &Moment, new: &Moment) -> bool {
     let Content::Plain(before) = &old.files[file].content else {
         return touches(file, old, new);
     };
-    touches(file, old, new) && new.files[file].content == Content::Plain([before, bytes].concat())
+    touches(file, old, new)
+        && new.files[file].content == Content::Plain([before, bytes].concat())
+        && new.files[file].mode == old.files[file].mode
 }
 
 fn syncs(file: usize, old: &Moment, new: &Moment) -> bool {
-    touches(file, old, new) && new.files[file].content == old.files[file].content && new.files[file].synced
+    touches(file, old, new)
+        && new.files[file].content == old.files[file].content
+        && new.files[file].mode == old.files[file].mode
+        && new.files[file].synced
 }
 
 fn moves(from: &str, to: &str, old: &Moment, new: &Moment) -> bool {
@@ -145,13 +163,25 @@ fn perhaps(step: impl FnOnce(&Moment, &Moment) -> bool) -> impl FnOnce(&io::Erro
 impl Folder for Judged {
     type File = Open;
 
-    fn make_new(&mut self, name: &str) -> io::Result<Open> {
-        let well = |file: &Open, old: &Moment, new: &Moment| makes(name, file.number, old, new);
+    fn make_new(&mut self, name: &str, target: &str) -> io::Result<Open> {
+        let well = |file: &Open, old: &Moment, new: &Moment| {
+            makes(name, file.number, old, new) && is_made_for(target, file.number, old, new)
+        };
         self.call(
             "make_new",
-            |folder| folder.make_new(name),
+            |folder| folder.make_new(name, target),
             well,
             |why, old, new| makes_not(why, name, old, new),
+        )
+    }
+
+    fn take_mode(&mut self, file: &Open, name: &str) -> io::Result<()> {
+        let well = |(): &(), old: &Moment, new: &Moment| takes_mode(file.number, name, old, new);
+        self.call(
+            "take_mode",
+            |folder| folder.take_mode(file, name),
+            well,
+            perhaps(|old, new| touches(file.number, old, new)),
         )
     }
 

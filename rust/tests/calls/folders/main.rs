@@ -3,12 +3,12 @@
 use calls::is;
 use dice::Dice;
 use fallible::{Fail, Global};
-use folder_shelf::FolderShelf;
+use folder_shelf::{FolderShelf, PRIVATE};
 use in_memory::FolderInMemory;
 use judged::Judged;
 use looks::Refusal;
 use shelf::Shelf;
-use told::{Content, Left, Moment};
+use told::{Content, Left, Moment, USUAL};
 
 mod dice;
 mod host;
@@ -19,18 +19,31 @@ mod told;
 const FOLDERS: u64 = 200;
 const CALLS: usize = 30;
 const NAMES: [&str; 4] = ["a", "b", "c", "a-link"];
+// The mode of a file that is there.
+const MODE: u32 = 0o640;
 const BESIDE: &str = ".file-of-a-text-that-is-not-whole-yet-";
 
 // A folder with a file, a link and, in one of two, a file that isn't whole yet.
 fn folder(dice: Dice) -> Moment {
     let mut files = vec![
-        ("a".to_owned(), Content::Plain(b"Oberon".to_vec())),
-        ("a-link".to_owned(), Content::Special),
+        ("a".to_owned(), Content::Plain(b"Oberon".to_vec()), MODE),
+        ("a-link".to_owned(), Content::Special, 0o777),
     ];
     if dice.state % 2 == 0 {
-        files.push((format!("{BESIDE}0"), Content::Plain(b"Obe".to_vec())));
+        files.push((format!("{BESIDE}0"), Content::Plain(b"Obe".to_vec()), USUAL));
     }
     Moment::of(files)
+}
+
+// Whether at a moment of a writing the name's file has the mode that it had, what is no plain file stays, and the new file allows others no
+// more than the old one.
+fn is_kept(name: &str, old: &Moment, now: &Moment) -> bool {
+    let mut new = now.names.keys().filter(|each| each.starts_with(BESIDE) && !old.names.contains_key(*each));
+    let stays = old.seen(name) != Some(&Content::Special) || now.seen(name) == Some(&Content::Special);
+    stays
+        && old.mode(name).is_none_or(|mode| {
+            now.mode(name) == Some(mode) && new.all(|each| [Some(PRIVATE), Some(mode)].contains(&now.mode(each)))
+        })
 }
 
 // Whether at a moment of a writing the name shows and keeps the old bytes or the new ones, whole, and another name what it did, but for a
@@ -57,6 +70,7 @@ fn is_replaced(name: &str, bytes: &[u8], old: &Moment, now: &Moment) -> bool {
         each == name || (now.seen(each) == old.seen(each) && now.left(each).iter().all(|left| left.is_among(&before)))
     };
     now.seen(name) == Some(&new)
+        && old.seen(name) != Some(&Content::Special)
         && now.left(name).iter().all(|left| *left == Left::Exactly(new.clone()))
         && old.lasting_names().iter().all(others)
         && now.lasting_names().iter().all(others)
@@ -93,6 +107,7 @@ fn writes(shelf: &mut Files, name: &str, bytes: &[u8]) -> Result<(), Fail> {
             is_before_or_after(name, bytes, &old, moment),
             "the old bytes or the new ones, whole",
         )?;
+        is(is_kept(name, &old, moment), "the old mode, and nothing in place of a link")?;
     }
     if answer.is_ok() {
         return is(

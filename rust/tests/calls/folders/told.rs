@@ -17,7 +17,12 @@ pub enum Content {
 pub struct Kept {
     pub content: Content,
     pub synced: bool,
+    /// What its owner, its group and others may do with it.
+    pub mode: u32,
 }
+
+/// The mode of a new file.
+pub const USUAL: u32 = 0o644;
 
 /// What a crash may leave under a name.
 #[derive(Clone, Debug, PartialEq, Eq)]
@@ -48,15 +53,20 @@ pub struct Moment {
 
 impl Moment {
     /// A folder of these files, all of which the disk has.
-    pub fn of(files: impl IntoIterator<Item = (String, Content)>) -> Moment {
-        let (names, contents): (Vec<String>, Vec<Content>) = files.into_iter().unzip();
+    pub fn of(files: impl IntoIterator<Item = (String, Content, u32)>) -> Moment {
+        let kept = |content, mode| Kept {
+            content,
+            synced: true,
+            mode,
+        };
+        let (names, files): (Vec<String>, Vec<Kept>) = files
+            .into_iter()
+            .map(|(name, content, mode)| (name, kept(content, mode)))
+            .unzip();
         Moment {
             names: names.into_iter().zip(0..).collect(),
             kept: Vec::new(),
-            files: contents
-                .into_iter()
-                .map(|content| Kept { content, synced: true })
-                .collect(),
+            files,
             faults: 0,
         }
     }
@@ -64,6 +74,11 @@ impl Moment {
     /// What a name leads to.
     pub fn seen(&self, name: &str) -> Option<&Content> {
         self.names.get(name).map(|file| &self.files[*file].content)
+    }
+
+    /// The mode of a name's file.
+    pub fn mode(&self, name: &str) -> Option<u32> {
+        self.names.get(name).map(|file| self.files[*file].mode)
     }
 
     /// The names of which a crash leaves each name one.
