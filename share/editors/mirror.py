@@ -96,6 +96,11 @@ class Mirror:
         return {"version": version, "edits": edits, "hash": hashlib.sha256(self.text.encode()).hexdigest(),
                 "made": [[[*one] for one in changes] for changes in self._since_base]}
 
+    def left_unmade(self) -> list[list[TextChange]]:
+        """The edits that no engine may have."""
+        self._send_gathered()
+        return self._since_base
+
     def opened_again(self, answer: Line) -> list[list[TextChange]]:
         """Takes in what `open` was answered; the edits that weren't carried over, which are their user's."""
         self._send_gathered()

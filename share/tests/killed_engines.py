@@ -76,7 +76,7 @@ class House:
         with self.here():
             end = time.monotonic() + PATIENCE
             while not (line := server.connected(NAME)):
-                if not self._engine or os.waitpid(self._engine, os.WNOHANG)[0]:
+                if self._has_ended():
                     self._engine = self._started()
                 assert time.monotonic() < end, "no engine came"
                 time.sleep(0.005)
@@ -89,11 +89,12 @@ class House:
             os.waitpid(self._engine, 0)
             self._engine = 0
 
-    def ended(self) -> None:
-        """Says that the line to the engine ended."""
-        if self._engine and os.waitpid(self._engine, 0)[0]:
+    def _has_ended(self) -> bool:
+        """Whether no engine runs."""
+        if self._engine and os.waitpid(self._engine, os.WNOHANG)[0]:
             self._engine = 0
             self.killed += 1
+        return not self._engine
 
     def _started(self) -> int:
         last = next(self.kills, 0)
@@ -152,7 +153,6 @@ class Reopening:
                     self._opened(answer)
                     return
             self._line.close()
-            self._house.ended()
 
     def _opened(self, answer: Line) -> None:
         if self._mirror:
@@ -194,7 +194,6 @@ class Reopening:
         """Takes in what comes, and opens again where the engine ended."""
         if not self._receive(seconds):
             self._line.close()
-            self._house.ended()
             self.mirror.left()
             self.type_meanwhile()
             self._open()

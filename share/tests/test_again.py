@@ -66,8 +66,11 @@ class KilledAnywhere(Case):
         bob.type("b2 ")
         self.wait(lambda: "c3 " in bob.text and "b2 " in ada.text, *self.everybody)
         ada.type_first("a4 ")
+        cut = ada.was_cut
         self.wait(lambda: "a4 " in bob.text, *self.everybody)
-        ada.ask("undo")
+        if ada.was_cut == cut:
+            # Else it would be what was typed meanwhile.
+            ada.ask("undo")
         ada.type("a5 ")
 
     def look_what_came(self, ada: Reopening, bob: Reopening, cat: Reopening) -> None:
@@ -85,7 +88,7 @@ class KilledAnywhere(Case):
 
     def take_back(self, ada: Reopening) -> None:
         """Takes back all that an editor typed, step by step; what others typed stays."""
-        others = [word for word in ada.text.split() if word[0] in "bcBC" and word[1:] != ":"]
+        others = [word for line in ada.text.split("\n") if line[:2] in ("B:", "C:") for word in line[2:].split()]
         shown = [ada.text]
         while (answer := ada.ask("undo")) and answer["done"]:
             shown.append(ada.text)
