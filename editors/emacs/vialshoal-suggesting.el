@@ -271,7 +271,8 @@ Return where point is then."
            (user-error "What you suggested is being made; wait a moment"))
           (vialshoal-suggesting--made
            (vialshoal--ask #'ignore :do "withdraw"
-                           :to (pop vialshoal-suggesting--made)))
+                           :to (car vialshoal-suggesting--made))
+           (pop vialshoal-suggesting--made))
           (t (user-error "You have suggested nothing that could be taken back")))))
 
 (defun vialshoal-suggesting--forget ()

@@ -135,7 +135,12 @@ with_folder('who is sent the text anew is told', function(open)
     -- It is wider than the screen.
     local told = ada:run([[return vim.fn.execute('messages')]]):gsub('\n', ' ')
     return told:find('There is no version 99 that this editor can have. The note has another text; that of before is in buffer %d')
+      and told:find('What you typed is kept, and isn\'t in the note: "!". :VialshoalPutBack puts it back', 1, true)
   end, 'words')
+  support.same(true, ada:run('return vim.bo.modified'))
+  ada:type('<Cmd>VialshoalPutBack<CR>')
+  ada:shows('tea!')
+  support.wait(function() return not ada:run('return vim.bo.modified') end, 'all kept')
 end)
 
 with_folder('however much waits, a command is carried over', function(_, folder)

@@ -155,6 +155,9 @@ end
 function M.write(note, path)
   if path == PREFIX .. note.name and note.is_away then
     return say.words('The engine is being started again. What you typed last is kept here until then.')
+  elseif path == PREFIX .. note.name and note.refused then
+    vim.bo[note.buffer].modified = false
+    return say.words('All is kept but words that the note didn\'t take. :VialshoalPutBack types them again.')
   elseif path == PREFIX .. note.name then
     vim.bo[note.buffer].modified = false
     return say.words('All is kept; :w FILE saves it as a file.')
@@ -317,7 +320,7 @@ function send_open(note)
         return note.is_away and start_later(note)
       end
       note:opened(answer)
-      vim.bo[note.buffer].modified = note.answered ~= note.made
+      note:show_modified()
       note:tell_place()
     end,
   }

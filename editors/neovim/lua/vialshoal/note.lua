@@ -67,9 +67,7 @@ end
 --- Goes on with the text that is here, as another engine has the edits that it was told.
 function Note:carried_over()
   self:forget_edits()
-  if self.answered == self.made then
-    vim.bo[self.buffer].modified = false
-  end
+  self:show_modified()
   self.shows.words('The note is open again. All that you typed is kept.')
   self:send_edits()
 end
@@ -235,7 +233,7 @@ function Note:put_back()
     vim.bo[self.buffer].endofline = self.has_end
   end)
   self.is_unsure = false
-  vim.bo[self.buffer].modified = self.made ~= self.answered
+  self:show_modified()
   local grown = 0
   return vim.tbl_map(function(change)
     local from, to, new = change[1] - grown, change[2] - grown, text.clean(change[3])
@@ -552,8 +550,13 @@ function Note:answered_up_to(line, edits)
   end
   self:forget_edits()
   if self.answered == self.made then
-    vim.bo[self.buffer].modified = false
+    self:show_modified()
   end
+end
+
+--- Has 'modified' say whether something would be lost with the buffer: what isn't answered, or words that weren't taken.
+function Note:show_modified()
+  vim.bo[self.buffer].modified = self.made ~= self.answered or self.refused ~= nil
 end
 
 function Note:noticed(line)

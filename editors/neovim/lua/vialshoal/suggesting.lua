@@ -196,7 +196,11 @@ function Suggesting:undo()
     self.pending = nil
     self:draw()
   elseif #self.made > 0 then
-    note:ask({ ['do'] = 'withdraw', to = table.remove(self.made) }, function() end)
+    note:ask({ ['do'] = 'withdraw', to = self.made[#self.made] }, function() end)
+    if note.is_open then
+      -- Without an engine that wasn't asked, and can be taken back later.
+      table.remove(self.made)
+    end
   else
     note.shows.words('You have suggested nothing here that could be taken back.')
   end
