@@ -1,5 +1,7 @@
 -- The messages that are kept, and what a further one does to them.
 use Rattle.std.specs.Prelude.{◌≡◌, ℕ, ◌/◌, ◌%◌, ◌^◌, ◌<◌, ◌⊎◌, ◌↔◌, nat_eq, Bool, ◌&&◌, List, Contains}
+use Rattle.std.specs.declared.cmp.Ordering.{Ordering}
+use Rattle.std.specs.Ordering.{eq_by_cmp, nat_cmp, ordering_then}
 use Rattle.note_laws.specs.Note.{Saying}
 use Rattle.note_laws.specs.Chains.{AreBranches}
 use Rattle.note_entries.specs.declared.branches.Said.{Said}
@@ -13,13 +15,22 @@ pub record Place : Type 0 where
   pub seq : ℕ
   pub before : ℕ
 
--- whether two are one, by the halves of their hashes
+-- whether two hashes are one, by their halves
 abbrev pub is_same_hash : ℕ → ℕ → Bool
 is_same_hash a b = nat_eq (a / 2 ^ 128) (b / 2 ^ 128) && nat_eq (a % 2 ^ 128) (b % 2 ^ 128)
 
+-- the order of hashes, by their halves
+abbrev pub hash_cmp : ℕ → ℕ → Ordering
+hash_cmp a b = ordering_then (nat_cmp (a / 2 ^ 128) (b / 2 ^ 128)) (nat_cmp (a % 2 ^ 128) (b % 2 ^ 128))
+
+-- the order of places, by one part after the other
+abbrev pub place_cmp : Place → Place → Ordering
+place_cmp a b = ordering_then (hash_cmp a.author b.author) (ordering_then (nat_cmp a.text b.text)
+    (ordering_then (nat_cmp a.site b.site) (ordering_then (nat_cmp a.seq b.seq) (hash_cmp a.before b.before))))
+
+-- whether two places are one
 abbrev pub is_same_place : Place → Place → Bool
-is_same_place a b = is_same_hash a.author b.author
-    && (nat_eq a.text b.text && (nat_eq a.site b.site && (nat_eq a.seq b.seq && is_same_hash a.before b.before)))
+is_same_place = eq_by_cmp place_cmp
 
 -- where a message stands
 abbrev pub place_in_chain : Saying → Place

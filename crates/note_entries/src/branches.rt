@@ -10,9 +10,9 @@ ghost use Rattle.note_entries.specs.Keyed.{StandUnderKeys};
 use crate::place::Place;
 use crate::rows::Rows;
 use crate::saying::Saying;
-use indexmap::IndexMap;
 use looks::Refusal;
 use std::alloc::Global;
+use std::collections::BTreeMap;
 use std::marker::Model;
 
 /// What came of a message.
@@ -42,7 +42,7 @@ fn stand(kept: &Saying, saying: &Saying) -> Said
 }
 
 // Puts a message in its place, by which it is found. Refused `OutOfMemory` alone, and then all is as before.
-fn put_aside(aside: &mut IndexMap<Place, Saying>, saying: Saying) -> Result<(), Refusal>
+fn put_aside(aside: &mut BTreeMap<Place, Saying>, saying: Saying) -> Result<(), Refusal>
     requires { StandUnderKeys is_same_place place_in_chain aside.old.entries }
     ensures keyed { StandUnderKeys is_same_place place_in_chain aside.new.entries }
     ensures ok { OnOk result (IsPutSaying (values_of aside.old.entries) saying (values_of aside.new.entries)) }
@@ -58,7 +58,7 @@ fn put_aside(aside: &mut IndexMap<Place, Saying>, saying: Saying) -> Result<(), 
 pub(crate) struct Branches {
     rows: Rows,
     // Those that stand in no row.
-    aside: IndexMap<Place, Saying>,
+    aside: BTreeMap<Place, Saying>,
 }
 
 impl Model for Branches {
@@ -81,7 +81,7 @@ impl Branches {
     {
         Branches {
             rows: Rows::new(alloc),
-            aside: IndexMap::new(alloc),
+            aside: BTreeMap::new(alloc),
         }
     }
 

@@ -4,7 +4,7 @@ ghost use Rattle.note_entries.specs.Bytes.{IsHash, hash_bytes, hash_of};
 use std::marker::Model;
 
 /// A hash or a key: 32 bytes, read as a number, the first byte as the highest.
-#[derive(Clone, Copy, Debug, PartialEq, Eq, Hash, PartialOrd, Ord)]
+#[derive(Clone, Copy, Debug, PartialEq, Eq, PartialOrd, Ord)]
 pub struct Hash {
     high: u128,
     low: u128,

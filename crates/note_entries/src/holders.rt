@@ -7,9 +7,9 @@ ghost use Rattle.note_entries.specs.Claims.{Claims, IsClaimant, IsPutClaim, IsUn
 use crate::claim::Claim;
 use crate::hash::Hash;
 use char_files::SiteNo;
-use indexmap::IndexMap;
 use looks::Refusal;
 use std::alloc::Global;
+use std::collections::BTreeMap;
 use std::marker::Model;
 
 /// What came of a claim.
@@ -40,12 +40,13 @@ fn outdone(kept: &Claim, claim: &Claim) -> Option<Claimed>
 #[derive(Drop)]
 pub(crate) struct Holders {
     // By the claims' numbers.
-    claims: IndexMap<u16, Claim>,
+    claims: BTreeMap<u16, Claim>,
 }
 
 impl Model for Holders {
-    ghost use Rattle.std.specs.Prelude.{List, nat_eq};
+    ghost use Rattle.std.specs.Prelude.{List};
     ghost use Rattle.std.specs.Map.{values_of};
+    ghost use Rattle.std.specs.Ordering.{eq_by_cmp, nat_cmp};
     ghost use Rattle.note_laws.specs.Note.{Claim as Claimed};
     ghost use Rattle.note_entries.specs.Keyed.{StandUnderKeys};
 
@@ -53,7 +54,7 @@ impl Model for Holders {
 
     ghost view = { λ h. values_of h.claims.entries };
 
-    ghost invariant = { λ h. StandUnderKeys nat_eq (λ c. c.site) h.claims.entries };
+    ghost invariant = { λ h. StandUnderKeys (eq_by_cmp nat_cmp) (λ c. c.site) h.claims.entries };
 }
 
 impl Holders {
@@ -62,7 +63,7 @@ impl Holders {
         ensures { result ≡ [] }
     {
         Holders {
-            claims: IndexMap::new(alloc),
+            claims: BTreeMap::new(alloc),
         }
     }
 

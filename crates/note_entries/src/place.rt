@@ -10,7 +10,7 @@ use char_files::{SiteNo, TextNo};
 use std::marker::Model;
 
 /// Where in a chain a message stands: messages of one place follow the same one.
-#[derive(Clone, Copy, Debug, PartialEq, Eq, Hash)]
+#[derive(Clone, Copy, Debug, PartialEq, Eq, PartialOrd, Ord)]
 pub struct Place {
     pub author: Hash,
     pub text: TextNo,

@@ -9,9 +9,9 @@ ghost use Rattle.note_entries.specs.Rows.{AreSayingRows, IsRow, PutsOrReturns, r
 
 use crate::place::Place;
 use crate::saying::Saying;
-use indexmap::IndexMap;
 use looks::Refusal;
 use std::alloc::Global;
+use std::collections::BTreeMap;
 use std::marker::Model;
 
 // Messages of one author, text and number: the nth has the seq n + 1.
@@ -72,7 +72,7 @@ impl Row {
 #[derive(Drop)]
 pub(crate) struct Rows {
     // By the places where they begin, as if no message were before them.
-    rows: IndexMap<Place, Row>,
+    rows: BTreeMap<Place, Row>,
     alloc: Global,
 }
 
@@ -89,7 +89,7 @@ impl Model for Rows {
 }
 
 // A row begins with a message of seq 1. Refused `OutOfMemory` alone, and then all is as before.
-fn begin(rows: &mut IndexMap<Place, Row>, alloc: Global, saying: Saying) -> Result<(), Refusal>
+fn begin(rows: &mut BTreeMap<Place, Row>, alloc: Global, saying: Saying) -> Result<(), Refusal>
     requires rows { AreSayingRows rows.old.entries }
     requires first { saying.op.seq ≡ 1 }
     requires none { lookup (is_same_place (row_begin (place_in_chain saying))) rows.old.entries ≡ None }
@@ -111,7 +111,7 @@ impl Rows {
         ensures { result ≡ [] }
     {
         Rows {
-            rows: IndexMap::new(alloc),
+            rows: BTreeMap::new(alloc),
             alloc,
         }
     }

@@ -4,8 +4,7 @@
 use crate::place::Place;
 use crate::rows::Rows;
 use crate::saying::Saying;
-use fallible::Global;
-use indexmap::IndexMap;
+use fallible::{BTreeMap, Global};
 use looks::Refusal;
 
 /// What came of a message.
@@ -33,7 +32,7 @@ fn stand(kept: &Saying, saying: &Saying) -> Said {
 }
 
 // Puts a message in its place, by which it is found. Refused `OutOfMemory` alone, and then all is as before.
-fn put_aside(aside: &mut IndexMap<Place, Saying>, saying: Saying) -> Result<(), Refusal> {
+fn put_aside(aside: &mut BTreeMap<Place, Saying>, saying: Saying) -> Result<(), Refusal> {
     aside.insert(Place::of(&saying), saying)?;
     Ok(())
 }
@@ -42,7 +41,7 @@ fn put_aside(aside: &mut IndexMap<Place, Saying>, saying: Saying) -> Result<(), 
 pub(crate) struct Branches {
     rows: Rows,
     // Those that stand in no row.
-    aside: IndexMap<Place, Saying>,
+    aside: BTreeMap<Place, Saying>,
 }
 
 impl Branches {
@@ -50,7 +49,7 @@ impl Branches {
     pub(crate) fn new(alloc: Global) -> Branches {
         Branches {
             rows: Rows::new(alloc),
-            aside: IndexMap::new(alloc),
+            aside: BTreeMap::new(alloc),
         }
     }
 

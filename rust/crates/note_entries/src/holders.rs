@@ -4,8 +4,7 @@
 use crate::claim::Claim;
 use crate::hash::Hash;
 use char_files::SiteNo;
-use fallible::Global;
-use indexmap::IndexMap;
+use fallible::{BTreeMap, Global};
 use looks::Refusal;
 
 /// What came of a claim.
@@ -33,14 +32,14 @@ fn outdone(kept: &Claim, claim: &Claim) -> Option<Claimed> {
 // Of each number the claim of least rank.
 pub(crate) struct Holders {
     // By the claims' numbers.
-    claims: IndexMap<u16, Claim>,
+    claims: BTreeMap<u16, Claim>,
 }
 
 impl Holders {
     // Nobody claims a number.
     pub(crate) fn new(alloc: Global) -> Holders {
         Holders {
-            claims: IndexMap::new(alloc),
+            claims: BTreeMap::new(alloc),
         }
     }
 

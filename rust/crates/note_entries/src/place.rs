@@ -6,7 +6,7 @@ use crate::saying::Saying;
 use char_files::{SiteNo, TextNo};
 
 /// Where in a chain a message stands: messages of one place follow the same one.
-#[derive(Clone, Copy, Debug, PartialEq, Eq, Hash)]
+#[derive(Clone, Copy, Debug, PartialEq, Eq, PartialOrd, Ord)]
 pub struct Place {
     pub author: Hash,
     pub text: TextNo,

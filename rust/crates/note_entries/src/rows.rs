@@ -3,8 +3,7 @@
 
 use crate::place::Place;
 use crate::saying::Saying;
-use fallible::{Global, Vec};
-use indexmap::IndexMap;
+use fallible::{BTreeMap, Global, Vec};
 use looks::Refusal;
 
 // Messages of one author, text and number: the nth has the seq n + 1.
@@ -44,12 +43,12 @@ impl Row {
 // Messages that are found without being hashed.
 pub(crate) struct Rows {
     // By the places where they begin, as if no message were before them.
-    rows: IndexMap<Place, Row>,
+    rows: BTreeMap<Place, Row>,
     alloc: Global,
 }
 
 // A row begins with a message of seq 1. Refused `OutOfMemory` alone, and then all is as before.
-fn begin(rows: &mut IndexMap<Place, Row>, alloc: Global, saying: Saying) -> Result<(), Refusal> {
+fn begin(rows: &mut BTreeMap<Place, Row>, alloc: Global, saying: Saying) -> Result<(), Refusal> {
     let place = Place::of(&saying).begin();
     let mut said = Vec::new(alloc);
     said.push(saying)?;
@@ -61,7 +60,7 @@ impl Rows {
     // There is none.
     pub(crate) fn new(alloc: Global) -> Rows {
         Rows {
-            rows: IndexMap::new(alloc),
+            rows: BTreeMap::new(alloc),
             alloc,
         }
     }

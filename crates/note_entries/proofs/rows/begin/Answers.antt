@@ -1,7 +1,8 @@
 use Rattle.std.proofs.Common.{◌≡◌, [], ◌∷◌, ◌++◌, List, sym, ap, subst, ◌∙◌}
 use Rattle.std.specs.Map.{lookup}
+use Rattle.std.proofs.lemmas.Map.Keys.{IsDistinct-from_sorted}
 use Rattle.note_laws.specs.Note.{Saying}
-use Rattle.note_entries.specs.Branches.{Place, is_same_place, place_in_chain}
+use Rattle.note_entries.specs.Branches.{Place, is_same_place, place_cmp, place_in_chain}
 use Rattle.note_entries.specs.Rows.{IsRow, row_begin}
 use Rattle.note_entries.proofs.Standing.{first_row, put_first, rows_with}
 use Rattle.note_entries.proofs.rows.begin.Goals as goal
@@ -19,10 +20,10 @@ is_row c = subst (IsRow c.begin-place.result) (sym (one c)) (first_row c.begin-p
 pub returns-clause-rows : goal.returns-clause-rows
 returns-clause-rows c =
     rows_with c.args.rows.now.entries c.insert.new.self.entries c.requires.rows c.begin-place.result c.push.new.self.items (is_row c)
-    c.insert.ensures.unique c.in_ok-insert.ensures.updates.0
+    (IsDistinct-from_sorted place_cmp _ c.insert.ensures.ordered) c.in_ok-insert.ensures.updates.0
 
 pub returns-clause-ok : goal.returns-clause-ok
 returns-clause-ok c =
     put_first c.args.rows.now.entries c.insert.new.self.entries c.requires.rows c.begin-place.result c.push.new.self.items (is_row c)
-    c.insert.ensures.unique c.in_ok-insert.ensures.updates.0 c.args.saying (begins c)
+    (IsDistinct-from_sorted place_cmp _ c.insert.ensures.ordered) c.in_ok-insert.ensures.updates.0 c.args.saying (begins c)
     (ap (λ (q : Place). lookup (is_same_place q) c.args.rows.now.entries) (sym (begins c)) ∙ c.requires.none) (one c)

@@ -1,8 +1,9 @@
 use Rattle.std.proofs.Common.{◌≡◌, List, None, IsSome, Contains, refl, sym, ap, subst, ◌∙◌}
 use Rattle.std.specs.Map.{lookup}
+use Rattle.std.proofs.lemmas.Map.Keys.{IsDistinct-from_sorted}
 use Rattle.std.proofs.lemmas.Option.{none-some}
 use Rattle.note_laws.specs.Note.{Saying}
-use Rattle.note_entries.specs.Branches.{IsPutSaying, Place, is_same_place, place_in_chain}
+use Rattle.note_entries.specs.Branches.{IsPutSaying, Place, is_same_place, place_cmp, place_in_chain}
 use Rattle.note_entries.specs.Rows.{IsRow, PutsOrReturns, row_begin, said_in}
 use Rattle.note_entries.proofs.Entered.{IsPutIn}
 use Rattle.note_entries.proofs.Places.{one_place, places}
@@ -33,7 +34,7 @@ pub invariant_of-self : goal.invariant_of-self
 invariant_of-self c =
     let writes = c.get_mut.follows.holds c.put.new.self in
     rows_with c.self.inside.rows.entries (c.get_mut.follows.lender c.put.new.self).entries c.self.invariant c.begin.result
-    c.put.new.self (is_row c) writes.4 (is_put c)
+    c.put.new.self (is_row c) (IsDistinct-from_sorted place_cmp _ writes.4) (is_put c)
 
 pub returns-in-Some-clause-ok : goal.returns-in-Some-clause-ok
 returns-in-Some-clause-ok c =
@@ -41,8 +42,8 @@ returns-in-Some-clause-ok c =
     IfOk_then c.put.result c.put.ensures.ok (λ back puts.
     subst (λ (old : List Saying). PutsOrReturns old c.args.saying back (said_in (c.get_mut.follows.lender c.put.new.self).entries)) c.self.view_is
     (puts_all c.self.inside.rows.entries (c.get_mut.follows.lender c.put.new.self).entries c.self.invariant c.begin.result
-    c.in-Some.row.now c.put.new.self (sym c.in-Some.ensures.value) writes.0 (is_row c) writes.4 (is_put c) c.args.saying (begins c)
-    back puts))
+    c.in-Some.row.now c.put.new.self (sym c.in-Some.ensures.value) writes.0 (is_row c)
+    (IsDistinct-from_sorted place_cmp _ writes.4) (is_put c) c.args.saying (begins c) back puts))
 
 pub returns-in-Some-clause-err : goal.returns-in-Some-clause-err
 returns-in-Some-clause-err c =
@@ -63,6 +64,12 @@ returns-then-seq-ne1-clause-ok c =
           (λ r one. absurd (none-some r one)) kept
           (subst (λ (all : List Saying). Contains all kept) (sym c.self.view_is) held),
     )
+
+pub begin-requires-2-clause-none : goal.begin-requires-2-clause-none
+begin-requires-2-clause-none c =
+    let begins : row_begin (place_in_chain c.args.saying) ≡ c.begin.result = sym (c.begin.ensures ∙ ap row_begin c.of.ensures) in
+    ap (λ m. lookup (is_same_place (row_begin (place_in_chain c.args.saying))) m.entries) c.get_mut.follows.holds-at-none
+    ∙ (ap (λ (q : Place). lookup (is_same_place q) c.self.inside.rows.entries) begins ∙ sym c.in_default.ensures.value)
 
 pub returns-clause-ok : goal.returns-clause-ok
 returns-clause-ok c =
