@@ -9,6 +9,7 @@ from share.cli import access
 from share.cli.output import print_bytes, report_missing, says_once
 from share.cli.renewing import renew_note
 from share.editors.client import note_for_script
+from share.editors.joined_line import NextEngine
 from share.editors.note import EngineNote
 from share.editors.terminal.app import edit
 from share.editors.terminal.keys import safe_for_terminal
@@ -57,9 +58,10 @@ def on_screen(given: argparse.Namespace, name: str) -> None:
     link = access.given_or_asked_link(given, name)
     access.require_agreement(given, name, link)
     line = server.connected_or_started(name, access.opener(given, name, link))
+    following = NextEngine(name, [*ENGINE_COMMAND, name, *_options(given)])
     os.environ.setdefault("ESCDELAY", "25")
     try:
-        note = curses.wrapper(edit, name, lambda bar, wake: EngineNote(line, bar, wake, access.own_name()))
+        note = curses.wrapper(edit, name, lambda bar, wake: EngineNote(line, bar, wake, access.own_name(), following.line))
     except curses.error as why:
         raise Trouble(f"The terminal can't be used ({why}). TERM has to name one that this system "
                       "knows.") from why
@@ -85,8 +87,7 @@ def in_browser(given: argparse.Namespace, name: str) -> None:
     access.require_agreement(given, name, link)
     if link:
         os.environ["VIALSHOAL_LINK"] = link.spelled()
-    words = [("--log", given.log), ("--password-file", given.password_file), ("--form", given.form and str(given.form))]
-    options = [word for pair in words if pair[1] for word in pair]
+    options = _options(given, ("--form", given.form and str(given.form)))
 
     def commands(note: str) -> tuple[list[str], dict[str, str]]:
         """The command of a note's engine, and its environment: what was given is for this one."""
@@ -95,6 +96,12 @@ def in_browser(given: argparse.Namespace, name: str) -> None:
         return [*ENGINE_COMMAND, note], {key: value for key, value in os.environ.items() if key != "VIALSHOAL_LINK"}
 
     serve_note(name, commands, access.own_name(), given.browses)
+
+
+def _options(given: argparse.Namespace, *more: tuple[str, str]) -> list[str]:
+    """The options of an engine's command that were given."""
+    words = [("--log", given.log), ("--password-file", given.password_file), *more]
+    return [word for pair in words if pair[1] for word in pair]
 
 
 def print_note(given: argparse.Namespace, name: str) -> int:

@@ -1,7 +1,10 @@
 """What an editor has of a note that an engine has open: the text and two numbers. docs/ENGINE.md says it in words,
 and share/engine/vectors what is to come of which lines."""
+import hashlib
+import secrets
 import time
 from collections.abc import Callable, Sequence
+
 from share.text.line import Line
 from share.text.units import UNITS, Units
 
@@ -14,6 +17,13 @@ UNANSWERED_SECONDS, PATIENCE_SECONDS = 0.5, 0.2
 NOTICES = 100
 # From this number of unanswered edits on, further changes are gathered into one.
 MOST_UNANSWERED = 10
+# The bytes of an editor's name of itself.
+EDITOR_BYTES = 16
+
+
+def new_editor() -> str:
+    """A name that an editor gives itself, so that it can open again."""
+    return secrets.token_hex(EDITOR_BYTES)
 
 
 class Mirror:
@@ -35,6 +45,12 @@ class Mirror:
         self._gathered: list[TextChange] = []
         self._more: Line = {}
         self._said_version = self.version
+        # With which version and number of edits it showed the engine's text last, its edits since, and how many of them an opening names.
+        self._base = self.version, self.made
+        self._since_base: list[list[TextChange]] = []
+        self._named = 0
+        # Whether the engine is away: then nothing is sent.
+        self.is_away = False
 
     @property
     def text(self) -> str:
@@ -48,7 +64,7 @@ class Mirror:
         self._make(changes)
         self._gathered += changes
         self._more = more
-        if self.made - self.answered < MOST_UNANSWERED:
+        if self.is_away or self.made - self.answered < MOST_UNANSWERED:
             self._send_gathered()
 
     def _send_gathered(self) -> None:
@@ -59,12 +75,53 @@ class Mirror:
         self.made += 1
         self._said_version = self.version
         changes, more, self._gathered, self._more = self._gathered, self._more, [], {}
-        self._send({"do": "edit", "version": self.version, "edits": self.made, "changes": [list(one) for one in changes],
+        self._since_base.append(changes)
+        self._tell({"do": "edit", "version": self.version, "edits": self.made, "changes": [list(one) for one in changes],
                     **more})
+
+    def _tell(self, line: Line) -> None:
+        if not self.is_away:
+            self._send(line)
+
+    def left(self) -> None:
+        """Says that the engine ended. What is typed is shown and kept, and said as the note is opened again."""
+        self._send_gathered()
+        self.is_away, self._since = True, None
+
+    def again(self) -> Line:
+        """What `open` has of an editor that opens again."""
+        self._send_gathered()
+        self._named = len(self._since_base)
+        version, edits = self._base
+        return {"version": version, "edits": edits, "hash": hashlib.sha256(self.text.encode()).hexdigest(),
+                "made": [[[*one] for one in changes] for changes in self._since_base]}
+
+    def left_unmade(self) -> list[list[TextChange]]:
+        """The edits that no engine may have."""
+        self._send_gathered()
+        return self._since_base
+
+    def opened_again(self, answer: Line) -> list[list[TextChange]]:
+        """Takes in what `open` was answered; the edits that weren't carried over, which are their user's."""
+        self._send_gathered()
+        before, edits, unmade = self._base, self._since_base, list[list[TextChange]]()
+        self.version = self._said_version = answer["version"]
+        self.is_away, self.cursors = False, []
+        self.made = self.answered = answer["edits"]
+        self._base, self._since_base = (self.version, self.made), []
+        if "text" in answer:
+            unmade = edits[max(0, answer.get("has", before[1]) - before[1]):]
+            self._data = bytearray(self.units.encode(answer["text"]))
+            self.follow_all()
+        else:
+            for changes in edits[self._named:]:
+                self._gathered = changes
+                self._send_gathered()
+        return unmade
 
     def waits(self) -> bool:
         """Whether lines are to be read before the next key is taken."""
-        is_busy = self.answered < self.made or bool(self._gathered)
+        is_busy = not self.is_away and self.answered < self.made or bool(self._gathered)
         return is_busy and self._since is not None and self._clock() > self._since + UNANSWERED_SECONDS
 
     def gave_up(self) -> None:
@@ -79,11 +136,17 @@ class Mirror:
         elif "error" in line:
             self.words = line["words"]
             if "edits" not in line and "id" not in line:
-                self._send({"do": "text", "edits": self.made})
+                self._tell({"do": "text", "edits": self.made})
         if line.get("answer") == "edit" and "edits" in line:
             self.answered = line["edits"]
+            if (line.get("version"), self.answered) == (self.version, self.made):
+                self._in_step()
             if self.made - self.answered < MOST_UNANSWERED:
                 self._send_gathered()
+
+    def _in_step(self) -> None:
+        """Notes that it shows the engine's text, but for what is gathered."""
+        self._base, self._since_base = (self.version, self.made), []
 
     def _noticed(self, line: Line) -> None:
         kind = line["notice"]
@@ -106,9 +169,10 @@ class Mirror:
         else:
             self._make(line["changes"])
         self.version, self.cursor = line["version"], line.get("cursor", self.cursor)
+        self._in_step()
         if self.version >= self._said_version + NOTICES:
             self._said_version = self.version
-            self._send({"do": "seen", "version": self.version})
+            self._tell({"do": "seen", "version": self.version})
 
     def _make(self, changes: Sequence[TextChange]) -> None:
         size = self.units.size

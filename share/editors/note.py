@@ -4,31 +4,30 @@ What is typed is shown at once by who calls, and on the disk when the call retur
 """
 import re
 import socket
-import threading
 import time
 from collections.abc import Callable, Sequence
-from contextlib import suppress
 
-from share.editors.mirror import Mirror, TextChange
+from share.editors.joined_line import WATCH_SECONDS, JoinedLine, Joins
+from share.editors.mirror import Mirror, TextChange, new_editor
 from share.editors.since import NoteChanges
 from share.editors.suggesting import Gathering
 from share.editors.threads import NoteThreads
-from share.engine import protocol
-from share.log.polling import can_read
 from share.sync.session import SEND_SECONDS, Bar, Status
 from share.text.change import Change, boundary, found
 from share.text.change import change as difference
 from share.text.errors import Trouble
-from share.text.line import PIECE, Assembler, Line
+from share.text.line import Line
 from share.text.rope import swapped
 from share.text.units import UNITS
 
-ENDED = ("The note's engine has ended. Open the note again: all that was typed before is kept, and what isn't there can "
-         "be saved from here.")
+ENDED = "The note's engine ended before the note was open. Open it again: all that was typed before is kept."
+AWAY = "The note's engine ended. What you type is kept here until the next one is there."
+DROPPED = "The note's engine ended, and this may not have been done. Look, and do it again."
+NOT_CARRIED = "The note's engine ended, and not all that you typed could be carried over. ^V puts it back."
+REFUSED_KEPT = "^V puts back what you typed."
+NOT_KEPT = "The note's engine ended and no other one could be started. This is all that you typed since: {}"
 # The least time between two messages of where the cursor is.
 TELL_CURSOR_SECONDS = 0.1
-# How long a watcher waits for what came to be read, before it looks again.
-WATCH_SECONDS = 0.5
 UTF_8 = UNITS["utf-8"]
 # The requests whose answers are waited for; one that wasn't understood is answered without its name.
 ANSWERED = ("edit", "undo", "redo", "remark", "suggest", "reply", "resolve", "reopen", "reject", "accept", "revise", "withdraw", "")
@@ -58,7 +57,8 @@ class AtEngine:
         """How things are."""
         state = self._note.mirror.state
         offline = state.get("why", "away") if state["log"] == "away" else None
-        return Status(state["site"], state["on"], state["unsent"], offline, state["waiting"], state.get("trouble"),
+        return Status(state["site"], state["on"], state["unsent"], offline, state["waiting"],
+                      AWAY if self._note.mirror.is_away else state.get("trouble"),
                       state["types"], state["log"] != "none", (state["read"], state["of"]) if "of" in state else None,
                       state.get("left_out", []), state.get("renewed"), state.get("unproved", False), state.get("searching", False))
 
@@ -75,25 +75,25 @@ def typed_text(characters: str) -> str:
 class EngineNote:
     """The text as the engine's site shows it."""
 
-    def __init__(self, line: socket.socket, bar: Bar, wake: Callable[[], None], name: str = ""):
-        self._line, self._bar, self._wake = line, bar, wake
+    def __init__(self, line: socket.socket, bar: Bar, wake: Callable[[], None], name: str = "", joins: Joins = lambda: None):
+        self._line, self._bar = JoinedLine(line, joins, wake), bar
+        self._open_line: Line = {"do": "open", "id": "open", "protocol": 1, "units": ["utf-8"], "name": name, "remarks": True,
+                                 "editor": new_editor()}
         self.text = bytearray()
         self.cursor = self.top = 0
         # The other end of what is selected.
         self.anchor: int | None = None
-        self.notice = ""
+        # What the user is to be told, and words of the user's that aren't in the note, to be put back.
+        self.notice = self.unmade = ""
         # Whether the cursor is where the last edit left it.
-        self._goes_on, self._is_closed = False, False
-        # An engine's lines have no bound: one may have all the text.
-        self._assembler = Assembler(None)
-        self._has_read = threading.Event()
+        self._goes_on = False
         self._said_cursor: tuple[int, int | None] = (0, None)
         self._cursor_due = 0.0
         # Answers that nobody has looked at; all lines, as long as the note isn't open.
         self._answers: list[Line] = []
         self._is_open = False
         self.threads, self.changes, self.gathering = NoteThreads(), NoteChanges(), Gathering()
-        self._send({"do": "open", "protocol": 1, "units": ["utf-8"], "name": name, "remarks": True})
+        self._send(self._open_line)
         opened = self._opened()
         self.text[:] = swapped(UTF_8.encode(opened["text"]))
         self.mirror = _Mirror(opened, self._send, self)
@@ -103,8 +103,7 @@ class EngineNote:
             self._take(one)
         while not self.mirror.state:
             self._receive(WATCH_SECONDS)
-        self._watcher = threading.Thread(target=self._watch, daemon=True)
-        self._watcher.start()
+        self._line.watch()
 
     def type(self, characters: str) -> None:
         """Types characters at the cursor. The engine knows which keys are taken back as one."""
@@ -160,7 +159,7 @@ class EngineNote:
         answer = self._until(what)
         if answer.get("error", "changed") == "changed":
             return answer
-        self.notice, self.mirror.words = answer["words"], ""
+        self._say(answer["words"])
         return None
 
     def suggest_all(self, changes: Sequence[TextChange]) -> list[str]:
@@ -174,11 +173,14 @@ class EngineNote:
     def take_in(self) -> bool:
         """Takes in what came from the others; whether the text changed."""
         version: int = self.mirror.version
+        if self.mirror.is_away:
+            self._come_again()
         while self._receive(0):
             pass
-        for asks in self.threads.ask, self.changes.ask:
-            asks(self.mirror.version, self.mirror.answered == self.mirror.made, self._send)
-        self._say_cursor()
+        if not self.mirror.is_away:
+            for asks in self.threads.ask, self.changes.ask:
+                asks(self.mirror.version, self.mirror.answered == self.mirror.made, self._send)
+            self._say_cursor()
         if self.mirror.words:
             self.notice, self.mirror.words = self.mirror.words, ""
         return bool(version != self.mirror.version)
@@ -201,16 +203,18 @@ class EngineNote:
     def close(self) -> None:
         """Closes the note, when all is sent or after some seconds."""
         end = time.monotonic() + SEND_SECONDS
-        with suppress(Trouble, OSError):
-            while self.mirror.state["log"] == "sending" and time.monotonic() < end:
-                self._receive(0.05)
-        self._is_closed = True
-        with suppress(OSError):
-            # The watcher wakes, and ends before another file may get the number of this one.
-            self._line.shutdown(socket.SHUT_RDWR)
-        self._has_read.set()
-        self._watcher.join()
+        while (self.mirror.is_away or self.mirror.state["log"] == "sending") and time.monotonic() < end:
+            if self.mirror.is_away:
+                self._come_again()
+            if not self._receive(0.05) and self.mirror.is_away:
+                time.sleep(0.05)
+        words = _words_of(self.mirror.left_unmade()) if self.mirror.is_away else self.unmade
+        if not self.mirror.is_away:
+            self._until_answered()
+            self._send({"do": "close"})
         self._line.close()
+        if words:
+            raise Trouble(NOT_KEPT.format(words))
 
     def follow(self, change: Change) -> None:
         """Changes the text, and moves the places with it."""
@@ -234,16 +238,20 @@ class EngineNote:
         self._goes_on = len(changes) == 1
         if self._goes_on:
             self.cursor = begin + len(text.encode())
-        answer = self._until("edit")
-        if "error" in answer:
-            self.notice, self.mirror.words = answer["words"], ""
+        if not self.mirror.is_away and "error" in (answer := self._until("edit")) and answer["error"] != AWAY:
+            self.unmade += _words_of([changes])
+            self._say(f"{answer['words']} {REFUSED_KEPT}" if self.unmade else answer["words"])
+
+    def _say(self, words: str) -> None:
+        """Tells the user something."""
+        self.notice, self.mirror.words = words, ""
 
     def _by_names(self, what: str) -> bool:
         self._goes_on, self.mirror.cursor = False, None
         self._send({"do": what})
         answer = self._until(what)
         if "error" in answer:
-            self.notice, self.mirror.words = answer["words"], ""
+            self._say(answer["words"])
             return True
         if self.mirror.cursor is not None:
             self.cursor = boundary(self.text, min(self.mirror.cursor, len(self.text)))
@@ -271,35 +279,58 @@ class EngineNote:
                     self._bar(line["done"], line["of"])
 
     def _until(self, what: str) -> Line:
-        """The answer to the last request of a kind; there is one at a time."""
+        """The answer to the last request of a kind; there is one at a time. Nothing is answered any more where the engine ended."""
         while True:
             for line in self._answers:
                 # One that wasn't understood was the last one.
                 if line["answer"] in (what, ""):
                     self._answers.remove(line)
                     return line
+            if self.mirror.is_away:
+                return {"answer": what, "error": AWAY, "words": DROPPED}
+            self._receive(WATCH_SECONDS)
+
+    def _until_answered(self) -> None:
+        """Waits until what was typed last is on the disk."""
+        while self.mirror.answered < self.mirror.made and not self.mirror.is_away:
             self._receive(WATCH_SECONDS)
 
     def _send(self, line: Line) -> None:
-        try:
-            self._line.sendall(protocol.serialize(line))
-        except OSError as why:
-            raise Trouble(ENDED) from why
+        self._line.send(line)
 
     def _receive(self, seconds: float) -> bool:
         """Takes in what comes within some time; whether something did."""
-        if not can_read(self._line, seconds):
-            return False
-        try:
-            data = self._line.recv(PIECE)
-        except OSError as why:
-            raise Trouble(ENDED) from why
-        self._has_read.set()
-        if not data:
-            raise Trouble(ENDED)
-        for line in map(protocol.parse, self._assembler.lines(data)):
+        was_there = self._line.is_there
+        lines = self._line.receive(seconds)
+        if lines is None and was_there:
+            self._ended()
+        for line in lines or ():
             self._take(line)
-        return True
+        return bool(lines) or self._line.has_come()
+
+    def _ended(self) -> None:
+        """Goes on without the engine."""
+        if not self._is_open:
+            raise Trouble(ENDED)
+        self.mirror.left()
+        self._answers.clear()
+        for ended in self.threads.ended, self.changes.ended:
+            ended()
+
+    def _come_again(self) -> None:
+        """Opens the note again at the next engine, as soon as it is there."""
+        if not self._line.is_there and self._line.join():
+            self._send({**self._open_line, "again": self.mirror.again()})
+
+    def _opened_again(self, answer: Line) -> None:
+        if "error" in answer:
+            self._say(answer["words"])
+            self._line.leave()
+            return
+        if words := _words_of(self.mirror.opened_again(answer)):
+            self.unmade += words
+            self._say(NOT_CARRIED)
+        self._goes_on, self._said_cursor = False, (-1, None)
 
     def _take(self, line: Line) -> None:
         if not self._is_open:
@@ -307,18 +338,16 @@ class EngineNote:
             return
         if line.get("notice") == "opening":
             self._bar(line["done"], line["of"])
+        if line.get("answer") == "open":
+            self._opened_again(line)
+            return
         if line.get("answer") in ANSWERED:
             self._answers.append(line)
         self.mirror.take(line)
         self.threads.take(line, self.mirror.version, self.mirror.made, self._send)
         self.changes.take(line, self.mirror.made)
 
-    def _watch(self) -> None:
-        """Wakes the editor when something comes."""
-        with suppress(OSError, ValueError):
-            while not self._is_closed:
-                if can_read(self._line, WATCH_SECONDS):
-                    self._has_read.clear()
-                    self._wake()
-                    if not self._is_closed:
-                        self._has_read.wait(WATCH_SECONDS)
+
+def _words_of(edits: Sequence[Sequence[TextChange]]) -> str:
+    """The words that edits bring."""
+    return "".join(text for changes in edits for _, _, text in changes)

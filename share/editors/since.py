@@ -60,6 +60,10 @@ class NoteChanges:
         went = [PlacedChange(one["at"], one["at"], one) for one in line["went"]]
         self.found, self.since = sorted(came + went, key=lambda one: one[:2]), line["since"]
 
+    def ended(self) -> None:
+        """Asks again, since the engine ended."""
+        self._asked, self._is_due = False, self._is_due or self._asked
+
     def follow(self, change: Change) -> None:
         """Moves all along with a change of the text; of what came and is gone nothing is left."""
         if self.found is not None:

@@ -111,6 +111,10 @@ class NoteThreads:
     def _begin_again(self, is_due: bool) -> None:
         self._coming, self._asked, self._is_due = [], False, is_due
 
+    def ended(self) -> None:
+        """Asks again, since the engine ended."""
+        self._begin_again(True)
+
     def follow(self, change: Change) -> None:
         """Moves all along with a change of the text."""
         self.found, self._coming = ([_placed_after(one, change) for one in some] for some in (self.found, self._coming))

@@ -26,7 +26,8 @@ class NamedText:
         made = changes_in(self.measured, op_of(changes, self.measured.length(units), units), units)
         if self._names is not None:
             sizes = [len(one.new) for one in reversed(made)]
-            found = _names_in_parts(new, sizes) if sum(sizes) == sum(one.length for one in new) else [[Names(NO_SITE, 0, size)] for size in sizes]
+            is_known = sum(sizes) == sum(one.length for one in new)
+            found = _names_in_parts(new, sizes) if is_known else [[Names(NO_SITE, 0, size)] for size in sizes]
             for one, names in zip(made, reversed(found)):
                 self._names = [*_names_between(self._names, 0, one.begin), *names, *_names_after(self._names, one.end)]
         for one in made:

@@ -9,12 +9,13 @@ from concurrent.futures import wait
 from contextlib import suppress
 
 from share.editors.note import EngineNote
+from share.editors.terminal.clipboard import Clipboard
 from share.editors.terminal.edits import Edits
 from share.editors.terminal.keys import Event, Key, Mouse, Pasted
 from share.editors.terminal.layout import ScreenRow, cluster_after, cluster_before, word_after, word_before
 from share.editors.terminal.moves import Moves
 from share.editors.terminal.prompts import Prompts
-from share.editors.terminal.requests import Clipboard, Requests
+from share.editors.terminal.requests import Requests
 from share.editors.terminal.review import Review
 from share.editors.terminal.saving import Saving
 from share.editors.terminal.screen import Screen
@@ -46,8 +47,8 @@ class Editor:
     def __init__(self, screen: Screen, name: str, note: EngineNote, status: Status, thread: Worker):
         self._screen, self._note, self._prompts = screen, note, Prompts()
         self._line, self._view, self._waiting = StatusLine(name, screen), View(note, screen), Waiting(screen, self)
-        self.work = Work(note, status, thread, screen, self._waiting, self._view, self._line)
         clipboard = Clipboard()
+        self.work = Work(note, status, thread, screen, self._waiting, self._view, self._line, clipboard)
         requests = Requests(note, self.work, self._line, clipboard)
         self._suggesting = Suggesting(note, self.work, self._view, self._line, requests)
         self._edits = Edits(note, self.work, self._view, self._line, self._prompts, clipboard, self._suggesting)

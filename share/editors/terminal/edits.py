@@ -3,7 +3,7 @@ from share.editors.note import EngineNote
 from share.editors.terminal.keys import Pasted
 from share.editors.terminal.layout import cluster_after, cluster_before
 from share.editors.terminal.prompts import Prompts
-from share.editors.terminal.requests import Clipboard
+from share.editors.terminal.clipboard import Clipboard
 from share.editors.terminal.status_line import StatusLine
 from share.editors.terminal.suggesting import Suggesting
 from share.editors.terminal.view import View

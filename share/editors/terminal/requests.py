@@ -1,22 +1,11 @@
 """What is asked of the engine about a note's margin, and the words that are kept to be put elsewhere."""
 from share.editors.note import EngineNote
-from share.editors.terminal.keys import Pasted
+from share.editors.terminal.clipboard import Clipboard
 from share.editors.terminal.status_line import StatusLine
 from share.editors.terminal.work import Work
 from share.text.line import Line
 
 KEPT = "^V puts what you wrote."
-
-
-class Clipboard:
-    """What was cut or copied last, or written in vain."""
-
-    def __init__(self) -> None:
-        self.text = ""
-
-    def pasted(self) -> Pasted:
-        """The same, as if it came from elsewhere."""
-        return Pasted(self.text)
 
 
 class Requests:

@@ -3,6 +3,7 @@ from collections.abc import Callable
 from concurrent.futures import Future
 
 from share.editors.note import EngineNote
+from share.editors.terminal.clipboard import Clipboard
 from share.editors.terminal.screen import Screen
 from share.editors.terminal.status_line import StatusLine
 from share.editors.terminal.view import View
@@ -19,8 +20,8 @@ class Work:
     """Runs the note's work, one thing after another; what fails ends the editing."""
 
     def __init__(self, note: EngineNote, status: Status, thread: Worker, screen: Screen, waiting: Waiting, view: View,
-                 line: StatusLine):
-        self.status = status
+                 line: StatusLine, clipboard: Clipboard):
+        self.status, self._clipboard = status, clipboard
         # What ended the editing: the text can be moved in and saved then, and no more.
         self.failure: BaseException | None = None
         self._note, self._thread, self._screen = note, thread, screen
@@ -37,6 +38,8 @@ class Work:
         if self._note.notice:
             self._line.say(self._note.notice)
             self._note.notice = ""
+        if self._note.unmade:
+            self._clipboard.text, self._note.unmade = self._note.unmade, ""
         if not (why := future.exception()):
             return future.result()
         if isinstance(why, Refused):
