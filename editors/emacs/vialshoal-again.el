@@ -254,11 +254,12 @@ They come in where they were typed."
 (defun vialshoal-again--wait ()
   "Wait a moment until the engine has all, or the next one if it ended."
   (let ((end (+ (vialshoal--now) vialshoal-again--patience)))
+    ;; A process may have ended that hasn't been heard of.
     (while (and (< vialshoal--answered vialshoal--made)
-                (or vialshoal--is-away (process-live-p vialshoal--process))
+                (or vialshoal--is-away vialshoal--process)
                 (< (vialshoal--now) end))
       (vialshoal-again--start (current-buffer))
-      (accept-process-output vialshoal--process 0.05))))
+      (accept-process-output nil 0.05))))
 
 (defun vialshoal-again--has-all ()
   "Say whether an engine has all that was typed here, or will have it."

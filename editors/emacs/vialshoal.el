@@ -403,7 +403,8 @@ From then on it keeps what is needed to carry edits over from there."
   (let ((words (plist-get line :words)))
     (if edits
         (vialshoal-again--refused words edits)
-      (vialshoal--say-once (concat words (vialshoal--beside-words))))
+      (funcall (if vialshoal--is-away #'vialshoal--say-once #'vialshoal--say)
+               (concat words (vialshoal--beside-words))))
     (unless (or (plist-get line :edits) (plist-get line :id))
       (vialshoal--send :do "text" :edits vialshoal--made))))
 

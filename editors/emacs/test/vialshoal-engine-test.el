@@ -188,6 +188,23 @@
       (should (equal (vialshoal-engine--meet (list ada bo))
                      "ada:a0 c d a1 c d a2 c d \nbo:b0 b1 b2 \n")))))
 
+(ert-deftest vialshoal-engine-an-engine-that-cannot-be-started-is-tried-again ()
+  (vialshoal-engine-with-folder
+    (let ((ada (vialshoal-engine--open "Ada")))
+      (vialshoal-engine--type ada "kept")
+      (let ((vialshoal-command '("/nowhere/note")))
+        (vialshoal-engine--kill "Ada")
+        (with-current-buffer ada
+          (vialshoal-engine--wait
+           (lambda ()
+             (and vialshoal--is-away (> vialshoal-again--tries 1)
+                  (string-match-p "nowhere" vialshoal--words))))
+          (should (equal (vialshoal--lighter)
+                         " Note:engine ended, all is kept here")))
+        (vialshoal-engine--type ada " and more"))
+      (vialshoal-engine--wait (lambda () (vialshoal-engine--is-quiet ada)))
+      (should (equal (vialshoal-support--text ada) "kept and more")))))
+
 (ert-deftest vialshoal-engine-who-closes-without-an-engine-loses-nothing ()
   (vialshoal-engine-with-folder
     (let ((ada (vialshoal-engine--open "Ada")))

@@ -129,6 +129,24 @@ with_folder('others type while an engine is killed', function(open, folder)
   support.same('ada:a0 c d a1 c d a2 c d \nbo:b0 b1 b2 \n', Child.meet({ ada, bo }))
 end)
 
+with_folder('an engine that can\'t be started is tried again', function(open)
+  local ada = open('Ada')
+  ada:type('ikept')
+  ada:run([[
+    command = v.note().command
+    v.note().command = { '/nowhere/note' }
+  ]])
+  ada:kill_engine()
+  support.wait(function() return ada:run('return v.note().tries > 1 and v.note().told_why ~= nil') end, 'a try that fails')
+  support.same('Note:engine ended, all is kept here', ada:run('return v.statusline()'))
+  ada:type(' and more')
+  assert(ada:run([[return vim.fn.execute('messages')]]):find('nowhere'))
+  ada:run('v.note().command = command; vim.cmd("messages clear")')
+  ada:type('<Esc>')
+  support.wait(function() return ada:is_quiet() end, 'all to be kept')
+  support.same('kept and more', ada:text())
+end)
+
 with_folder('who quits without an engine loses nothing', function(open)
   local ada = open('Ada')
   ada:type('ikept')

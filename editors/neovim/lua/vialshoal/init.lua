@@ -207,13 +207,26 @@ end
 
 local start, send_open
 
+--- Says why no engine opens the note again, unless that was said last.
+local function say_once(note, words)
+  if words ~= '' and words ~= note.told_why then
+    note.told_why = words
+    say.words(words)
+  end
+end
+
 --- Starts the engine again, after a pause that grows with each try. The user types on meanwhile.
 local function start_later(note)
   local pause = again.pause(note.tries)
   note.tries = note.tries + 1
   vim.defer_fn(function()
     if notes[note.buffer] == note and note.is_away and not note.job then
-      start(note)
+      local is_started, why = pcall(start, note)
+      if not is_started then
+        note.job = nil
+        say_once(note, tostring(why))
+        start_later(note)
+      end
     end
   end, pause * 1000)
 end
@@ -238,6 +251,8 @@ local function ended(note, words)
     say.words('The engine ended and is started again. Nothing is lost; type on. '
       .. (was_asked and 'Look whether your last command was done, and else repeat it. ' or '') .. words)
     review.ended(note)
+  else
+    say_once(note, words)
   end
   start_later(note)
 end
