@@ -1,31 +1,35 @@
 -- The messages of a note's base, put one after the other.
-use Rattle.std.proofs.Common.{◌≡◌, ◌≢◌, ℕ, ◌⊎◌, ◌↔◌, inl, inr, ◌&&◌, true, nat_eq, List, [], ◌∷◌, ◌++◌, Option, Some, None, Contains, Bor}
-use Rattle.std.proofs.Common.{refl, sym, ap, subst, ◌∙◌, eqb-true}
-use Rattle.std.specs.Cmp.{IsEquivalence, nat_eq_equiv}
+use Rattle.std.proofs.Common.{◌≡◌, ◌≢◌, ℕ, ◌⊎◌, ◌↔◌, inl, inr, true, List, [], ◌∷◌, ◌++◌, Option, Some, None, Contains, IsSome, Bor, nat_eq}
+use Rattle.std.proofs.Common.{refl, sym, ap, subst, ◌∙◌}
+use Rattle.std.specs.Cmp.{IsEquivalence, IsTotalOrder, eq_by_cmp_equiv, nat_cmp_total, on_total, then_total}
+use Rattle.std.specs.List.{IsDistinct}
+use Rattle.std.specs.Map.{keys_of, lookup, values_of}
 use Rattle.std.specs.Option.{is_some, option_copied}
-use Rattle.std.proofs.lemmas.Bool.{and_from, and_parts, cases_Bool, false≢true}
+use Rattle.std.specs.Ordering.{nat_cmp}
+use Rattle.std.proofs.lemmas.Bool.{cases_Bool, false≢true}
 use Rattle.std.proofs.lemmas.List.Elements.{Contains-append_left, Contains-push, Contains-push_cases}
 use Rattle.note_laws.specs.Note.{Saying}
-use Rattle.note_admission.specs.Base.{AreOneOfEach, HasSite, IsPutAt, Spot, is_same_spot, message_spot}
+use Rattle.note_admission.specs.Base.{AreFound, AreOneOfEach, HasSite, IsPutAt, Spot, is_same_spot, message_spot, spot_cmp}
+use Rattle.note_admission.specs.Kept.{BaseSites}
+use Rattle.note_entries.proofs.Least.{of_none}
+use Rattle.note_entries.proofs.Orders.{equal_parts, one_number}
 
 pub one_spot : (a b : Spot) → is_same_spot a b ≡ true → a ≡ b
 one_spot a b e =
-    let text = and_parts (nat_eq a.text b.text) _ e in
-    let rest = and_parts (nat_eq a.site b.site) _ text.1 in
+    let text = equal_parts (nat_cmp a.text b.text) _ e in
+    let rest = equal_parts (nat_cmp a.site b.site) _ text.1 in
     λ i. record {
-      text = eqb-true a.text b.text text.0 i;
-      site = eqb-true a.site b.site rest.0 i;
-      seq = eqb-true a.seq b.seq rest.1 i;
+      text = one_number a.text b.text text.0 i;
+      site = one_number a.site b.site rest.0 i;
+      seq = one_number a.seq b.seq rest.1 i;
     }
 
+spot_total : IsTotalOrder spot_cmp
+spot_total = then_total (on_total (λ (p : Spot). p.text) nat_cmp_total)
+    (then_total (on_total (λ (p : Spot). p.site) nat_cmp_total) (on_total (λ (p : Spot). p.seq) nat_cmp_total))
+
 pub spots : IsEquivalence is_same_spot
-spots = record {
-  refl = λ a. and_from _ _ (nat_eq_equiv.refl a.text)
-      (and_from _ _ (nat_eq_equiv.refl a.site) (nat_eq_equiv.refl a.seq));
-  symm = λ a b i. nat_eq_equiv.symm a.text b.text i
-      && (nat_eq_equiv.symm a.site b.site i && nat_eq_equiv.symm a.seq b.seq i);
-  congr = λ a b c e. ap (λ (k : Spot). is_same_spot k c) (one_spot a b e);
-}
+spots = eq_by_cmp_equiv spot_total
 
 spots_apart : (a b : Saying) → (message_spot a ≡ message_spot b) ⊎ (message_spot a ≢ message_spot b)
 spots_apart a b = elim (cases_Bool (is_same_spot (message_spot a) (message_spot b))) [
@@ -38,6 +42,33 @@ spots_apart a b = elim (cases_Bool (is_same_spot (message_spot a) (message_spot 
 pub seen_some : {X : Type 0} (r : Option (Bor X)) (l : Option X) → option_copied r ≡ l → is_some r ≡ is_some l
 seen_some None l e = ap is_some e
 seen_some (Some x) l e = ap is_some e
+
+-- of no messages nothing is found
+pub found_none : (said : List (Spot × Saying)) (known : BaseSites) (sites : List ℕ) → said ≡ [] → known ≡ [] → sites ≡ []
+    → IsDistinct is_same_spot (keys_of said) → AreFound said known sites × AreOneOfEach [] (values_of said)
+found_none said known sites no_said no_known no_sites distinct = (
+  record {
+    keyed = record {
+      keyed = λ k x held. absurd (of_none (k, x) (subst (λ (es : List (Spot × Saying)). Contains es (k, x)) no_said held));
+      distinct = distinct;
+    };
+    listed = λ site. (
+      λ some. absurd (false≢true (subst (λ (m : BaseSites). IsSome (lookup (nat_eq site) m)) no_known some)),
+      λ held. absurd (no_site site held),
+    );
+    theirs = λ site. (λ held. absurd (no_site site held), λ has. absurd (no_value has.0 has.1));
+  },
+  record {
+    among = λ s held. absurd (no_value s held);
+    each = λ s held. absurd (of_none s held);
+  },
+)
+  where
+    no_site : (site : ℕ) → Contains sites site → ⊥
+    no_site site held = of_none site (subst (λ (xs : List ℕ). Contains xs site) no_sites held)
+
+    no_value : (s : Saying) → Contains (values_of said) s → ⊥
+    no_value s held = of_none s (subst (λ (es : List (Spot × Saying)). Contains (values_of es) s) no_said held)
 
 module _ (old new : List Saying) (s : Saying) (put : IsPutAt old s new) where
   stands : Contains new s

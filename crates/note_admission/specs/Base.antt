@@ -1,6 +1,8 @@
 -- The messages of a note's base, by where in a text they stand.
-use Rattle.std.specs.Prelude.{◌≡◌, ◌≢◌, ℕ, ◌⊎◌, ◌↔◌, nat_eq, Bool, ◌&&◌, List, Contains, IsSome}
+use Rattle.std.specs.Prelude.{◌≡◌, ◌≢◌, ℕ, ◌⊎◌, ◌↔◌, nat_eq, Bool, List, Contains, IsSome}
 use Rattle.std.specs.Map.{lookup, values_of}
+use Rattle.std.specs.declared.cmp.Ordering.{Ordering}
+use Rattle.std.specs.Ordering.{eq_by_cmp, nat_cmp, ordering_then}
 use Rattle.note_laws.specs.Note.{Saying}
 use Rattle.note_entries.specs.Keyed.{StandUnderKeys}
 use Rattle.note_admission.specs.Kept.{BaseSites}
@@ -11,8 +13,13 @@ pub record Spot : Type 0 where
   pub site : ℕ
   pub seq : ℕ
 
+-- the order of spots, by one part after the other
+abbrev pub spot_cmp : Spot → Spot → Ordering
+spot_cmp a b = ordering_then (nat_cmp a.text b.text) (ordering_then (nat_cmp a.site b.site) (nat_cmp a.seq b.seq))
+
+-- whether two spots are one
 abbrev pub is_same_spot : Spot → Spot → Bool
-is_same_spot a b = nat_eq a.text b.text && (nat_eq a.site b.site && nat_eq a.seq b.seq)
+is_same_spot = eq_by_cmp spot_cmp
 
 -- where a message stands
 abbrev pub message_spot : Saying → Spot

@@ -8,14 +8,14 @@ ghost use Rattle.note_entries.specs.Keyed.{StandUnderKeys};
 ghost use Rattle.note_admission.specs.Base.{AreOneOfEach, HasSite, IsListed, IsPutAt, is_same_spot, message_spot};
 
 use char_files::{SiteMap, SiteNo, TextNo};
-use indexmap::IndexMap;
 use looks::Refusal;
 use note_entries::Saying;
 use std::alloc::Global;
+use std::collections::BTreeMap;
 use std::marker::Model;
 
 // Where in a text a message of the base stands.
-#[derive(Clone, Copy, Debug, PartialEq, Eq, Hash)]
+#[derive(Clone, Copy, Debug, PartialEq, Eq, PartialOrd, Ord)]
 pub(crate) struct Spot {
     pub text: TextNo,
     pub site: SiteNo,
@@ -59,7 +59,7 @@ fn note_site(known: &mut SiteMap<()>, listed: &mut Vec<SiteNo>, site: SiteNo) ->
 }
 
 // The message stands in its spot. Refused `OutOfMemory` alone.
-fn put(said: &mut IndexMap<Spot, Saying>, saying: Saying) -> Result<(), Refusal>
+fn put(said: &mut BTreeMap<Spot, Saying>, saying: Saying) -> Result<(), Refusal>
     ensures ok { OnOk result (StandUnderKeys is_same_spot message_spot said.old.entries
         → StandUnderKeys is_same_spot message_spot said.new.entries
         × IsPutAt (values_of said.old.entries) saying (values_of said.new.entries)) }
@@ -72,7 +72,7 @@ fn put(said: &mut IndexMap<Spot, Saying>, saying: Saying) -> Result<(), Refusal>
 // The messages that were copied into a note, found by their places at once.
 #[derive(Drop)]
 pub(crate) struct Base {
-    said: IndexMap<Spot, Saying>,
+    said: BTreeMap<Spot, Saying>,
     // The numbers that have some.
     known: SiteMap<()>,
     sites: Vec<SiteNo>,
@@ -97,7 +97,7 @@ impl Base {
         ensures ok { IfOk result (λ base. AreOneOfEach messages.items base) }
         ensures errors { RefusedForMemoryAlone result }
     {
-        let mut said = IndexMap::new(alloc);
+        let mut said = BTreeMap::new(alloc);
         let mut known = SiteMap::new(alloc);
         let mut sites = Vec::new(alloc);
         for saying in messages {

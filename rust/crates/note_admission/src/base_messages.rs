@@ -2,13 +2,12 @@
 //! The messages of a note's base.
 
 use char_files::{SiteMap, SiteNo, TextNo};
-use fallible::{Global, Vec};
-use indexmap::IndexMap;
+use fallible::{BTreeMap, Global, Vec};
 use looks::Refusal;
 use note_entries::Saying;
 
 // Where in a text a message of the base stands.
-#[derive(Clone, Copy, Debug, PartialEq, Eq, Hash)]
+#[derive(Clone, Copy, Debug, PartialEq, Eq, PartialOrd, Ord)]
 pub(crate) struct Spot {
     pub text: TextNo,
     pub site: SiteNo,
@@ -35,14 +34,14 @@ fn note_site(known: &mut SiteMap<()>, listed: &mut Vec<SiteNo>, site: SiteNo) ->
 }
 
 // The message stands in its spot. Refused `OutOfMemory` alone.
-fn put(said: &mut IndexMap<Spot, Saying>, saying: Saying) -> Result<(), Refusal> {
+fn put(said: &mut BTreeMap<Spot, Saying>, saying: Saying) -> Result<(), Refusal> {
     said.insert(Spot::of(&saying), saying)?;
     Ok(())
 }
 
 // The messages that were copied into a note, found by their places at once.
 pub(crate) struct Base {
-    said: IndexMap<Spot, Saying>,
+    said: BTreeMap<Spot, Saying>,
     // The numbers that have some.
     known: SiteMap<()>,
     sites: Vec<SiteNo>,
@@ -51,7 +50,7 @@ pub(crate) struct Base {
 impl Base {
     // These messages, of each place the last. Refused `OutOfMemory` alone.
     pub(crate) fn new(alloc: Global, messages: Vec<Saying>) -> Result<Base, Refusal> {
-        let mut said = IndexMap::new(alloc);
+        let mut said = BTreeMap::new(alloc);
         let mut known = SiteMap::new(alloc);
         let mut sites = Vec::new(alloc);
         for saying in messages {

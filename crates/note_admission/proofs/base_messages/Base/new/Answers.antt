@@ -1,8 +1,15 @@
 use Rattle.std.proofs.Common.{◌≡◌, ◌⊎◌, ◌↔◌, ℕ, Contains, ap, subst, ◌∙◌}
 use Rattle.std.specs.Map.{values_of}
+use Rattle.std.proofs.lemmas.Map.Keys.{IsDistinct-from_sorted}
 use Rattle.note_laws.specs.Note.{Saying}
-use Rattle.note_admission.proofs.Bases.{one_more, theirs_more}
+use Rattle.note_admission.specs.Base.{spot_cmp}
+use Rattle.note_admission.proofs.Bases.{found_none, one_more, theirs_more}
 use Rattle.note_admission.proofs.base_messages.Base.new.Goals as goal
+
+pub loop-saying-init : goal.loop-saying-init
+loop-saying-init c =
+    found_none _ _ _ c.new-said.ensures.empty c.new-known.ensures c.new-sites.ensures.items
+    (IsDistinct-from_sorted spot_cmp _ c.new-said.ensures.ordered)
 
 pub loop-saying-preserved : goal.loop-saying-preserved
 loop-saying-preserved c =
