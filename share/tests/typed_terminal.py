@@ -12,7 +12,6 @@ import termios
 import time
 
 from share.engine import server
-from share.tests.bursting import PLANTS as PLANTS
 from share.tests.support import NOTE, Case
 from share.tests.waiting import PATIENCE
 

@@ -10,7 +10,8 @@ import sys
 import unittest
 
 from share.tests.support import TOP, Case
-from share.tests.typed_terminal import PLANTS, TypedTerminal
+from share.tests.bursting import PLANTS
+from share.tests.typed_terminal import TypedTerminal
 
 KILLS = int(os.environ.get("VIALSHOAL_KILLS", "200"))
 SEED = int(os.environ.get("VIALSHOAL_SEED", "1"))
