@@ -5,6 +5,7 @@ import random
 import signal
 from collections.abc import Iterator
 
+from share.tests.bursting import PLANTS
 from share.tests.editors import Editor
 from share.tests.support import engine_of
 from share.tests.waiting import wait_for
@@ -14,8 +15,6 @@ LETTERS = "abcdefghijklmnopqrstuvwxyz0123456789"
 MOST_KEYS = 30
 # So many keys are typed at once at most.
 MOST_AT_ONCE = 4
-# What is planted to see that it is found: some of what was typed is taken away, is there twice, or stands in another order.
-PLANTS = "drop", "double", "swap"
 
 
 class Kills:

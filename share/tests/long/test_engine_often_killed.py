@@ -9,7 +9,8 @@ import time
 import unittest
 
 from share.tests import test_engine_killed
-from share.tests.killing import PLANTS, Kills
+from share.tests.bursting import PLANTS
+from share.tests.killing import Kills
 from share.tests.support import TOP
 
 KILLS = int(os.environ.get("SHARE_KILLS", "200"))

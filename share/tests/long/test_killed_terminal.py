@@ -9,8 +9,8 @@ import subprocess
 import sys
 import unittest
 
-from share.tests.support import TOP, Case
 from share.tests.bursting import PLANTS
+from share.tests.support import TOP, Case
 from share.tests.typed_terminal import TypedTerminal
 
 KILLS = int(os.environ.get("VIALSHOAL_KILLS", "200"))
