@@ -208,7 +208,7 @@ class EngineNote:
                 self._come_again()
             if not self._receive(0.05) and self.mirror.is_away:
                 time.sleep(0.05)
-        words = _words_of(self.mirror.left_unmade()) if self.mirror.is_away else self.unmade
+        words = _inserted_words(self.mirror.left_unmade()) if self.mirror.is_away else self.unmade
         if not self.mirror.is_away:
             self._until_answered()
             self._send({"do": "close"})
@@ -239,7 +239,7 @@ class EngineNote:
         if self._goes_on:
             self.cursor = begin + len(text.encode())
         if not self.mirror.is_away and "error" in (answer := self._until("edit")) and answer["error"] != AWAY:
-            self.unmade += _words_of([changes])
+            self.unmade += _inserted_words([changes])
             self._say(f"{answer['words']} {REFUSED_KEPT}" if self.unmade else answer["words"])
 
     def _say(self, words: str) -> None:
@@ -327,7 +327,7 @@ class EngineNote:
             self._say(answer["words"])
             self._line.leave()
             return
-        if words := _words_of(self.mirror.opened_again(answer)):
+        if words := _inserted_words(self.mirror.opened_again(answer)):
             self.unmade += words
             self._say(NOT_CARRIED)
         self._goes_on, self._said_cursor = False, (-1, None)
@@ -348,6 +348,6 @@ class EngineNote:
         self.changes.take(line, self.mirror.made)
 
 
-def _words_of(edits: Sequence[Sequence[TextChange]]) -> str:
+def _inserted_words(edits: Sequence[Sequence[TextChange]]) -> str:
     """The words that edits bring."""
     return "".join(text for changes in edits for _, _, text in changes)

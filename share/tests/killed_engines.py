@@ -15,6 +15,7 @@ from share.engine import server
 from share.engine.engine import Engine
 from share.engine.journal import Journal
 from share.format.second.key_link import link_of
+from share.log.folder import make_folder
 from share.log.polling import can_read
 from share.store import notes
 from share.sync.edits import OwnEdits
@@ -98,7 +99,7 @@ class House:
 
     def _started(self) -> int:
         last = next(self.kills, 0)
-        server.make_folder(server.run_folder())
+        make_folder(server.run_folder())
         if child := os.fork():
             return child
         try:

@@ -1,6 +1,7 @@
 """An engine is killed between any two messages that it exchanges with its editors. They open again, also killed again meanwhile, and each
 key is there, once, in order; what was typed before can be taken back."""
 import os
+import random
 import time
 import unittest
 from collections.abc import Callable
@@ -8,6 +9,7 @@ from collections.abc import Callable
 from share.store import notes
 from share.tests.killed_engines import NAME, House, Reopening
 from share.tests.support import Case
+from share.tests.typed_terminal import TypedTerminal
 from share.tests.waiting import PATIENCE
 
 # Of so many points each one is tried.
@@ -90,7 +92,7 @@ class KilledAnywhere(Case):
         """Takes back all that an editor typed, step by step; what others typed stays."""
         others = [word for line in ada.text.split("\n") if line[:2] in ("B:", "C:") for word in line[2:].split()]
         shown = [ada.text]
-        while (answer := ada.ask("undo")) and answer["done"]:
+        while (answer := ada.ask("undo")) is None or answer["done"]:
             shown.append(ada.text)
         self.assertEqual(ada.text.split(), others, shown)
         self.assertGreater(len(shown), 3)
@@ -103,6 +105,18 @@ class KilledAnywhere(Case):
                 raise AssertionError([(one.of, one.text, one.mirror.made, one.mirror.answered, one.lines[-3:]) for one in everybody])
             for one in everybody:
                 one.look()
+
+
+class KilledWhileTyping(Case):
+    """Somebody types in the terminal."""
+
+    def test_each_key_is_there_once(self) -> None:
+        """Also of those that were typed while no engine was there; and a fault is seen."""
+        for plant in "", "drop":
+            with self.subTest(plant=plant):
+                terminal = TypedTerminal(self, f"data{plant}", random.Random(5))
+                terminal.type_and_kill(2 if plant else 10, plant)
+                self.assertEqual(terminal.quit() == terminal.typed, not plant)
 
 
 if __name__ == "__main__":

@@ -333,7 +333,15 @@ class Terminals(Case):
         wait_for(lambda: self.person("data").text("diary") == b"abc", "the words to be kept")
         for process in one.programs():
             os.kill(process, signal.SIGKILL)
-        one.sees("engine has ended")
+        one.type("def")
+        one.shows("abcdef")
+        wait_for(lambda: self.person("data").text("diary") == b"abcdef", "what was typed since to be kept by the next one")
+        one.press("C-z")
+        one.shows("abc")
+        one.press("C-z")
+        one.shows()
+        one.press("C-y")
+        one.shows("abc")
         one.press("C-s")
         one.sees("Save as: diary.txt")
         one.press(*["BSpace"] * len("diary.txt"))
@@ -343,7 +351,7 @@ class Terminals(Case):
         one.sees("Saved as")
         self.assertEqual(saved.read_text(), "abc")
         one.press("C-q")
-        one.sees("status 2")
+        one.sees("status 0")
         self.assertEqual(self.note("diary", "--print").stdout, "abc")
 
     def test_a_program_that_hangs(self) -> None:
