@@ -219,12 +219,13 @@ sys.exit(main())
         (vialshoal-engine--command #'insert "!")
         (vialshoal-engine--wait (lambda () (vialshoal-engine--is-quiet ada)))
         (should (equal (vialshoal-support--text) "tea"))
-        (should (equal vialshoal--words
-                       (concat "There is no version 99 that this editor can "
-                               "have.  What you typed is kept, and isn't in "
-                               "the note: \"!\".  M-x vialshoal-put-back puts "
-                               "it back.  The note has another text; that of "
-                               "before is in *picnic as it was here*")))
+        ;; The place of the cursor, of that version too, is refused besides.
+        (should (string-match-p
+                 (concat "\\`There is no version 99 that this editor can have\\."
+                         ".*  The note has another text; that of before is in "
+                         "\\*picnic as it was here\\*\\'")
+                 vialshoal--words))
+        (should (equal vialshoal-again--words "!"))
         (vialshoal-put-back)
         (vialshoal-engine--shows ada "tea!"))
       (kill-buffer "*picnic as it was here*"))))
