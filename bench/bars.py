@@ -37,6 +37,7 @@ STRAIGHT = {
     "20 n letters typed one after the other, chunks": Bar(1_600, 500),
     "since the last but one": Bar(11_000, 1_000),
     "since the last but one, the library": Bar(135_000, 20_000),
+    "20 n entries after alike hashes, the library": Bar(95_000, 4_000),
     "pack from the last but one": Bar(13_000, 1_000),
 }
 # A step takes the longer the more there is, so that the whole is a square.

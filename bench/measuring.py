@@ -95,9 +95,9 @@ def ordinary() -> list[str] | None:
 
 
 @functools.cache
-def unnoted() -> list[str]:
-    """What takes chunks in by the library as ordinary Rust, which cargo builds, where noting has ended."""
+def by_library(module: str) -> list[str]:
+    """What answers scripts by the library as ordinary Rust, which cargo builds: the module of this folder."""
     workspace = TOP / "rust"
     subprocess.run(["cargo", "build", "--quiet", "--release", "--offline", "--locked", "-p", "vialshoal_c"], cwd=workspace, check=True)
     library = workspace / "target" / "release" / "libvialshoal_c.so"
-    return [sys.executable, "-B", str(TOP / "bench" / "unnoted.py"), str(library)]
+    return [sys.executable, "-B", str(TOP / "bench" / f"{module}.py"), str(library)]

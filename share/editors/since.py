@@ -61,7 +61,7 @@ class NoteChanges:
         self.found, self.since = sorted(came + went, key=lambda one: one[:2]), line["since"]
 
     def ended(self) -> None:
-        """Asks again, since the engine ended."""
+        """Asks again, if something was asked of an engine that ended."""
         self._asked, self._is_due = False, self._is_due or self._asked
 
     def follow(self, change: Change) -> None:

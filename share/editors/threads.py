@@ -112,8 +112,8 @@ class NoteThreads:
         self._coming, self._asked, self._is_due = [], False, is_due
 
     def ended(self) -> None:
-        """Asks again, since the engine ended."""
-        self._begin_again(True)
+        """Asks again, if something was asked of an engine that ended."""
+        self._begin_again(self._is_due or self._asked)
 
     def follow(self, change: Change) -> None:
         """Moves all along with a change of the text."""
