@@ -72,6 +72,38 @@ def typed_text(characters: str) -> str:
     return re.sub("\r\n|\r", "\n", characters).encode("utf-8", "ignore").decode()
 
 
+class ToldCursor:
+    """The place of the cursor that the engine was told last."""
+
+    def __init__(self) -> None:
+        self._places: tuple[int, int | None] = (0, None)
+        self._due = 0.0
+
+    def line(self, version: int, at: int, anchor: int | None) -> Line | None:
+        """What the engine is to be told now, so that others see the cursor; nothing if it knows that, or was told a moment ago."""
+        now = time.monotonic()
+        if (at, anchor) == self._places or now < self._due:
+            return None
+        self._places, self._due = (at, anchor), now + TELL_CURSOR_SECONDS
+        line = {"do": "cursor", "version": version, "at": at}
+        return line if anchor is None else line | {"anchor": anchor}
+
+    def forget(self) -> None:
+        """Has the next engine be told."""
+        self._places = (-1, None)
+
+
+def occurrences(text: bytes, old: str, new: str) -> list[TextChange]:
+    """The changes by which words take the place of others in a text, wherever they stand, the last one first."""
+    wanted, changes = old.replace("\r", "\n").encode("utf-8", "ignore"), list[TextChange]()
+    data, put = swapped(text), new.replace("\r", "\n").encode("utf-8", "ignore").decode()
+    place = data.rfind(wanted) if wanted else -1
+    while place >= 0:
+        changes.append((place, place + len(wanted), put))
+        place = data.rfind(wanted, 0, place)
+    return changes
+
+
 class EngineNote:
     """The text as the engine's site shows it."""
 
@@ -87,8 +119,7 @@ class EngineNote:
         self.notice = self.unmade = ""
         # Whether the cursor is where the last edit left it.
         self._goes_on = False
-        self._said_cursor: tuple[int, int | None] = (0, None)
-        self._cursor_due = 0.0
+        self._told_cursor = ToldCursor()
         # Answers that nobody has looked at; all lines, as long as the note isn't open.
         self._answers: list[Line] = []
         self._is_open = False
@@ -127,25 +158,14 @@ class EngineNote:
 
     def replace(self, old: str, new: str) -> int:
         """Puts words in the place of others, wherever they stand; how often."""
-        changes = self.occurrences(old, new)
+        changes = occurrences(bytes(self.text), old, new)
         self._goes_on = False
         if changes:
             self._edit(changes)
         return len(changes)
 
-    def occurrences(self, old: str, new: str) -> list[TextChange]:
-        """The changes by which words take the place of others, wherever they stand, the last one first."""
-        wanted, changes = old.replace("\r", "\n").encode("utf-8", "ignore"), list[TextChange]()
-        data, put = swapped(bytes(self.text)), new.replace("\r", "\n").encode("utf-8", "ignore").decode()
-        place = data.rfind(wanted) if wanted else -1
-        while place >= 0:
-            changes.append((place, place + len(wanted), put))
-            place = data.rfind(wanted, 0, place)
-        return changes
-
     def take_back(self) -> bool:
-        """Takes back this editor's last edit that stands, by names: nobody else's is touched. False where there is
-        none."""
+        """Takes back this editor's last edit that stands, by names: nobody else's is touched. False where there is none."""
         return self._by_names("undo")
 
     def do_again(self) -> bool:
@@ -180,7 +200,8 @@ class EngineNote:
         if not self.mirror.is_away:
             for asks in self.threads.ask, self.changes.ask:
                 asks(self.mirror.version, self.mirror.answered == self.mirror.made, self._send)
-            self._say_cursor()
+            if line := self._told_cursor.line(self.mirror.version, self.cursor, self.anchor):
+                self._send(line)
         if self.mirror.words:
             self.notice, self.mirror.words = self.mirror.words, ""
         return bool(version != self.mirror.version)
@@ -210,7 +231,8 @@ class EngineNote:
                 time.sleep(0.05)
         words = _inserted_words(self.mirror.left_unmade()) if self.mirror.is_away else self.unmade
         if not self.mirror.is_away:
-            self._until_answered()
+            while self.mirror.answered < self.mirror.made and not self.mirror.is_away:
+                self._receive(WATCH_SECONDS)
             self._send({"do": "close"})
         self._line.close()
         if words:
@@ -257,26 +279,14 @@ class EngineNote:
             self.cursor = boundary(self.text, min(self.mirror.cursor, len(self.text)))
         return bool(answer["done"])
 
-    def _say_cursor(self) -> None:
-        """Says where the cursor is, so that others see it."""
-        now, places = time.monotonic(), (self.cursor, self.anchor)
-        if places != self._said_cursor and now >= self._cursor_due:
-            self._said_cursor, self._cursor_due = places, now + TELL_CURSOR_SECONDS
-            line = {"do": "cursor", "version": self.mirror.version, "at": self.cursor}
-            self._send(line if self.anchor is None else line | {"anchor": self.anchor})
-
     def _opened(self) -> Line:
         """What the opening is answered."""
-        while True:
+        while not (found := [line for line in self._answers if line.get("answer") == "open"]):
             self._receive(WATCH_SECONDS)
-            for line in [*self._answers]:
-                self._answers.remove(line)
-                if line.get("answer") == "open":
-                    if "error" in line:
-                        raise Trouble(line["words"])
-                    return line
-                if line.get("notice") == "opening":
-                    self._bar(line["done"], line["of"])
+        self._answers.remove(found[0])
+        if "error" in found[0]:
+            raise Trouble(found[0]["words"])
+        return found[0]
 
     def _until(self, what: str) -> Line:
         """The answer to the last request of a kind; there is one at a time. Nothing is answered any more where the engine ended."""
@@ -288,11 +298,6 @@ class EngineNote:
                     return line
             if self.mirror.is_away:
                 return {"answer": what, "error": AWAY, "words": DROPPED}
-            self._receive(WATCH_SECONDS)
-
-    def _until_answered(self) -> None:
-        """Waits until what was typed last is on the disk."""
-        while self.mirror.answered < self.mirror.made and not self.mirror.is_away:
             self._receive(WATCH_SECONDS)
 
     def _send(self, line: Line) -> None:
@@ -330,14 +335,16 @@ class EngineNote:
         if words := _inserted_words(self.mirror.opened_again(answer)):
             self.unmade += words
             self._say(NOT_CARRIED)
-        self._goes_on, self._said_cursor = False, (-1, None)
+        self._goes_on = False
+        self._told_cursor.forget()
 
     def _take(self, line: Line) -> None:
+        if line.get("notice") == "opening":
+            self._bar(line["done"], line["of"])
+            return
         if not self._is_open:
             self._answers.append(line)
             return
-        if line.get("notice") == "opening":
-            self._bar(line["done"], line["of"])
         if line.get("answer") == "open":
             self._opened_again(line)
             return

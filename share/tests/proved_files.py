@@ -77,10 +77,8 @@ def give_up(folder: pathlib.Path) -> None:
 
 def see_alike(folder: pathlib.Path) -> None:
     """Fails where a note's file in a folder is shown otherwise by the library's note."""
-    files = [*files_of_second_form(folder)]
-    if files:
-        _see_engines_end(folder)
-    for path in files:
+    _see_engines_end(folder)
+    for path in files_of_second_form(folder):
         try:
             both = read_by_both(path)
         except Trouble:
@@ -106,7 +104,8 @@ def is_readable(path: pathlib.Path) -> bool:
 def files_of_second_form(folder: pathlib.Path) -> Iterator[pathlib.Path]:
     """The notes' files of this form, also those that were set aside."""
     application = NOTE_APPLICATIONS[SECOND].to_bytes(APPLICATION_BYTES, "big")
-    for path in sorted(folder.rglob("*.note*")):
+    # (not by `rglob`, which fails where a folder goes meanwhile)
+    for path in sorted(pathlib.Path(of, name) for of, _, names in os.walk(folder) for name in names if ".note" in name):
         with suppress(OSError):
             if path.is_file() and not path.is_symlink() and _begin(path).endswith(application):
                 yield path
@@ -119,7 +118,7 @@ def _begin(path: pathlib.Path) -> bytes:
 
 def _see_engines_end(folder: pathlib.Path) -> None:
     """Waits until no engine has a note open."""
-    locks = [*folder.rglob("run/*.lock")]
+    locks = [pathlib.Path(of, name) for of, _, names in os.walk(folder) for name in names if name.endswith(".lock")]
     with suppress(AssertionError):
         wait_for(lambda: not any(map(_is_locked, locks)), "engines to end", ENGINE_SECONDS)
 

@@ -7,7 +7,7 @@ from share.editors.terminal.layout import clusters
 
 
 # Keys that leave a selected answer as it is, with the cursor behind it.
-ENDS = (Key.END, Key.RIGHT)
+LEAVING_KEYS = (Key.END, Key.RIGHT)
 
 
 def is_yes(answer: str) -> bool:
@@ -37,7 +37,7 @@ class Prompt:
             self.answer = "" if self.is_selected else "".join(clusters(self.answer)[:-1])
         elif typed:
             self.answer = typed if self.is_selected else self.answer + typed
-        elif key not in ENDS:
+        elif key not in LEAVING_KEYS:
             return
         self.is_selected = False
 

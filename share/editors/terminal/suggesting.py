@@ -2,7 +2,7 @@
 import time
 from collections.abc import Sequence
 
-from share.editors.note import EngineNote, typed_text
+from share.editors.note import EngineNote, occurrences, typed_text
 from share.editors.suggesting import Gathered, Meant
 from share.editors.terminal.keys import safe_for_terminal
 from share.editors.terminal.requests import Requests
@@ -60,7 +60,7 @@ class Suggesting:
     def replace(self, old: str, new: str) -> None:
         """Suggests words in the place of others, wherever those stand."""
         self.end()
-        made = self._work.edit(lambda: self._note.suggest_all(self._note.occurrences(old, new)))
+        made = self._work.edit(lambda: self._note.suggest_all(occurrences(bytes(self._note.text), old, new)))
         if made is not None:
             self._made += made
             self._line.say(f"Suggested {counted(len(made), 'time')}." if made else f"{old!r} isn't in the note.")
