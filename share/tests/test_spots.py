@@ -238,7 +238,7 @@ class Anew(Reviewed):
         self.engine.turn()
         lines = [*map(json.loads, sent)]
         sent.clear()
-        self.assertEqual(lines[0], {"answer": "edit", "edits": mirror.made})
+        self.assertEqual(lines[0], {"answer": "edit", "edits": mirror.made, "version": mirror.version})
         for line in lines:
             mirror.take(line)
 
