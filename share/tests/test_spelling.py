@@ -254,7 +254,8 @@ class TheProgramAlone(unittest.TestCase):
             nodes = ast.walk(ast.parse(path.read_bytes()))
             if any(isinstance(one, ast.Attribute) and one.attr == "spellings" for one in nodes):
                 places.add(path.parent.name)
-        self.assertLessEqual(places, {"second"})
+        # For the hashes of the second form, and for the checksums of the engine's journal.
+        self.assertLessEqual(places, {"second", "engine"})
 
 
 if __name__ == "__main__":
