@@ -1,5 +1,5 @@
-"""What an engine notes of its editors: a journal that is damaged, cut short, of another version or note, or that can't be written, is said,
-and then nothing is carried over; what is carried over otherwise is told from what isn't."""
+"""What an engine notes of its editors: a journal that is damaged, of another version or note, or that can't be written, is said, and then
+nothing is carried over; what is carried over otherwise is told from what isn't."""
 import errno
 import hashlib
 import os
@@ -116,8 +116,12 @@ class Journals(Case):
         self.assertEqual(self.person().text(), b"ab")
         return said
 
-    def test_one_that_was_cut_short(self) -> None:
-        self.assertIn("cut short", self.spoiled(lambda data: data[:-5]))
+    def test_a_last_line_that_a_kill_cut_is_left_out(self) -> None:
+        self.typed("b", "a")
+        self.path.write_bytes(self.path.read_bytes()[:-5])
+        answer, _ = self.next(0, 1, "cab", [(0, 0, "a")], [(0, 0, "c")])
+        self.assertEqual((answer["has"], answer["edits"], "text" in answer), (3, 3, False))
+        self.assertEqual(self.person().text(), b"cab")
 
     def test_one_that_is_damaged(self) -> None:
         self.assertIn("damaged", self.spoiled(lambda data: data[:-9] + bytes([data[-9] ^ 1]) + data[-8:]))
