@@ -164,9 +164,10 @@ class Reopening:
             self.mirror.take(line)
 
     def type_meanwhile(self) -> None:
-        """Types something while the engine is away."""
+        """Types something while the engine is away, unless its line was taken back."""
         self.was_cut += 1
-        self.type(f"{self.of}x{self.was_cut} ")
+        if f"{self.of}:" in self.text:
+            self.type(f"{self.of}x{self.was_cut} ")
 
     def send(self, line: Line) -> None:
         """Sends a line, if anybody is there."""
