@@ -40,7 +40,8 @@ LINKS = {
     "share/zsh/vendor-completions/_note": "share/completions/_note",
     "share/doc/vialshoal": "docs",
     **{f"share/emacs/site-lisp/{name}.el": f"editors/emacs/{name}.el"
-       for name in ("vialshoal", "vialshoal-review", "vialshoal-remarks", "vialshoal-changed", "vialshoal-suggesting", "vialshoal-evil")},
+       for name in ("vialshoal", "vialshoal-again", "vialshoal-review", "vialshoal-remarks", "vialshoal-changed", "vialshoal-suggesting",
+                    "vialshoal-evil")},
     "share/man/man1/note.1": "docs/man/note.1",
     "share/man/man1/site_cli.1": "docs/man/site_cli.1",
     "share/nvim/site/pack/vialshoal/start/vialshoal": "editors/neovim",
