@@ -387,7 +387,8 @@ class ScriptedNote:
     """A note of the editor's without a program: some words that are typed have it hang or fail."""
 
     def __init__(self, text: bytes, can_type: str):
-        self.text, self.cursor, self.top, self.notice = bytearray(text), 0, 0, ""
+        self.text, self.cursor, self.top = bytearray(text), 0, 0
+        self.notice = self.unmade = ""
         self.anchor: int | None = None
         self.session, self.threads, self.changes, self.gathering = self, NoteThreads(), NoteChanges(), Gathering()
         self.can_type, self._undo = can_type, [(0, 0)]
