@@ -38,15 +38,15 @@ def commit() -> str:
         return ""
 
 
-def note_passed(begun: str) -> None:
-    """Write down the commit that passed as a whole, if it is still the one with which the run began."""
+def note_passed(begun: str, unsteady: Sequence[str]) -> None:
+    """Write down the commit that passed as a whole, if it is still the one with which the run began, and below it the unsteady tests."""
     if not begun or begun != commit():
         print("test: no commit is written down as passed, because files differ from it or nothing was proved")
         return
     path = passed_file()
     try:
         path.parent.mkdir(parents=True, exist_ok=True)
-        path.write_text(f"{begun}\n")
+        path.write_text("".join(f"{line}\n" for line in [begun, *unsteady]))
         print(f"test: commit {begun} passed as a whole, as {path} says")
     except OSError as why:
         print(f"test: the commit that passed can't be written down: {why}")
@@ -63,9 +63,14 @@ def run_all(wanted: Iterable[Step]) -> list[tuple[Step, Ran]]:
     return results
 
 
+def named(results: Sequence[tuple[Step, Ran]]) -> list[str]:
+    """Return the lines of failed and of unsteady tests."""
+    return [line for _, ran in results for line in ran.named]
+
+
 def last_lines(results: Sequence[tuple[Step, Ran]]) -> list[str]:
     """Return the last lines of a run: failed and unsteady tests, failed steps, and the counts."""
-    lines = [line for _, ran in results for line in ran.named]
+    lines = named(results)
     lines += [f"FAILED: {step.name()}" for step, ran in results if not ran.is_good()]
     lines += [f"of these, by {step.name()}: {ran.passed} passed, {ran.failed} failed" for step, ran in results if step.apart]
     return [*lines, f"{sum(ran.passed for _, ran in results)} passed, {sum(ran.failed for _, ran in results)} failed"]
@@ -88,7 +93,7 @@ def main(words: Sequence[str]) -> int:
     results = run_all(steps.long() if given.long else steps.gate(given.library))
     is_good = all(ran.is_good() for _, ran in results)
     if is_good and not given.long:
-        note_passed(begun)
+        note_passed(begun, named(results))
     print("\n".join(last_lines(results)), flush=True)
     return 0 if is_good else 1
 

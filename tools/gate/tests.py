@@ -149,11 +149,12 @@ class Passed(unittest.TestCase):
                 contextlib.redirect_stdout(io.StringIO()):
             for begun, now in ("", ""), ("12ab", ""), ("12ab", "34cd"):
                 with mock.patch.object(main, "commit", lambda now=now: now):
-                    main.note_passed(begun)
+                    main.note_passed(begun, [])
                 self.assertFalse(main.passed_file().exists())
             with mock.patch.object(main, "commit", lambda: "12ab"):
-                main.note_passed("12ab")
-            self.assertEqual(main.passed_file().read_text(), "12ab\n")
+                for unsteady in [], ["UNSTEADY test_x seed 1 load 2.0"]:
+                    main.note_passed("12ab", unsteady)
+                    self.assertEqual(main.passed_file().read_text().splitlines(), ["12ab", *unsteady])
 
     def test_the_command_says_what_it_does(self) -> None:
         command = [sys.executable, "-B", str(TOP / "bin" / "test"), "--help"]
