@@ -12,11 +12,13 @@ from share.format.presence import MOST_PRESENCE
 from share.log.base import MOST_ON, ON_SECONDS, READ_AT_ONCE, START, InLog, Log, LogLost, Unreachable
 from share.log.bell import Bell
 from share.log.folder import Inode, held, inode_of, make_folder
-from share.log.sqlite_file import RETRY_SECONDS, SIDE_FILES, Busy, Malformed, SqliteFile, begins_as, beside, set_aside
-from share.text.errors import Trouble
+from share.log.sqlite_file import RETRY_SECONDS, SIDE_FILES, Busy, Malformed, SqliteFile, begins_as, beside, says_application, set_aside
+from share.text.errors import Gone, Trouble, later
 
 # Tells a log from other files of SQLite, notes' files among them, in its header.
 LOG_APPLICATION = 0x56534E4C
+# Unreleased versions kept a note in such a file.
+GONE_APPLICATION = 0x56534E31
 # Above a greater place SQLite would look for a free one below it.
 GREATEST_LOG_PLACE = 2**62
 # A mark tells an entry from another one that took its place in a log that was put back.
@@ -159,6 +161,8 @@ class SqliteLog(Log):
             self._create()
         if self._file.application() != LOG_APPLICATION:
             raise self._no_log()
+        if self._file.is_later([LOG_APPLICATION]):
+            raise later(str(self.path))
         self._is_log = True
         if not self._file.has_tables(LOG_TABLES):
             raise self._set_aside("is damaged (it lacks some of its tables)")
@@ -275,6 +279,8 @@ class SqliteLog(Log):
             raise self._set_aside(f"is damaged ({why})") from why
 
     def _no_log(self) -> Trouble:
+        if says_application(self.path, GONE_APPLICATION):
+            return Gone()
         return Trouble(f"{self.path} isn't a note's log. Move it away, or name another file.")
 
 

@@ -290,22 +290,6 @@ class HandedIn(Case):
             self.assertEqual(counts.read, 0)
         self.assertEqual(self.site.text(), b"abcdefghbefore ")
 
-    def test_entries_of_the_older_kinds(self) -> None:
-        operations = [inserting(7, 1, 1, None, 0, b"ab"), about(DELETE, 7, 2, 2, [(7, 0, 1)]), inserting(7, 3, 3, (7, 1), 2, b"c")]
-        for kind, on in (Kind.MESSAGES, b""), (Kind.BUILDING, bytes(32)):
-            old = FORM._made(kind, 7, 1, 3, self.claim.hash, self.author, on, naive.body_of(operations))
-            entry = FORM.open(old.raw)
-            self.assertEqual((entry.kind, entry.messages), (kind, tuple(operations)))
-        for told in True, False:
-            site = Site(2)
-            self.addCleanup(site.close)
-            old = FORM.open(FORM._made(Kind.MESSAGES, 7, 1, 3, self.claim.hash, self.author, b"", naive.body_of(operations)).raw)
-            messages = Judge([self.claim, old]).count().messages
-            with Counts().counting() as counts:
-                site.take(messages, looks=told)
-            self.assertEqual(self.handed(counts), [chunk_of(operations)])
-            self.assertEqual(site.text(), b"bc")
-
     def test_much_is_handed_in_with_few_events(self) -> None:
         made, last = [], self.claim
         for number in range(2_500):

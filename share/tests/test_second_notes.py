@@ -16,7 +16,6 @@ from share.cli import verbs
 from share.cli.words import parsed
 from share.editors.client import GET_NUMBER_SECONDS, NOT_READ_YET, ScriptNote, note_for_script
 from share.engine.arrivals import NO_NUMBER
-from share.format.link import NEWER_LINK, read_link
 from share.format.second.claim import ZERO_BITS
 from share.format.second.form import PlainRecords
 from share.format.second.key_link import KeyLink, link_of, read_key_link
@@ -350,17 +349,6 @@ class SecondForm(OfSecondForm):
             note.session.close()
         notes = [self.opened_to_type(person) for person in people]
         wait_for(lambda: (self.assert_meet(*notes), {*map(self.margin_of, people)})[1] == {"a remark"}, "it to be there once")
-
-    def test_a_version_of_before_refuses_it_in_words(self) -> None:
-        self.both(self.file_log())
-        link = self.ann.link()
-        self.assertTrue(NEWER_LINK.fullmatch(link))
-        with self.assertRaisesRegex(Trouble, "newer version"):
-            read_link(link)
-        self.assertEqual(read_key_link(link).spelled(), link)
-        # Its file isn't one of those that it knows, so nothing in it is taken for damaged.
-        with contextlib.closing(sqlite3.connect(self.ann.path())) as file:
-            self.assertEqual(file.execute("PRAGMA application_id").fetchone()[0], NOTE_APPLICATIONS[SECOND])
 
     def spares(self, person: Person) -> int:
         """How many numbers somebody can type under beside that of an editor."""
