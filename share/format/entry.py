@@ -67,7 +67,7 @@ class EntryKind(IntEnum):
 
     @property
     def is_newer(self) -> bool:
-        """Whether it is a newer version's."""
+        """Whether it is a later version's."""
         return self._name_ == "NEWER"
 
     @property

@@ -29,7 +29,7 @@ _NO_NAME = re.compile("[\0-\x1f\x7f-\x9f\u061c\u200e\u200f\u2028-\u202e\u2066-\u
 HAS_CURSOR, HAS_ANCHOR, TEXT_BIT = 1, 2, 4
 # The version of what is said, and the count.
 COUNT = struct.Struct(">II")
-VERSION = 0
+PRESENCE_VERSION = 0
 # The site and the offset of a character.
 NamedPlace = tuple[int, int]
 AT_FRONT: NamedPlace = (0, 0)
@@ -80,7 +80,7 @@ def _is_place(place: NamedPlace) -> bool:
 
 def with_count(data: bytes, count: int) -> bytes:
     """What an editor says, with a count."""
-    return data[:RANDOM_BYTES] + COUNT.pack(VERSION, count) + data[TOKEN_BYTES:]
+    return data[:RANDOM_BYTES] + COUNT.pack(PRESENCE_VERSION, count) + data[TOKEN_BYTES:]
 
 
 def leaving(data: bytes) -> bytes:

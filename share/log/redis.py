@@ -26,7 +26,7 @@ MOST_WATCHED = MOST_BYTES + 1_024
 CLAIMS_AT_ONCE, MOST_CLAIM_READINGS = 5_000, 1_000
 # An entry has one field alone. The server hashes the bytes, so nobody can have another entry stand for one
 # that isn't there. One that was trimmed, or stands otherwise, is added anew.
-FIELD = "e"
+ENTRY_FIELD = "e"
 APPEND_SCRIPT = """
     for _, raw in ipairs(ARGV) do
         local hash = redis.sha1hex(raw)
@@ -155,7 +155,7 @@ class Stream:
     def read(self, after: str, most: int = MOST_ROOM) -> list[InLog]:
         """The entries after a place, PAGE at most, and of no more than these bytes but for some."""
         last, count = _stream_place(after)
-        words = last, FIELD, READ_AT_ONCE, MOST_BYTES, min(self._size.room, most), self.taken_out
+        words = last, ENTRY_FIELD, READ_AT_ONCE, MOST_BYTES, min(self._size.room, most), self.taken_out
         with self._size.timed():
             answer = self._wire.run(READ_SCRIPT, self._keys, words, MOST_READ)
         if answer == 0:
@@ -179,7 +179,7 @@ class Stream:
         through them, and sends the sites alone."""
         sites, after = set[int](), b"0-0"
         for _ in range(MOST_CLAIM_READINGS):
-            words = (after, FIELD, CLAIMS_AT_ONCE, kind, MOST_BYTES, at)
+            words = (after, ENTRY_FIELD, CLAIMS_AT_ONCE, kind, MOST_BYTES, at)
             match self._wire.run(CLAIMED_SCRIPT, (self._key,), words):
                 case [bytes(last), list(found)] if len(found) <= CLAIMS_AT_ONCE and _numbers(last):
                     sites |= {int.from_bytes(site, "big") for site in found if isinstance(site, bytes) and len(site) == 2}

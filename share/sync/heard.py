@@ -13,7 +13,7 @@ from collections.abc import Callable, Iterable, Iterator, Sequence
 from enum import IntEnum
 
 from share.format.heartbeat import Hears, Lack, Said, read_heartbeat, token_of
-from share.format.presence import COUNT, FORM, LEAVING_BYTES, RANDOM_BYTES, TOKEN_BYTES, VERSION, is_leaving, with_count
+from share.format.presence import COUNT, FORM, LEAVING_BYTES, RANDOM_BYTES, TOKEN_BYTES, PRESENCE_VERSION, is_leaving, with_count
 from share.log.base import MOST_ON, ON_SECONDS
 
 # The most tokens that are remembered; the one that was silent longest is forgotten first.
@@ -158,5 +158,5 @@ class Shows:
         for data in said:
             if FORM.size <= len(data) <= LEAVING_BYTES and not data.startswith(self._engine):
                 version, count = COUNT.unpack_from(data, RANDOM_BYTES)
-                if version == VERSION:
+                if version == PRESENCE_VERSION:
                     yield data[:RANDOM_BYTES] + data[TOKEN_BYTES:2 * TOKEN_BYTES], count, data

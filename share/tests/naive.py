@@ -363,7 +363,7 @@ def ended(entries: Iterable[FirstEntry]) -> set[bytes]:
 
 def loose(entries: Iterable[FirstEntry]) -> list[FirstEntry]:
     """The entries from which no walk to what came before them ends at a claim that is there. What says that something
-    was made anew, or what stands for what, waits for nothing, nor does what a newer version wrote."""
+    was made anew, or what stands for what, waits for nothing, nor does what a later version wrote."""
     known = {entry.hash: entry for entry in entries}
     found = []
     for entry in known.values():
@@ -406,7 +406,7 @@ LOOKS = b"\x10Oberon10.Scn.Fnt\x01\x00"
 
 
 def newer(form: Form, before: Entry, author: Author, body: bytes = b"new") -> FirstEntry:
-    """What a newer version wrote after an entry, of a kind that this version doesn't know."""
+    """What a later version wrote after an entry, of a kind that this version doesn't know."""
     head_of_it = HEAD.pack(form.number, 9, form.note, before.site, before.last + 1, 0, before.hash)
     assert isinstance(form, FirstForm)
     return form.open(form._closed(head_of_it + author.name, body, author))

@@ -172,7 +172,7 @@ class History:
         self._followed.add(said.hash)
 
     def be_newer(self) -> None:
-        """A newer version writes what this one doesn't know, mostly as the last of a branch."""
+        """A later version writes what this one doesn't know, mostly as the last of a branch."""
         if (last := self._chance.choice([self._leaf, self._leaf, self._any])()) is not None:
             self._add(naive.newer(FORM, last, Author(last.author, b"")), self._ends[last.hash])
             self._followed.add(last.hash)

@@ -1,5 +1,5 @@
-"""Versions: each format has a number. What a later version made is kept, carried and named; what only unreleased versions made is refused in
-words, and nothing of it is changed."""
+"""Versions: each format has a number. What a later version made is kept, carried and named; what only unreleased versions made is
+refused in words, and nothing of it is changed."""
 import contextlib
 import pathlib
 import shutil
@@ -114,7 +114,8 @@ class LaterFiles(WithWords):
                 shutil.copytree(self.ann.data, data.data)
                 self.says_of_itself(data.path(), statement)
                 kept = files_of(data.data)
-                for words in ("note", "--print"), ("append", "note", "more"), ("link", "note"), ("renew", "note"), ("rename", "note", "other"):
+                for words in (("note", "--print"), ("append", "note", "more"), ("link", "note"), ("renew", "note"),
+                              ("rename", "note", "other")):
                     self.assert_says(self.note(*words, VIALSHOAL_DATA=str(data.data)), LATER, "Nothing was changed")
                 with self.assertRaisesRegex(Trouble, LATER), contextlib.closing(Disk(data.path())):
                     pass
