@@ -91,7 +91,10 @@ class SqliteFile:
         return self.one("PRAGMA application_id")
 
     def is_later(self, known: Collection[int]) -> bool:
-        """Return whether a later version of vialshoal made the file. `known` are the numbers of files of its kind that this version knows."""
+        """Return whether a later version of vialshoal made the file.
+
+        `known` are the numbers that this version knows of files of this kind.
+        """
         application = self.application()
         return max(known) < application <= GREATEST_FORM or application in known and self.one("PRAGMA user_version") > FILE_VERSION
 

@@ -22,7 +22,7 @@ ADD_CLIENT, ADD_ANEW, ADD_ANEW_OF_TEXT = ("INTO client VALUES (?, ?, ?, ?, ?)", 
 # Nothing hangs on it, so it is made as it is needed.
 PACKED = "CREATE TABLE IF NOT EXISTS packed (site INTEGER PRIMARY KEY, digest BLOB NOT NULL, fronts BLOB NOT NULL)"
 HIDE, HIDE_OF_TEXT = "INSERT OR IGNORE INTO hiding VALUES (?, ?, ?)", "INSERT OR IGNORE INTO hiding VALUES (?, ?, ?, ?)"
-# What a client's row says of its number: it is gone on with, it was given up, or it is of a note that was copied into this one.
+# The state of a number in its row: 0 if it is used, 1 if it was given up, 2 if the note was copied from another one with it.
 RETIRED, COPIED = 1, 2
 
 

@@ -456,7 +456,7 @@ def in_entries(operations: Iterable[Operation]) -> list[list[Operation]]:
 
 
 def in_chunks(operations: Iterable[Operation]) -> list[list[Operation]]:
-    """Operations in parts of which each has a chunk: what doesn't follow the one before it begins another one."""
+    """Split operations into parts of which each has a chunk. An operation that doesn't follow the one before it begins another part."""
     parts: list[list[Operation]] = []
     for one in operations:
         if parts and _packed([*parts[-1], one]):

@@ -3,7 +3,6 @@ import contextlib
 import itertools
 import json
 import os
-import pathlib
 import shlex
 import shutil
 import signal

@@ -51,7 +51,7 @@ def chunk(*messages: Operation, length: int = 0) -> bytes:
 
 
 def inserted_before(of: bytes) -> int:
-    """How many characters a site had inserted before a chunk, as that says."""
+    """Return how many characters a site had inserted before a chunk, by the chunk's fourth field."""
     return varints_in(re.findall(rb"[\x80-\xff]*[\x00-\x7f]", of[len(chunk_begin(1)) + 1:])[3])[0]
 
 

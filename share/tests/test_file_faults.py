@@ -375,7 +375,8 @@ class Replaced(Case):
         with mock.patch("shutil.copyfile", written_meanwhile):
             self.assertEqual(person.text(), b"words ")
         self.assertGreaterEqual(copies, 4)
-        with mock.patch("share.log.sqlite_file.COPY_TRIES", 2), mock.patch("share.log.sqlite_file._sizes_and_times", side_effect=range(100)):
+        with (mock.patch("share.log.sqlite_file.COPY_TRIES", 2),
+              mock.patch("share.log.sqlite_file._sizes_and_times", side_effect=range(100))):
             with self.assertRaisesRegex(Trouble, "is being written to"), copied(path):
                 pass
 

@@ -1,7 +1,6 @@
 """Notes are made, joined by their links, copied under new keys, and brought back from what is left of them."""
 import contextlib
 import os
-import pathlib
 import pty
 import random
 import shutil

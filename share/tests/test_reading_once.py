@@ -13,7 +13,7 @@ from share.format import chunk as chunks
 from share.format import entry as entries
 from share.format.second.key_link import link_of
 from share.format.chunk import unpacked
-from share.format.entry import Author, Entry, Kind, Plain
+from share.format.entry import Author, Entry, Plain
 from share.format.operation import DELETE, Operation
 from share.program.process import Program
 from share.program.site import Site
@@ -22,7 +22,6 @@ from share.store.entries import Entries
 from share.sync.replicator import Watch
 from share.sync.session import Session
 from share.sync.state import Holdings
-from share.tests import naive
 from share.tests.editors import Engines
 from share.tests.forms import is_second_form
 from share.tests.naive import about, chunk_of, entry_of, inserting

@@ -3,7 +3,6 @@ import contextlib
 import itertools
 import os
 import signal
-import sqlite3
 import statistics
 import subprocess
 import unittest
@@ -18,7 +17,7 @@ from share.editors.client import GET_NUMBER_SECONDS, NOT_READ_YET, ScriptNote, n
 from share.engine.arrivals import NO_NUMBER
 from share.format.second.claim import ZERO_BITS
 from share.format.second.form import PlainRecords
-from share.format.second.key_link import KeyLink, link_of, read_key_link
+from share.format.second.key_link import KeyLink, link_of
 from share.log.opening import open_log
 from share.log.polling import can_read
 from share.program.site import Site
@@ -26,7 +25,7 @@ from share.store import notes, read_only
 from share.store.entries import Entries
 from share.store.founding import begun
 from share.store.guarded import Unkept
-from share.store.note_file import FIRST, NOTE_APPLICATIONS, SECOND, make_note
+from share.store.note_file import FIRST, SECOND, make_note
 from share.store.own import OwnTables
 from share.store.read_only import found_in
 from share.sync import number_search

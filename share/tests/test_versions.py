@@ -1,5 +1,5 @@
-"""Versions: each format has a number. What a later version made is kept, carried and named; what only unreleased versions made is
-refused in words, and nothing of it is changed."""
+"""Each format has a version number. Entries of a later version are kept, carried and named. Files, links and saved notes of a later
+version, and all that only unreleased versions wrote, are refused in a sentence, and nothing is changed."""
 import contextlib
 import pathlib
 import shutil
@@ -8,6 +8,7 @@ import unittest
 from collections.abc import Iterator
 from unittest import mock
 
+from share.editors.web.listing import is_listed
 from share.format import entry
 from share.format.entry import CHUNKS, Bad, Copied, Kind
 from share.format.link import Link
@@ -23,12 +24,12 @@ from share.tests.support import Case, are_alike, change, claim_of, newer_of, raw
 from share.text.errors import GONE_FORM, NEWER, Gone, Trouble
 
 LATER = "made by a later version of vialshoal"
-# What a file of SQLite says of itself that a later version made: of a note of another form, or of this one otherwise.
+# A later version marks its files of SQLite so: by another form of the note, or by a greater version of the file.
 LATER_FILES = "PRAGMA application_id = 0x56534E34", "PRAGMA application_id = 0x56534E39", "PRAGMA user_version = 1"
 
 
 def files_of(folder: pathlib.Path) -> dict[str, bytes]:
-    """All files of a folder. What SQLite has in its shared memory is no file of a note, nor is a lock."""
+    """All files of a folder, except locks and SQLite's shared memory."""
     return {str(path.relative_to(folder)): path.read_bytes() for path in folder.rglob("*")
             if path.is_file() and path.suffix not in (".note-shm", ".lock")}
 
@@ -45,7 +46,7 @@ class WithWords(Case):
         note.session.close()
 
     def says_of_itself(self, path: pathlib.Path, statement: str) -> None:
-        """Has a file of SQLite say something else of itself."""
+        """Change the marks of a file of SQLite."""
         with contextlib.closing(sqlite3.connect(path)) as file:
             file.execute(statement)
             file.execute("PRAGMA wal_checkpoint(TRUNCATE)")
@@ -105,7 +106,7 @@ class LaterEntries(WithWords):
 
 
 class LaterFiles(WithWords):
-    """Files, and what is sent as one, that a later version made."""
+    """Notes' files, logs, saved notes and links that a later version made."""
 
     def test_a_notes_file_is_refused_in_words_and_stays(self) -> None:
         for statement in LATER_FILES:
@@ -163,10 +164,10 @@ class LaterFiles(WithWords):
 
 
 class OfUnreleasedVersions(WithWords):
-    """What only unreleased versions made."""
+    """Notes, links and entries that only unreleased versions wrote."""
 
     def assert_gone(self, *words: str, **environment: str) -> None:
-        """That a command says it, with a status of its own."""
+        """Assert that a command says so and ends with status 1."""
         run = self.note(*words, **environment)
         self.assertEqual((run.returncode, run.stdout, run.stderr), (1, "", f"note: {GONE_FORM}\n"), words)
 
@@ -179,8 +180,10 @@ class OfUnreleasedVersions(WithWords):
         for words in (("diary", "--print"), ("diary", "--new"), ("append", "diary", "more", "--new"), ("cat", "diary"), ("link", "diary"),
                       ("renew", "diary"), ("delete", "diary", "--yes"), ("rename", "diary", "other"), ("rename", "note", "diary")):
             self.assert_gone(*words)
+        with self.ann.here():
+            self.assertEqual((is_listed("note"), is_listed("diary")), (True, False))
         self.assertEqual(files_of(self.ann.data), kept)
-        # It is no log of another note either; and what is no such file keeps nobody from making a note of the name.
+        # No note can have it as its log. Another file at that place keeps nobody from making a note of the name.
         with self.assertRaises(Gone):
             SqliteLog(log, bytes(16))
         for data in b"", b"Dear Ann", bytes(200):
@@ -199,7 +202,7 @@ class OfUnreleasedVersions(WithWords):
             last = [row.entry for row in disk.entries.rows() if row.entry.kind.has_messages][-1]
             raws = [self.gone(disk, kind, last) for kind in (2, 3)]
             log.append(raws)
-        # From a log they aren't kept, and are told of.
+        # Entries that a log has are left out, and reported.
         note, told = self.opened(self.ann), list[str]()
         wait_for(lambda: (note.take_in(), told.append(note.notice), "of the log" in " ".join(told))[2], "it to be told")
         self.assertEqual(bytes(note.text), b"one two three ")
@@ -225,7 +228,7 @@ class OfUnreleasedVersions(WithWords):
 
 @of_first_form("its kinds are taken away")
 class KindsThatAreKnownLater(Case):
-    """A version that doesn't know chunks keeps and carries what has them, and says so; a later one reads them."""
+    """A version that doesn't know chunks keeps and carries entries of chunks, and says so. A later one reads them from the same file."""
 
     @contextlib.contextmanager
     def unknown(self) -> Iterator[None]:
