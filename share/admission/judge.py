@@ -23,7 +23,7 @@ from share.admission.judging import Counted, Judging
 from share.admission.left_out import LeftOut, Uncounted, not_copied
 from share.admission.passage import Passage
 from share.admission.statements import Statements
-from share.format.entry import WITH_MESSAGES, Entry, Form, Kind
+from share.format.entry import CHUNKS, Entry, Form, Kind
 from share.format.history import Messages
 from share.format.operation import TEXT, Operation
 
@@ -70,7 +70,7 @@ class Judge(Judging):
 
     def add_new(self, row: Row) -> None:
         entry = row.entry
-        if entry.kind in WITH_MESSAGES:
+        if entry.kind in CHUNKS:
             self._take(entry.site, self._chains.add(row, entry.site in self._passage.blocked))
         elif entry.kind is Kind.CLAIM:
             self._take(entry.site, self._chains.claim(row))

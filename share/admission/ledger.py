@@ -12,8 +12,8 @@ from operator import attrgetter
 from typing import NamedTuple, overload
 
 from share.admission.hashes import HASH_BYTES, MARK_MASK, NUMBER_BITS, Hashes
-from share.format.entry import (CHUNKS, NO_HASH, SAY_WHAT_THEY_BUILD_ON, Entry, FirstEntry, FirstForm, Form, Kind, operations_of,
-                                operations_one_by_one)
+from share.format.chunk import unpacked, unpacked_one_by_one
+from share.format.entry import CHUNKS, NO_HASH, Entry, FirstEntry, FirstForm, Form, Kind
 from share.format.operation import TEXT, Operation
 
 # A site and an author.
@@ -226,7 +226,7 @@ class Ledger(Hashes):
 
     def on(self, number: int) -> bytes:
         """What an entry says that its messages build on; nothing where it doesn't."""
-        if self._kinds[number] not in SAY_WHAT_THEY_BUILD_ON:
+        if self._kinds[number] != Kind.CHUNK_BUILDING:
             return b""
         begin = self._begin(number) + self._tail(number)
         return bytes(self._kept[begin:begin + HASH_BYTES])
@@ -235,7 +235,7 @@ class Ledger(Hashes):
         """An entry's messages, as it has them."""
         # Each key comes here twice.
         begin = (self._ends[number - 1] if number else 0) + (self._form.tail_bytes if self._form else self._whole[number])
-        begin += HASH_BYTES if self._kinds[number] in SAY_WHAT_THEY_BUILD_ON else 0
+        begin += HASH_BYTES if self._kinds[number] == Kind.CHUNK_BUILDING else 0
         return bytes(self._kept[begin:self._ends[number]])
 
     def chunk(self, number: int) -> bytes:
@@ -244,7 +244,7 @@ class Ledger(Hashes):
 
     def runs(self, number: int) -> Sequence[Operation]:
         """An entry's messages, those in one that are letters typed one after the other."""
-        return operations_of(KIND_BY_NUMBER[self._kinds[number]], self.spelled(number))
+        return unpacked(self.spelled(number)) if self._kinds[number] in CHUNKS else ()
 
     def typed(self, numbers: Iterable[int]) -> bytes:
         """The letters of entries that type on."""
@@ -253,7 +253,7 @@ class Ledger(Hashes):
 
     def messages(self, number: int) -> Sequence[Operation]:
         """An entry's messages."""
-        return operations_one_by_one(KIND_BY_NUMBER[self._kinds[number]], self.spelled(number))
+        return unpacked_one_by_one(self.spelled(number)) if self._kinds[number] in CHUNKS else ()
 
     def entry(self, number: int) -> Entry:
         """An entry as it was."""

@@ -151,9 +151,8 @@ class Passage(Generic[SomeChain]):
                     heapq.heappush(heads, (found.stamp, other))
 
     def _pass_entry(self, site: int, woken: list[int], up_to: float) -> Operation | None:
-        """Lets the messages of a chain's next entry through, as far as they are right, and of those that type on after it, up to
-        a stamp; the messages that are next where all were. What follows in an entry needs nothing else, unless a version of before
-        wrote it."""
+        """Let the messages of a chain's next entry through, as far as they are right, and of those that type on after it, up to a stamp;
+        return the messages that are next if all were right."""
         chain = self._chains[site]
         run, at = chain.next(), chain.at
         while run and chain.at == at:

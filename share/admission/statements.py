@@ -5,7 +5,7 @@ from share.admission.copies import Copies
 from share.admission.ledger import Row, Who
 from share.format.entry import Kind
 
-# Anybody with the link can say that a note was renewed, or write what only a newer version knows: of no more than this many
+# Anybody with the link can say that a note was renewed, or write what only a later version knows: of no more than this many
 # it is known.
 MOST_RENEWED, MOST_NEWER = 1_000, 10_000
 

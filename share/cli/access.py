@@ -117,16 +117,11 @@ def _ask_for_log(name: str, old: str, new: str) -> None:
 
 
 def opener(given: argparse.Namespace, name: str, link: AnyLink | None) -> OpensWithBar:
-    """Opens the note that the command line names; what was left out of it is told."""
+    """Return what opens the note that the command line names."""
     url, password = given_url(given), given_password(given)
 
     def opened(bar: Bar, wake: Callable[[], None]) -> Session:
-        told: list[str] = []
-        disk = notes.open_note(name, url, link, password, told.append, getattr(given, "form", None))
-        session = Session(disk, password, bar, wake)
-        for left_out in told:
-            session.tell(left_out)
-        return session
+        return Session(notes.open_note(name, url, link, getattr(given, "form", None)), password, bar, wake)
 
     return opened
 

@@ -12,7 +12,10 @@ from share.cli.script_words import ALONE, SCRIPT_VERBS
 from share.cli.words import parsed
 from share.program.process import command, make_ready
 from share.store.guarded import Unkept
-from share.text.errors import Refused, Trouble
+from share.text.errors import GONE_FORM, Refused, Trouble
+
+# The status where a note, or its link, is of a form that only unreleased versions had.
+OF_A_FORM_THAT_IS_GONE = 1
 
 
 def main() -> int:
@@ -36,6 +39,8 @@ def main() -> int:
         os.kill(os.getpid(), signal.SIGINT)
     except (Trouble, Refused, Unkept, OSError) as why:
         report([str(why)])
+        # An engine that opened the note says it in words.
+        return OF_A_FORM_THAT_IS_GONE if str(why) == GONE_FORM else 2
     return 2
 
 

@@ -29,7 +29,7 @@ def renew_note(given: argparse.Namespace, name: str) -> int:
         return made.messages
 
     done = notes.renew(name, access.given_url(given), access.given_password(given), access.own_name(), begins, given.form)
-    if names and done.before:
+    if names:
         nicknames.remember(done.before, names)
         # A number that isn't used in the new note is perhaps another one's there.
         nicknames.remember(name, {site: called for site, called in names.items() if site in kept})
@@ -53,10 +53,9 @@ def given_to_log(name: str, password: str | None) -> list[str]:
 
 def report_renewed(name: str, done: notes.Renewed, is_fresh: bool, names: dict[int, str]) -> int:
     """Says what a note that was renewed has; the status."""
-    where = f"is {done.before} now" if done.before else "is left as it is"
     has = "the text of the old one, where its history begins; the old one" if is_fresh else (
         "the text and the history of the old one, which")
-    print(f"{name} is a new note with {has} {where}. If it has a log, bin/note link {name} prints its link, for those who are "
+    print(f"{name} is a new note with {has} is {done.before} now. If it has a log, bin/note link {name} prints its link, for those who are "
           "to go on.")
     if done.is_back:
         print(OF_FIRST_FORM)

@@ -15,8 +15,7 @@ All numbers are big-endian. An entry has this head:
 
 Then, in kind 6, 32 bytes that say what the messages build on, and the chunk of them (docs/FORMATS.md): as they are, where
 the form is plain, with a digest of all before it; else sealed, with the head as what is authenticated beside them, and
-signed. Kinds 2 and 3 are 5 and 6 as versions of before wrote them: with the messages, each after its length in two bytes, in
-place of the chunk.
+signed. Kinds 2 and 3 are none: unreleased versions alone wrote them.
 The hash of an entry is that of all its bytes. So the entries of a site make a chain that begins with its claim. What
 says that messages were made anew is in no chain: it names the last entry of those that it speaks of.
 What speaks of copies is in no chain either. It is said by the author of messages or by that of their copies, and has who
@@ -28,12 +27,11 @@ messages as the one before it: two histories of one number have the same seqs. W
 stands for a message is a deletion it was made to hide that, which is a copy itself.
 Renewed (kind 8) says that the note goes on under a new key, in no chain, too: its body is what its author is called, in 200
 bytes at most.
-An entry of another kind is a newer version's: it is kept and carried as it is, and says nothing here.
+An entry of another kind is a later version's: it is kept and carried as it is, and says nothing here.
 
 What messages build on is said where they mention characters of other sites: of each of these sites, in the order of
 their numbers, the entry in which the last mentioned one of its characters was inserted; 32 bytes are the hash of
-these entries' hashes. Names alone don't say it, since two copies of one number give theirs the same ones. Entries of
-kind 2 may mention characters of other sites: those were made before there was kind 3.
+these entries' hashes. Names alone don't say it, since two copies of one number give theirs the same ones.
 """
 import hashlib
 import secrets
@@ -41,19 +39,17 @@ import struct
 from abc import ABC, abstractmethod
 from collections.abc import Mapping, Sequence
 from enum import IntEnum
-from functools import lru_cache
 from typing import NamedTuple, Protocol
 
 from share.format import chunk
-from share.format.chunk import GREATEST_SEQ, UNFOLDED, NoChunk, Packed, varint
+from share.format.chunk import GREATEST_SEQ, NoChunk, Packed, varint
 from share.format.latest import Latest
-from share.format.operation import TEXT, NoMessage, Operation
+from share.format.operation import TEXT, Operation
 from share.format.presence import MOST_PRESENCE
 
 HEAD = struct.Struct(">BB16sHIH32s")
 # The same without the form and the note.
 HEAD_WITHOUT_NOTE = ">xB16xHIH32s"
-LENGTH = struct.Struct(">H")
 SITE_FIELD = struct.Struct(">H")
 # The most bytes of an entry.
 MOST_BYTES = 16_384
@@ -71,7 +67,7 @@ class EntryKind(IntEnum):
 
     @property
     def is_newer(self) -> bool:
-        """Whether it is a newer version's."""
+        """Whether it is a later version's."""
         return self._name_ == "NEWER"
 
     @property
@@ -105,7 +101,7 @@ class EntryKind(IntEnum):
         return self.has_messages or self.is_newer
 
 
-HAVE_MESSAGES = frozenset(("MESSAGES", "BUILDING", "CHUNK", "CHUNK_BUILDING"))
+HAVE_MESSAGES = frozenset(("MESSAGES", "CHUNK", "CHUNK_BUILDING"))
 SAY_WHAT_BECAME = frozenset(("ANEW", "COPIES", "RENEWED"))
 
 
@@ -114,8 +110,6 @@ class Kind(EntryKind):
 
     NEWER = 0
     CLAIM = 1
-    MESSAGES = 2
-    BUILDING = 3
     ANEW = 4
     CHUNK = 5
     CHUNK_BUILDING = 6
@@ -124,9 +118,9 @@ class Kind(EntryKind):
 
 
 KINDS = {int(kind): kind for kind in Kind if kind is not Kind.NEWER}
-SAY_WHAT_THEY_BUILD_ON = (Kind.BUILDING, Kind.CHUNK_BUILDING)
-CHUNKS, ONE_BY_ONE = (Kind.CHUNK, Kind.CHUNK_BUILDING), (Kind.MESSAGES, Kind.BUILDING)
-WITH_MESSAGES = frozenset((*CHUNKS, *ONE_BY_ONE))
+# Kinds that unreleased versions alone wrote.
+GONE_KINDS = (2, 3)
+CHUNKS = frozenset((Kind.CHUNK, Kind.CHUNK_BUILDING))
 # The most bytes that are said of a renewed note.
 LONGEST_SAID = 200
 # The hashes of the entries that were made, or came, last: of this many bytes of them, where fewer came at once.
@@ -332,12 +326,12 @@ class FirstEntry(NamedTuple):
     @property
     def operations(self) -> tuple[Operation, ...]:
         """The operations, letters typed one after the other in one."""
-        return operations_of(self.kind, self.spelled)
+        return chunk.unpacked(self.spelled) if self.kind in CHUNKS else ()
 
     @property
     def messages(self) -> tuple[Operation, ...]:
         """The operations one by one."""
-        return operations_one_by_one(self.kind, self.spelled)
+        return chunk.unpacked_one_by_one(self.spelled) if self.kind in CHUNKS else ()
 
     @property
     def copied(self) -> Copied:
@@ -430,6 +424,10 @@ class Form(ABC):
     def kind(self, raw: bytes) -> EntryKind:
         """The kind of an entry that was opened before, by its first bytes."""
 
+    def is_gone(self, raw: bytes) -> bool:
+        """Return whether an unreleased version made an entry."""
+        return False
+
     @abstractmethod
     def author(self, raw: bytes) -> bytes:
         """The author of such an entry."""
@@ -474,7 +472,7 @@ class FirstForm(Form):
     site_at, before_at = 18, HEAD.size - len(NO_HASH)
     names_messages = is_searched = False
     texts = (TEXT,)
-    kinds_of_messages, kind_of_claims = tuple(map(int, (*CHUNKS, *ONE_BY_ONE))), int(Kind.CLAIM)
+    kinds_of_messages, kind_of_claims = (int(Kind.CHUNK), int(Kind.CHUNK_BUILDING)), int(Kind.CLAIM)
 
     def body(self, raw: bytes) -> bytes:
         return self._checked(raw)
@@ -528,6 +526,9 @@ class FirstForm(Form):
     def kind(self, raw: bytes) -> Kind:
         return kind_of(raw[1])
 
+    def is_gone(self, raw: bytes) -> bool:
+        return raw[1] in GONE_KINDS
+
     def author(self, raw: bytes) -> bytes:
         return raw[HEAD.size:HEAD.size + self.author_bytes]
 
@@ -551,7 +552,7 @@ class FirstForm(Form):
     def reopened(self, raw: bytes, body: bytes, of: bytes) -> FirstEntry:
         _, number, _, site, first, count, before = HEAD.unpack_from(raw)
         kind = kind_of(number)
-        size = len(body) if kind is Kind.NEWER else len(NO_HASH) if kind in SAY_WHAT_THEY_BUILD_ON else 0
+        size = len(body) if kind is Kind.NEWER else len(NO_HASH) if kind is Kind.CHUNK_BUILDING else 0
         count = 0 if kind is Kind.NEWER else count
         return FirstEntry(kind, site, first, count, before, self.author(raw), body[:size], body[size:], raw, of)
 
@@ -564,6 +565,8 @@ class FirstForm(Form):
             raise Bad("isn't spelled as one")
         if raw[2:2 + NOTE_BYTES] != self.note:
             raise Bad("is of another note")
+        if self.is_gone(raw):
+            raise Bad("was made by an unreleased version of vialshoal")
         return self._opened(raw[:begin], raw[begin:], raw[HEAD.size:begin])
 
     def _made(self, kind: Kind, site: int, first: int, count: int, before: bytes, author: Author, on: bytes,
@@ -655,35 +658,6 @@ def _short_digest(data: bytes) -> bytes:
     return hashlib.blake2b(data, digest_size=DIGEST_BYTES).digest()
 
 
-def operations_of(kind: Kind, spelled: bytes) -> tuple[Operation, ...]:
-    """The operations of an entry of a kind, as it spells them, letters typed one after the other in one."""
-    if kind in CHUNKS:
-        return chunk.unpacked(spelled)
-    return _read_one_by_one(spelled) if kind in ONE_BY_ONE else ()
-
-
-def operations_one_by_one(kind: Kind, spelled: bytes) -> tuple[Operation, ...]:
-    """The same operations one by one."""
-    return chunk.unpacked_one_by_one(spelled) if kind in CHUNKS else operations_of(kind, spelled)
-
-
-@lru_cache(UNFOLDED)
-def _read_one_by_one(spelled: bytes) -> tuple[Operation, ...]:
-    """The operations of an entry of an older kind."""
-    return tuple(map(Operation.read, _split(spelled)))
-
-
-def _split(spelled: bytes) -> list[bytes]:
-    parts, begin = [], 0
-    while begin < len(spelled):
-        (length,) = LENGTH.unpack_from(spelled, begin)
-        begin += LENGTH.size + length
-        if begin > len(spelled):
-            raise struct.error("a message is cut short")
-        parts.append(spelled[begin - length:begin])
-    return parts
-
-
 def _is_stretch(stretch: tuple[int, int, int]) -> bool:
     seq, by, count = stretch
     return min(seq, count) >= 1 and max(seq, by) + count - 1 <= GREATEST_SEQ
@@ -715,7 +689,7 @@ def check_entry(entry: Entry) -> None:
     """Raises Bad where an entry's messages are spelled wrong, or aren't those of its place."""
     if entry.kind is Kind.NEWER:
         return
-    if entry.kind in SAY_WHAT_THEY_BUILD_ON and len(entry.on) < len(NO_HASH):
+    if entry.kind is Kind.CHUNK_BUILDING and len(entry.on) < len(NO_HASH):
         raise Bad("has messages that are cut short")
     if not 1 <= entry.site <= GREATEST_SITE:
         raise Bad("is of a site that can't be")
@@ -740,10 +714,6 @@ def _check_messages(entry: Entry) -> None:
     """Raises Bad where an entry's messages are spelled wrong, or aren't those of its place."""
     try:
         operations = entry.operations
-    except struct.error as why:
-        raise Bad("has messages that are cut short") from why
-    except NoMessage as why:
-        raise Bad("has bytes that are no message") from why
     except NoChunk as why:
         raise Bad("has bytes that are no chunk") from why
     seq = entry.first

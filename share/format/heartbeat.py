@@ -2,11 +2,10 @@
 
 A heartbeat has a token, a count that only rises, how often its replicator has asked, and for which entries: by their
 hashes, or by that of the entry before them. Who has just these gives them again. It also says how its replicator hears
-others, so that what goes by a log's channel goes by its table too while somebody is on who hears nothing else: who can't
-reach the channel, or a version of before, whose heartbeats have a zero there.
+others, so that what goes by a log's channel goes by its table too while somebody is on who can't reach the channel.
 
-In the table a second thing is said, for the versions before those: a token, and how often it has asked. They read the
-whole log for it. Since a token of this version ends in zeros, that is known to be said for them alone.
+The second half of a token is zeros, of which the first four bytes are the version of what is said. What has another version there was made
+by a later version of vialshoal, and is passed over.
 """
 import secrets
 import struct
@@ -16,11 +15,10 @@ from typing import NamedTuple
 
 from share.format.presence import RANDOM_BYTES, TOKEN_BYTES
 
-OF_BEFORE = struct.Struct(">16sI")
 # The token, the count, how often it has asked; then what it lacks.
 SAID_HEAD, LACK = struct.Struct(">16sII"), struct.Struct(">B32s")
 MOST_LACKS = 5
-# No version of before takes anything of this length for something that it knows, and it fits when it is sealed.
+# It fits when it is sealed.
 BYTES = 216
 HEARS_AT = SAID_HEAD.size + MOST_LACKS * LACK.size
 
@@ -50,7 +48,7 @@ class Lack(NamedTuple):
 
 
 class Said(NamedTuple):
-    """What a replicator of this version has said."""
+    """What a replicator has said."""
 
     token: bytes
     number: int
@@ -69,11 +67,6 @@ def token_of(begin: bytes) -> bytes:
     return begin.ljust(TOKEN_BYTES, b"\0")
 
 
-def is_of_now(token: bytes) -> bool:
-    """Whether a token is that of a replicator of this version."""
-    return not any(token[RANDOM_BYTES:])
-
-
 def heartbeat_of(one: Said) -> bytes:
     """What a replicator says, as bytes."""
     lacks = b"".join(LACK.pack(*lack) for lack in one.lacks[:MOST_LACKS])
@@ -84,7 +77,7 @@ def heartbeat_of(one: Said) -> bytes:
 
 def read_heartbeat(data: bytes) -> Said | None:
     """What a replicator has said; None where these bytes are something else."""
-    if len(data) != BYTES:
+    if len(data) != BYTES or any(data[RANDOM_BYTES:TOKEN_BYTES]):
         return None
     ways, hears = {int(way): way for way in Way}, {int(one): one for one in Hears}
     lacks = [Lack(ways[way], of) for way, of in LACK.iter_unpack(data[SAID_HEAD.size:HEARS_AT]) if way in ways]

@@ -2,9 +2,8 @@
 its key.
 
 It is spelled `vialshoal:1.1:s:SECRET@URL`, with a `p` in place of the `s` for a plain note. SECRET is base64url of
-the secret and of a checksum of all of the link, so that one that was cut short or mistyped is told. In a link of before, which
-has a `1` in place of the `1.1`, the checksum is of the secret alone. The 1 is the form of the note, and .1 the spelling of its link: a
-later form of notes begins at 2.
+the secret and of a checksum of all of the link, so that one that was cut short or mistyped is told. The 1 is the form of the note, and
+.1 the spelling of its link: a later form of notes begins at 2.
 """
 import base64
 import binascii
@@ -14,18 +13,18 @@ import re
 from typing import Literal, NamedTuple
 from urllib.parse import urlsplit
 
-from share.text.errors import Trouble
+from share.text.errors import Gone, Trouble
 
 FormName = Literal["plain", "sealed"]
 FORMS: dict[str, FormName] = {"p": "plain", "s": "sealed"}
 # A sealed note's secret is its key, a plain note's its identity.
 SECRET_BYTES: dict[FormName, int] = {"plain": 16, "sealed": 32}
 CHECK_BYTES = 4
-# The spellings of a link: the one whose checksum has the URL, too, and that of before.
-CHECKED, UNCHECKED = "1.1", "1"
-LINK = re.compile(r"vialshoal:(1\.1|1):([ps]):([A-Za-z0-9_-]+)@(.+)")
-# One of a later form, also as a page's address has it.
-NEWER_LINK = re.compile(r"(https://[^/]+/#)?vialshoal:(?!1:|1\.1:)[0-9.]+:.+")
+SPELLING = "1.1"
+LINK = re.compile(r"vialshoal:1\.1:([ps]):([A-Za-z0-9_-]+)@(.+)")
+# One of a later form, also as a page's address has it; and one by an unreleased version.
+LATER_LINK = re.compile(r"(https://[^/]+/#)?vialshoal:(?!1:|1\.1:)[0-9.]+:.+")
+GONE_LINK = re.compile(r"vialshoal:1:.+")
 # What is meant as a link, in whatever form, or as a page's address, and how it is refused where it stands in place of a name.
 ANY_LINK = re.compile(r"(https?://.*#)?vialshoal:[0-9.]+:.*", re.DOTALL)
 NO_ARGUMENT = ("That is a link, which every account of this machine sees in a command. Run bin/note NAME, with a name for the note that "
@@ -61,28 +60,30 @@ class Link(NamedTuple):
         # Where it is printed by mistake, the secret isn't.
         return f"Link({self.form!r}, url={self.url!r})"
 
-    def spelled(self, spelling: str = CHECKED) -> str:
+    def spelled(self) -> str:
         """The link as text."""
-        checked = base64.urlsafe_b64encode(self.secret + _check(spelling, self.form, self.secret, self.url))
-        return f"vialshoal:{spelling}:{self.form[0]}:{checked.rstrip(b'=').decode()}@{self.url}"
+        checked = base64.urlsafe_b64encode(self.secret + _check(self.form, self.secret, self.url))
+        return f"vialshoal:{SPELLING}:{self.form[0]}:{checked.rstrip(b'=').decode()}@{self.url}"
 
 
 def read_link(text: str) -> Link:
     """The link that is spelled so, with space around it or none."""
-    if NEWER_LINK.fullmatch(text.strip()):
-        raise Trouble("That link is of a newer version of Vialshoal, which its note needs.")
+    if LATER_LINK.fullmatch(text.strip()):
+        raise Trouble("That link was made by a later version of vialshoal, which its note needs.")
+    if GONE_LINK.fullmatch(text.strip()):
+        raise Gone
     found = LINK.fullmatch(text.strip())
     if not found:
         raise Trouble("That isn't a note's link, which begins with vialshoal:1.1: and ends with its log's URL. "
                       "Copy it whole, in one line.")
-    form = FORMS[found[2]]
-    secret = _secret(found[1], form, found[3], found[4])
-    link = Link(form, secret, url_of(found[4]))
+    form = FORMS[found[1]]
+    secret = _secret(form, found[2], found[3])
+    link = Link(form, secret, url_of(found[3]))
     if form == "plain" and is_network(link.url):
         raise Trouble(UNSEALED)
     if is_relay(link.url):
         raise Trouble(f"That link's note is of the first form. {OF_SECOND_FORM_ALONE} Ask who sent it for the link of a renewed one.")
-    if link.spelled(found[1]) != text.strip():
+    if link.spelled() != text.strip():
         raise Trouble("That link isn't spelled as bin/note link prints it. Copy it whole, in one line.")
     return link
 
@@ -154,23 +155,21 @@ def _refuse_passwords(rest: str) -> None:
                       "VIALSHOAL_PASSWORD.")
 
 
-def _secret(spelling: str, form: FormName, spelled: str, url: str) -> bytes:
+def _secret(form: FormName, spelled: str, url: str) -> bytes:
     size = SECRET_BYTES[form]
     try:
         data = base64.urlsafe_b64decode(spelled + "=" * (-len(spelled) % 4))
     except binascii.Error:
         data = b""
-    if len(data) != size + CHECK_BYTES or data[size:] != _check(spelling, form, data[:size], url):
+    if len(data) != size + CHECK_BYTES or data[size:] != _check(form, data[:size], url):
         raise Trouble(MISTAKEN)
     return data[:size]
 
 
-def _check(spelling: str, form: FormName, secret: bytes, url: str) -> bytes:
+def _check(form: FormName, secret: bytes, url: str) -> bytes:
     """The checksum of a link: of what it has after its form, as it is spelled."""
-    if spelling == UNCHECKED:
-        return hashlib.blake2b(secret, digest_size=CHECK_BYTES, person=f"vialshoal {form[0]}".encode()).digest()
     return hashlib.blake2b(secret + url.encode(), digest_size=CHECK_BYTES,
-                           person=f"vialshoal {form[0]} {spelling}".encode()).digest()
+                           person=f"vialshoal {form[0]} {SPELLING}".encode()).digest()
 
 
 def is_network(url: str) -> bool:

@@ -1,6 +1,6 @@
 """Operations: what sites did to a note's text, as one type that all of sharing uses.
 
-One comes as a message, from the program or in an entry of an older kind, or in a chunk (share/format/chunk.py). It is read once,
+One comes as a message from the program, or in a chunk of an entry (share/format/chunk.py). It is read once,
 where it comes in. Nothing here makes a new one: the program alone does. docs/FORMATS.md has messages byte by byte.
 """
 import struct

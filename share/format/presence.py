@@ -4,7 +4,8 @@ It goes through the log beside the entries, is kept nowhere, and is sealed where
 the note's link could say it as well, so nothing hangs on it. A cursor is the character before it, by its name.
 
 As it is sent a count that only rises stands in the second half of the engine's token, so that what was said before and is
-put into the log again, under whatever name, is known to be nothing (sync/heard.py). What versions of before say has no count.
+put into the log again, under whatever name, is known to be nothing (sync/heard.py). Before the count stands the version of what is said.
+What has another version there was made by a later version of vialshoal, and is passed over.
 """
 import re
 import struct
@@ -26,8 +27,9 @@ LEAVING_BYTES = FORM.size + MOST_NAME_BYTES + 1
 _NO_NAME = re.compile("[\0-\x1f\x7f-\x9f\u061c\u200e\u200f\u2028-\u202e\u2066-\u2069\ud800-\udfff]")
 # The upper four bits say the text, less 1.
 HAS_CURSOR, HAS_ANCHOR, TEXT_BIT = 1, 2, 4
-# Zeros, which a token of versions of before doesn't have there, and the count.
+# The version of what is said, and the count.
 COUNT = struct.Struct(">II")
+PRESENCE_VERSION = 0
 # The site and the offset of a character.
 NamedPlace = tuple[int, int]
 AT_FRONT: NamedPlace = (0, 0)
@@ -78,11 +80,11 @@ def _is_place(place: NamedPlace) -> bool:
 
 def with_count(data: bytes, count: int) -> bytes:
     """What an editor says, with a count."""
-    return data[:RANDOM_BYTES] + COUNT.pack(0, count) + data[TOKEN_BYTES:]
+    return data[:RANDOM_BYTES] + COUNT.pack(PRESENCE_VERSION, count) + data[TOKEN_BYTES:]
 
 
 def leaving(data: bytes) -> bytes:
-    """That an editor has left which said this last: a byte longer than versions of before take for presence."""
+    """Return what says that an editor has left which said this last: a byte more than presence has."""
     return data.ljust(LEAVING_BYTES, b"\0")
 
 

@@ -24,8 +24,9 @@ MOST_READ = MOST_ROOM + 20 * (MOST_BYTES + ENTRY_OVERHEAD) + READ_AT_ONCE * ENTR
 MOST_WATCHED = MOST_BYTES + 1_024
 # How many entries are looked through for claims at once, and how often at most.
 CLAIMS_AT_ONCE, MOST_CLAIM_READINGS = 5_000, 1_000
-# An entry has one field alone, called e. The server hashes the bytes, so nobody can have another entry stand for one
+# An entry has one field alone. The server hashes the bytes, so nobody can have another entry stand for one
 # that isn't there. One that was trimmed, or stands otherwise, is added anew.
+ENTRY_FIELD = "e"
 APPEND_SCRIPT = """
     for _, raw in ipairs(ARGV) do
         local hash = redis.sha1hex(raw)
@@ -61,7 +62,7 @@ TAKE_OUT_SCRIPT = """
 READ_SCRIPT = """
     local after, field, page, most = ARGV[1], ARGV[2], tonumber(ARGV[3]), tonumber(ARGV[4])
     local room = tonumber(ARGV[5])
-    local taken = KEYS[2] and tonumber(redis.call('GET', KEYS[2]) or 0) or 0
+    local taken = tonumber(redis.call('GET', KEYS[2]) or 0)
     if after ~= '0-0' and taken == tonumber(ARGV[6]) and #redis.call('XRANGE', KEYS[1], after, after) == 0 then return 0 end
     local found, at_end = {}, 0
     while #found < 2 * page and room > 0 and at_end == 0 do
@@ -82,7 +83,7 @@ READ_SCRIPT = """
 # Gives how many entries there are, how many were taken out, and the id of the last one.
 END_SCRIPT = """
     local last = redis.call('XREVRANGE', KEYS[1], '+', '-', 'COUNT', 1)
-    local taken = KEYS[2] and tonumber(redis.call('GET', KEYS[2]) or 0) or 0
+    local taken = tonumber(redis.call('GET', KEYS[2]) or 0)
     return {redis.call('XLEN', KEYS[1]), taken, last[1] and last[1][1] or ''}
 """
 # Gives the id of the last entry of a part of the stream, and of each claim in it the two bytes of its site.
@@ -139,12 +140,12 @@ STREAM_PLACE = re.compile(r"([0-9]{1,20}-[0-9]{1,20})/([0-9]{1,18})")
 
 
 class Stream:
-    """A stream whose entries have one field alone, of no more than `most` bytes. A place in it has the entry's id
-    and how many there are up to it, all that were taken out among them, so that a stream that lost entries is seen."""
+    """A stream whose entries have one field alone. A place in it has the entry's id and how many there are up to it, all that were
+    taken out among them, so that a stream that lost entries is seen."""
 
-    def __init__(self, wire: Wire, key: str, field: str, most: int, taken_out_key: str = ""):
-        self._wire, self._key, self._field, self._most = wire, key, field, most
-        self._keys = (key, taken_out_key) if taken_out_key else (key,)
+    def __init__(self, wire: Wire, key: str, taken_out_key: str):
+        self._wire, self._key = wire, key
+        self._keys = (key, taken_out_key)
         self._size = PageSize()
         # How many were taken out, by the last answer, and as the reading began or came to the end last.
         self.taken_out = self._taken_out_before = 0
@@ -154,7 +155,7 @@ class Stream:
     def read(self, after: str, most: int = MOST_ROOM) -> list[InLog]:
         """The entries after a place, PAGE at most, and of no more than these bytes but for some."""
         last, count = _stream_place(after)
-        words = last, self._field, READ_AT_ONCE, self._most, min(self._size.room, most), self.taken_out
+        words = last, ENTRY_FIELD, READ_AT_ONCE, MOST_BYTES, min(self._size.room, most), self.taken_out
         with self._size.timed():
             answer = self._wire.run(READ_SCRIPT, self._keys, words, MOST_READ)
         if answer == 0:
@@ -178,7 +179,7 @@ class Stream:
         through them, and sends the sites alone."""
         sites, after = set[int](), b"0-0"
         for _ in range(MOST_CLAIM_READINGS):
-            words = (after, self._field, CLAIMS_AT_ONCE, kind, self._most, at)
+            words = (after, ENTRY_FIELD, CLAIMS_AT_ONCE, kind, MOST_BYTES, at)
             match self._wire.run(CLAIMED_SCRIPT, (self._key,), words):
                 case [bytes(last), list(found)] if len(found) <= CLAIMS_AT_ONCE and _numbers(last):
                     sites |= {int.from_bytes(site, "big") for site in found if isinstance(site, bytes) and len(site) == 2}
@@ -234,7 +235,7 @@ class Stream:
             if not (before and place and before < place):
                 raise self._wire.strange()
             before = place
-            entry = raw if isinstance(raw, bytes) and len(raw) <= self._most else None
+            entry = raw if isinstance(raw, bytes) and len(raw) <= MOST_BYTES else None
             page.append(InLog(f"{place[0]}-{place[1]}", entry))
         return page, size + self.taken_out if at_end else None
 
@@ -249,7 +250,7 @@ class RedisLog(Log):
         # In braces, so that a cluster of servers keeps all keys of a note together.
         self._entries, self._places, self._times, self._said, self._on, self._taken_out = (
             f"vialshoal:note:{{{note.hex()}}}:{part}" for part in ("entries", "places", "times", "said", "on", "taken"))
-        self._stream = Stream(self._wire, self._entries, "e", MOST_BYTES, self._taken_out)
+        self._stream = Stream(self._wire, self._entries, self._taken_out)
         try:
             self._wire.ask("PING")
         except BaseException:

@@ -12,11 +12,13 @@ from share.format.presence import MOST_PRESENCE
 from share.log.base import MOST_ON, ON_SECONDS, READ_AT_ONCE, START, InLog, Log, LogLost, Unreachable
 from share.log.bell import Bell
 from share.log.folder import Inode, held, inode_of, make_folder
-from share.log.sqlite_file import RETRY_SECONDS, SIDE_FILES, Busy, Malformed, SqliteFile, begins_as, beside, set_aside
-from share.text.errors import Trouble
+from share.log.sqlite_file import RETRY_SECONDS, SIDE_FILES, Busy, Malformed, SqliteFile, begins_as, beside, says_application, set_aside
+from share.text.errors import Gone, Trouble, later
 
 # Tells a log from other files of SQLite, notes' files among them, in its header.
 LOG_APPLICATION = 0x56534E4C
+# Unreleased versions kept a note in such a file.
+GONE_APPLICATION = 0x56534E31
 # Above a greater place SQLite would look for a free one below it.
 GREATEST_LOG_PLACE = 2**62
 # A mark tells an entry from another one that took its place in a log that was put back.
@@ -25,16 +27,15 @@ LOG_SCHEMA = """
     CREATE TABLE entry (place INTEGER PRIMARY KEY, hash BLOB UNIQUE, raw BLOB NOT NULL,
                         mark INTEGER NOT NULL DEFAULT (random()));
     CREATE TABLE presence (token BLOB PRIMARY KEY, seen REAL NOT NULL, said BLOB NOT NULL);
+    CREATE TABLE taken_out (one INTEGER PRIMARY KEY CHECK (one = 1), many INTEGER NOT NULL);
 """
-LOG_TABLES = "header", "entry", "presence"
+LOG_TABLES = "header", "entry", "presence", "taken_out"
 # All that is read may have been written by another program, so its type and its length are looked at first.
 NOTES = "SELECT note FROM header WHERE typeof(note) = 'blob' AND length(note) = ?"
 OF_OTHERS = ("SELECT EXISTS (SELECT 1 FROM entry WHERE typeof(raw) = 'blob' AND length(raw) BETWEEN ? AND ? AND "
              "substr(raw, 3, ?) <> ?)")
 HELD = "SELECT place, raw = ? FROM entry WHERE hash = ?"
-# How many entries were taken out of it. Versions of before have no such table, and leave it where it is.
-TAKEN_OUT = "taken_out"
-TAKEN_OUT_TABLE = "CREATE TABLE IF NOT EXISTS taken_out (one INTEGER PRIMARY KEY CHECK (one = 1), many INTEGER NOT NULL)"
+# How many entries were taken out of it.
 MANY_TAKEN_OUT = "SELECT coalesce(max(CAST(many AS INTEGER)), 0) FROM taken_out"
 # The last one stays, since somebody may have read up to it, and another one would get its place.
 TAKE_OUT = "DELETE FROM entry WHERE hash = ? AND place < (SELECT max(place) FROM entry)"
@@ -88,7 +89,6 @@ class SqliteLog(Log):
             if not (held and held[1]):
                 return
             if many := self._file.executemany(TAKE_OUT, ((digest(raw),) for raw in folded)):
-                self._file.execute(TAKEN_OUT_TABLE)
                 self._file.execute(TOOK_OUT, (many,))
 
     def read(self, after: str) -> list[InLog]:
@@ -159,6 +159,8 @@ class SqliteLog(Log):
             self._create()
         if self._file.application() != LOG_APPLICATION:
             raise self._no_log()
+        if self._file.is_later([LOG_APPLICATION]):
+            raise later(str(self.path))
         self._is_log = True
         if not self._file.has_tables(LOG_TABLES):
             raise self._set_aside("is damaged (it lacks some of its tables)")
@@ -213,7 +215,7 @@ class SqliteLog(Log):
         return place
 
     def _many_taken_out(self) -> int:
-        self.taken_out = self._file.one(MANY_TAKEN_OUT) if self._file.has_tables((TAKEN_OUT,)) else 0
+        self.taken_out = self._file.one(MANY_TAKEN_OUT)
         return self.taken_out
 
     @contextlib.contextmanager
@@ -275,6 +277,8 @@ class SqliteLog(Log):
             raise self._set_aside(f"is damaged ({why})") from why
 
     def _no_log(self) -> Trouble:
+        if says_application(self.path, GONE_APPLICATION):
+            return Gone()
         return Trouble(f"{self.path} isn't a note's log. Move it away, or name another file.")
 
 

@@ -5,10 +5,14 @@ import itertools
 import os
 import pathlib
 import re
+import shutil
 import sqlite3
+import tempfile
 import time
 from collections.abc import Collection, Iterable, Iterator, Sequence
 from urllib.parse import quote
+
+from share.text.errors import Trouble
 
 # What belongs to a file that is read and written by several at once: what was written last, and where that is found.
 WRITTEN_AHEAD, INDEX = "-wal", "-shm"
@@ -18,9 +22,14 @@ LOCK_SECONDS, RETRY_SECONDS = 10, 0.03
 # The steps of SQLite's that are counted at once, and how often that is done before a reading is stopped. The entries of the longest
 # note take half of that at most.
 STEPS_A_TICK, MOST_TICKS = 1_000_000, 100
+# How often a file that is written to meanwhile is copied again, and after how many seconds.
+COPY_TRIES, COPY_AGAIN_SECONDS = 20, 0.1
 # How a file begins, and where its header has the number that tells programs' files apart.
 SQLITE_BEGIN, HEADER_SIZE = b"SQLite format 3\0", 100
 APPLICATION_ID = slice(68, 72)
+# The greatest number by which a file can say of which form a note is; and what else a file says that this version makes. Greater ones
+# are of later versions.
+GREATEST_FORM, FILE_VERSION = 0x56534E39, 0
 # What SQLite says where a table isn't as it was made. Python 3.10 has no numbers for that.
 OTHER_TABLES = re.compile(r"no such (table|column)|has no column|cannot modify|malformed|may not be modified")
 
@@ -80,6 +89,14 @@ class SqliteFile:
     def application(self) -> int:
         """Which program's file it says that it is."""
         return self.one("PRAGMA application_id")
+
+    def is_later(self, known: Collection[int]) -> bool:
+        """Return whether a later version of vialshoal made the file.
+
+        `known` are the numbers that this version knows of files of this kind.
+        """
+        application = self.application()
+        return max(known) < application <= GREATEST_FORM or application in known and self.one("PRAGMA user_version") > FILE_VERSION
 
     def has_tables(self, names: Collection[str]) -> bool:
         """Whether it has all of these tables."""
@@ -191,11 +208,50 @@ def set_aside(path: pathlib.Path) -> pathlib.Path:
     return aside
 
 
+@contextlib.contextmanager
+def copied(path: pathlib.Path) -> Iterator[pathlib.Path]:
+    """Copy a file as it stands. SQLite would write beside the file if it opened the file itself, and can't in a folder that can't be
+    written."""
+    with tempfile.TemporaryDirectory(prefix="vialshoal-") as folder:
+        copy = pathlib.Path(folder) / "log.db"
+        for _ in range(COPY_TRIES):
+            before = _sizes_and_times(path)
+            for end in (WRITTEN_AHEAD, ""):
+                with contextlib.suppress(FileNotFoundError):
+                    os.unlink(f"{copy}{end}")
+                if os.path.exists(f"{path}{end}"):
+                    shutil.copyfile(f"{path}{end}", f"{copy}{end}")
+            if _sizes_and_times(path) == before:
+                break
+            time.sleep(COPY_AGAIN_SECONDS)
+        else:
+            raise Trouble(f"{path} is being written to. Quit the editors that have it open, and try again.")
+        yield copy
+
+
+def _sizes_and_times(path: pathlib.Path) -> list[tuple[int, int] | None]:
+    found: list[tuple[int, int] | None] = []
+    for end in ("", WRITTEN_AHEAD):
+        try:
+            stat = os.stat(f"{path}{end}")
+            found.append((stat.st_mtime_ns, stat.st_size))
+        except FileNotFoundError:
+            found.append(None)
+    return found
+
+
 def begins_as(path: pathlib.Path, application: int) -> bool:
     """Whether a file that SQLite doesn't open begins as one of a program, or as one that a crash left in zeros."""
     with contextlib.suppress(OSError), open(path, "rb") as file:
         head = file.read(HEADER_SIZE)
         return not any(head) or head.startswith(SQLITE_BEGIN) and head[APPLICATION_ID] in (b"", application.to_bytes(4, "big"))
+    return False
+
+
+def says_application(path: pathlib.Path, application: int) -> bool:
+    """Return whether a file's header says that it is of a program, without opening it by SQLite."""
+    with contextlib.suppress(OSError), open(path, "rb") as file:
+        return file.read(HEADER_SIZE)[APPLICATION_ID] == application.to_bytes(4, "big")
     return False
 
 

@@ -18,7 +18,7 @@ def library() -> ModuleType:
     try:
         found = _installed() or _package_here()
     except (ImportError, AttributeError, OSError) as why:
-        # A library of before lacks calls.
+        # A library of another version may lack calls.
         raise Trouble(f"The library that has the proved note isn't here ({why}). Install its Python package, or have a checkout's "
                       f"bin/library --unproved make it; {LIBRARY_VARIABLE} may name it.") from why
     if not hasattr(found, "Note"):

@@ -6,14 +6,14 @@ from collections.abc import Iterator, Sequence
 from typing import NamedTuple
 
 from share.admission.ledger import Chained
-from share.format.entry import HEAD_WITHOUT_NOTE, WITH_MESSAGES, Bad, FirstForm, Kind, digests
+from share.format.entry import CHUNKS, HEAD_WITHOUT_NOTE, Bad, FirstForm, Kind, digests
 from share.format.keystrokes import Keystrokes
 
 # What a row has: a place, a hash, the bytes, the body where it was unsealed, a sum of that, and whether it was made here.
 KeptEntry = tuple[int, bytes, bytes, bytes | None, int, int]
 # Of fewer rows it is no gain to put them into columns; and fewer entries aren't put together.
 LEAST_ROWS, LEAST_CHAINED = 16, 4
-OF_MESSAGES = frozenset(map(int, WITH_MESSAGES))
+OF_MESSAGES = frozenset(map(int, CHUNKS))
 
 
 def put_together(form: FirstForm, keystrokes: Keystrokes, portion: Sequence[KeptEntry]) -> Iterator[Chained | Sequence[KeptEntry]]:
@@ -97,7 +97,7 @@ def _in_a_row(follows: Sequence[bool], kinds: Sequence[int]) -> Iterator[tuple[i
     """Where entries of messages begin of which each follows the one before it, and where they end."""
     begins = [at for at, is_next in enumerate(follows) if not (is_next and kinds[at] in OF_MESSAGES)]
     for begin, end in zip(begins, [*begins[1:], len(follows)]):
-        # What a newer version wrote may be followed, too.
+        # What a later version wrote may be followed, too.
         begin += kinds[begin] not in OF_MESSAGES
         if end - begin >= LEAST_CHAINED:
             yield begin, end

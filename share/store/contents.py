@@ -13,7 +13,6 @@ from share.review.anchor import Knows
 from share.review.margin import Margin
 from share.review.record import MARGIN
 from share.store import nicknames, notes, read_only, renewal
-from share.store.founding import begun, in_rows
 from share.store.note_file import About
 from share.store.read_only import Judged, NoteText, Own, uncollected
 from share.store.with_log import keep_in, with_log
@@ -78,10 +77,6 @@ def found_of(name: str, url: str | None, link: AnyLink | None, password: str | N
     elif link:
         about = About(link.form == "sealed", link.secret, link.url, link.form_number)
         here = Judged(about, judge_of(about.form()), [], set())
-    elif kept := notes.of_before(name, url, password):
-        about = begun(None).about
-        rows = in_rows(about.form(), kept.messages)
-        return Judged(about, judge_of(about.form(), (row.entry for row in rows)), list(kept.left_out), set())
     else:
         raise Trouble(f"There is no note {name} here. To print one that isn't here, give its link.")
     notes.check_agreement(here.about, name, url, link)

@@ -13,6 +13,7 @@ from share.format.second.form import RecordForm
 from share.store.guarded import GuardedFile
 from share.store.chained import LEAST_ROWS, KeptEntry, put_together
 from share.store.letters import put_letters_together
+from share.text.errors import Gone
 
 ENTRIES_SCHEMA = """
     CREATE TABLE entry (place INTEGER PRIMARY KEY AUTOINCREMENT, hash BLOB NOT NULL UNIQUE, raw BLOB NOT NULL,
@@ -274,14 +275,16 @@ class Entries:
     def _row(self, place: int, of: bytes, raw: bytes, body: bytes | None, check: int, made: int) -> Row | None:
         try:
             if digest(raw) == of and zlib.crc32(b"" if body is None else body) == check:
+                if self._form.is_gone(raw):
+                    raise Gone
                 entry = self._form.reopened(raw, self._form.body(raw) if body is None else body, of)
-                # A version that didn't know these has kept whatever came.
+                # A version that doesn't know a kind keeps whatever comes of it.
                 types_on = (entry.kind.has_messages or entry.kind.says_copies) and self._looks.type_on(entry)
                 return Row(place, entry, bool(made), types_on)
         except (TypeError, ValueError, struct.error, Bad):
             pass
         if isinstance(raw, bytes) and len(raw) >= self._form.head_bytes and digest(raw) == of and self._form.kind(raw).is_newer:
-            # A newer version may keep it in another way, too.
+            # A later version may keep it in another way, too.
             return None
         with self._file.transaction():
             self._sql.execute("DELETE FROM entry WHERE place = ?", (place,))

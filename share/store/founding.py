@@ -43,11 +43,6 @@ def by_text(messages: Iterable[Operation]) -> ByText:
     return {text: {site: sorted(found[text][site], key=lambda one: one.seq) for site in sorted(found[text])} for text in sorted(found)}
 
 
-def in_rows(form: Form, messages: Mapping[int, Sequence[Operation]]) -> list[Row]:
-    """Entries of messages that were made elsewhere. Their numbers are claimed by authors whom nobody can be."""
-    return [row for site, of_site in messages.items() for row in _claim_and_entries(form, of_site, Client(site, form.new_author()))]
-
-
 def _claim_and_entries(form: Form, messages: Sequence[Operation], client: Client) -> Iterator[Row]:
     """A claim, and entries of messages."""
     last = form.claim(client.site, client.author)

@@ -7,6 +7,7 @@ from collections.abc import Callable, Collection, Iterator
 from share.log.folder import inode_of, undisturbed
 from share.log.sqlite_file import Busy, Malformed, SqliteFile, application_without_log, fault_in
 from share.store import unchanged
+from share.text.errors import later
 
 
 # All of SQLite's log is looked at for each key. While there is time its pages go into the file as soon as it has this many bytes more.
@@ -55,6 +56,8 @@ class GuardedFile:
 
     def _open(self, tables: Collection[str]) -> None:
         self.inode = inode_of(self.path)
+        if self.sql.is_later(self._applications):
+            raise later(str(self.path))
         if self.sql.application() not in self._applications:
             raise Damaged(f"{self.path} isn't a note's file")
         self.sql.safe()

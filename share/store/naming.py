@@ -12,7 +12,7 @@ from collections.abc import Iterator
 
 from share.log.folder import held
 from share.log.sqlite_file import SIDE_FILES, beside
-from share.store import nicknames, notes, old, seen
+from share.store import nicknames, notes, seen
 from share.store.guarded import Damaged
 from share.store.locks import LOCK_SUFFIX, Locks
 from share.store.note_file import Disk
@@ -27,7 +27,6 @@ def rename_note(name: str, new: str) -> None:
     path, to = notes.existing(name), notes.path_of(new)
     if notes.is_here(new):
         raise Trouble(f"There is a note {new} here.")
-    _refuse_of_before(name)
     with _by_itself(name), _by_itself(new):
         try:
             _settle(name)
@@ -47,7 +46,6 @@ def rename_note(name: str, new: str) -> None:
 def delete_note(name: str) -> None:
     """Takes a note from this disk: its text, its key, and the keys of this person's numbers."""
     path = notes.existing(name)
-    _refuse_of_before(name)
     with _by_itself(name):
         # Where it is damaged there is nothing to be settled.
         with contextlib.suppress(Damaged):
@@ -95,7 +93,6 @@ def _settle(name: str) -> None:
     """Has all of a note in its file alone."""
     path = notes.path_of(name)
     with contextlib.closing(Disk(path)) as disk:
-        # A version of before has no lock on the name.
         is_open = disk.locked()
     if is_open or beside(path, SIDE_FILES[0]).exists():
         raise _is_open(name)
@@ -103,12 +100,6 @@ def _settle(name: str) -> None:
 
 def _is_open(name: str) -> Trouble:
     return Trouble(f"The note {name} is open, or is being renamed or deleted. Quit its editors first.")
-
-
-def _refuse_of_before(name: str) -> None:
-    if path := old.log_of_old_note(notes.data_folder(), name):
-        raise Trouble(f"There is also {path}, a log of the form of before, by which the note {name} would be here again. Move it away "
-                      "first.")
 
 
 def _move(one: pathlib.Path, other: pathlib.Path) -> None:

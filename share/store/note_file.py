@@ -21,14 +21,14 @@ from share.log.sqlite_file import SIDE_FILES, Busy, Malformed, SqliteFile, besid
 from share.store.entries import ADD_ENTRY, ENTRIES_SCHEMA, Entries, entry_values, never_offered
 from share.store.guarded import Damaged, GuardedFile, Unkept
 from share.store.locks import Locks
-from share.store.own import ADD_CLIENT, OWN_SCHEMA, OWN_SCHEMA_OF_TEXTS, Anew, Client, OwnTables, add_anew, anew_values
+from share.store.own import ADD_CLIENT, OWN_SCHEMA, OWN_SCHEMA_OF_TEXTS, OWN_TABLES, Anew, Client, OwnTables, add_anew, anew_values
 from share.text.errors import entries as many_entries
 
-# Tells a note's file from other files of SQLite, in its header, by the note's form: who doesn't know the second one reads nothing of it.
+# Tells a note's file from other files of SQLite, in its header, by the note's form.
 FIRST, SECOND = 1, 2
 NOTE_APPLICATIONS = {FIRST: 0x56534E32, SECOND: 0x56534E33}
 NOTE_SCHEMA = f"CREATE TABLE about (name TEXT PRIMARY KEY, value BLOB NOT NULL); {ENTRIES_SCHEMA}"
-NOTE_TABLES = "about", "entry", "withdrawn", "client", "anew"
+NOTE_TABLES = "about", "entry", "withdrawn", *OWN_TABLES
 IN_DOUBT = "in doubt"
 # How long the key is of a note that is sealed, or of the second form.
 SECRET_KEY_BYTES = 32
@@ -195,7 +195,7 @@ class Disk:
 
     def note_unsent(self, unsent: int, is_new: bool) -> None:
         """Notes, for who looks without the log, how many of the edits that it lacks it was offered: it may have been gone by then.
-        Where that isn't new, only if some were noted. Versions of before pass over it."""
+        Where that isn't new, only if some were noted."""
         with self._file.reading():
             noted = in_doubt_of(self._file.sql)
         if is_new or noted:

@@ -6,7 +6,7 @@ import re
 import time
 from collections.abc import Callable, Sequence
 from dataclasses import replace
-from itertools import chain, count
+from itertools import count
 from typing import Literal, NamedTuple
 
 from share.admission.judges import judge_of
@@ -16,19 +16,23 @@ from share.format.history import Messages
 from share.format.link import NO_ARGUMENT, OF_SECOND_FORM_ALONE, Link, is_link, is_network, is_relay
 from share.format.operation import TEXT
 from share.format.second.key_link import AnyLink, KeyLink
-from share.log.base import Unreachable
+from share.log.sqlite import GONE_APPLICATION
+from share.log.sqlite_file import says_application
 from share.program import retyping
 from share.program.site import is_full
-from share.store import old, read_only
+from share.store import read_only
 from share.store.founding import begun
 from share.store.guarded import Damaged
 from share.store.note_file import FIRST, SECOND, About, Disk, make_note
-from share.store.old import NOTE_NAME, Old
 from share.store.renewal import say_so
 from share.store.with_log import with_log
-from share.text.errors import Trouble
+from share.text.errors import Gone, Trouble
 
+# A note's name goes into a path.
+NOTE_NAME = re.compile(r"[A-Za-z0-9][A-Za-z0-9._-]{0,63}")
 NOTE_SUFFIX = ".note"
+# Unreleased versions kept a note in a file below this folder.
+GONE_FOLDER = "logs"
 # How long opening waits for who renames or deletes a note, and the time between two tries.
 NAME_SECONDS, TRY_NAME_SECONDS = 10, 0.01
 
@@ -53,40 +57,39 @@ def path_of(name: str) -> pathlib.Path:
     if not is_name(name):
         raise Trouble(f"{name!r} can't be a note's name. Use up to 64 letters, digits, dots, hyphens and "
                       "underscores, the first a letter or a digit.")
-    return data_folder() / "notes" / f"{name}{NOTE_SUFFIX}"
+    path = data_folder() / "notes" / f"{name}{NOTE_SUFFIX}"
+    if not path.exists() and says_application(data_folder() / GONE_FOLDER / f"{name}.db", GONE_APPLICATION):
+        raise Gone
+    return path
 
 
 def is_here(name: str) -> bool:
-    """Whether this disk has the note, in the form of today or of before."""
-    return path_of(name).exists() or old.is_old_note(data_folder(), name)
+    """Whether this disk has the note."""
+    return path_of(name).exists()
 
 
 def names() -> list[str]:
-    """The names of the notes that are here in the form of today."""
+    """The names of the notes that are here."""
     found = (path.name[:-len(NOTE_SUFFIX)] for path in (data_folder() / "notes").glob(f"*{NOTE_SUFFIX}"))
     return sorted(filter(is_name, found))
 
 
 class Renewed(NamedTuple):
-    """The name that a note has that was copied into a new one, None where it was of the form of before and is where
-    it was; what isn't in the new one, in words; what was left out of the old one for good; and whether the new one is of the first form,
-    and the old one wasn't."""
+    """The name that a note has that was copied into a new one; what isn't in the new one, in words; what was left out of the old one
+    for good; and whether the new one is of the first form, and the old one wasn't."""
 
-    before: str | None
+    before: str
     missing: list[str]
     left_out: list[LeftOut]
     is_back: bool
 
 
-def open_note(name: str, url: str | None, link: AnyLink | None, password: str | None = None,
-              tell: Callable[[str], None] = lambda words: None, form_number: int | None = None) -> Disk:
-    """The file of a note, which is made where it isn't there: as a link says, from a note of before, or new, of a form. Tells
-    what was left out."""
+def open_note(name: str, url: str | None, link: AnyLink | None, form_number: int | None = None) -> Disk:
+    """The file of a note, which is made where it isn't there: as a link says, or new, of a form."""
     path = path_of(name)
     try:
         if not path.exists():
-            for words in _make_first(name, path, url, link, password, form_number or form_of_new(url)):
-                tell(words)
+            _make_first(path, url, link, form_number or form_of_new(url))
         disk = _named(name, path)
     except Damaged as why:
         if not path.exists():
@@ -135,32 +138,25 @@ def renew(name: str, url: str | None, password: str | None, called: str = "",
           begins: Callable[[Messages], Messages] = lambda messages: messages, form_number: int | None = None) -> Renewed:
     """Copies a note into a new one with a key of its own, under its name, or what is made of its messages: of a form, or of its own;
     those who have the old one are told so by one of this name."""
-    path, old_form = path_of(name), FIRST
-    if path.exists():
-        found = read_only.judged(path)
-        url = url or _log_of_new(found.about.url)
-        if found.about.url:
-            # What others wrote while nobody had the note open here is in its log alone.
-            found = with_log(found, found.about.url, password)
-        judge, old_form = found.judge, found.about.form_number
-        messages, missing = judge.count().messages, read_only.missing(judge, found.faults)
-        left_out = retyping.left_out(judge, read_only.own(path).anew)
-    elif kept := of_before(name, url, password):
-        messages, missing = Messages(chain.from_iterable(kept.messages.values())), [*kept.left_out]
-        left_out = []
-    else:
-        raise Trouble(f"There is no note {name} here.")
+    path = existing(name)
+    found = read_only.judged(path)
+    url = url or _log_of_new(found.about.url)
+    if found.about.url:
+        # What others wrote while nobody had the note open here is in its log alone.
+        found = with_log(found, found.about.url, password)
+    judge, old_form = found.judge, found.about.form_number
+    messages, missing = judge.count().messages, read_only.missing(judge, found.faults)
+    left_out = retyping.left_out(judge, read_only.own(path).anew)
     messages, form_number = begins(messages), form_number or max(old_form, form_of_new(url))
     _see_that_there_is_room(name, messages, form_number)
     beside = path.with_name(f".renewed.{os.getpid()}{NOTE_SUFFIX}")
     make_note(beside, *begun(url, messages, form_number))
     try:
-        before = _give_way(name, path) if path.exists() else None
+        before = _give_way(name, path)
         os.rename(beside, path)
     finally:
         beside.unlink(missing_ok=True)
-    if before:
-        say_so(path_of(before), called, password)
+    say_so(path_of(before), called, password)
     return Renewed(before, missing, left_out, form_number < old_form)
 
 
@@ -218,23 +214,6 @@ def recover(folders: Sequence[pathlib.Path]) -> list[str]:
     return told or ["No note's file was found in these folders."]
 
 
-def of_before(name: str, url: str | None, password: str | None) -> Old | None:
-    """The messages of a note of the form of before, where there is one."""
-    try:
-        return _of_before(name, url, password)
-    except Unreachable as why:
-        raise Trouble(f"{why}. Whether the note {name} is on the server in the form of before can't be seen. Try again "
-                      "when it can be reached.") from why
-
-
-def _of_before(name: str, url: str | None, password: str | None) -> Old | None:
-    if url and is_relay(url):
-        return None
-    if not url or not is_network(url):
-        return old.messages_of_old_note(data_folder(), name)
-    return old.messages_of_old_server(url, name, password, data_folder())
-
-
 def existing(name: str) -> pathlib.Path:
     """The file of a note that is here."""
     path = path_of(name)
@@ -248,27 +227,12 @@ def form_of_new(url: str | None = None) -> int:
     return SECOND if url and is_relay(url) else int(os.environ.get("VIALSHOAL_FORM", FIRST))
 
 
-def _make_first(name: str, path: pathlib.Path, url: str | None, link: AnyLink | None, password: str | None,
-                form_number: int) -> Sequence[str]:
-    """Makes a note's file; what was left out, in words."""
+def _make_first(path: pathlib.Path, url: str | None, link: AnyLink | None, form_number: int) -> None:
+    """Makes a note's file."""
     if link:
         make_note(path, About(link.form == "sealed", link.secret, url or link.url, link.form_number))
-        return ()
-    if not url and (kept := of_before(name, None, password)):
-        make_note(path, *begun(None, chain.from_iterable(kept.messages.values()), form_number))
-        return kept.left_out
-    told = []
-    try:
-        is_on_server = url and is_network(url) and _of_before(name, url, password)
-    except Unreachable as why:
-        # Nobody else has the new note, so nothing has to be known of the server.
-        is_on_server, told = None, [f"{why}. {name} is a new note, which is sent once its log can be reached."]
-    if is_on_server:
-        raise Trouble(f"The note {name} on this server is of the form of before, which isn't sealed, and is read only. "
-                      f"bin/note renew {name} --log {url} copies it into a sealed one, for which you give the others "
-                      f"the link; bin/note {name} --log {url} --print prints it.")
-    make_note(path, *begun(url, (), form_number))
-    return told
+    else:
+        make_note(path, *begun(url, (), form_number))
 
 
 def check_agreement(about: About, name: str, url: str | None, link: AnyLink | None) -> None:

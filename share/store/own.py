@@ -11,23 +11,18 @@ OWN_SCHEMA = """
                          retired INTEGER NOT NULL, stood INTEGER NOT NULL, PRIMARY KEY (site, author));
     CREATE TABLE anew (author BLOB NOT NULL, site INTEGER NOT NULL, seq INTEGER NOT NULL,
                        by_site INTEGER NOT NULL, by_seq INTEGER NOT NULL, PRIMARY KEY (author, site, seq));
+    CREATE TABLE hiding (author BLOB NOT NULL, site INTEGER NOT NULL, seq INTEGER NOT NULL, PRIMARY KEY (author, site, seq));
 """
+OWN_TABLES = "client", "anew", "hiding"
 # Of a note of several texts.
-OWN_SCHEMA_OF_TEXTS = OWN_SCHEMA.replace("by_seq INTEGER NOT NULL, PRIMARY KEY (author, site, seq)",
-                                         "by_seq INTEGER NOT NULL, text INTEGER NOT NULL, PRIMARY KEY (author, site, seq, text)")
+OWN_SCHEMA_OF_TEXTS = OWN_SCHEMA.replace("seq INTEGER NOT NULL, PRIMARY KEY (author, site, seq)",
+                                         "seq INTEGER NOT NULL, text INTEGER NOT NULL, PRIMARY KEY (author, site, seq, text)")
 ADD_CLIENT, ADD_ANEW, ADD_ANEW_OF_TEXT = ("INTO client VALUES (?, ?, ?, ?, ?)", "INTO anew VALUES (?, ?, ?, ?, ?)",
                                           "INTO anew VALUES (?, ?, ?, ?, ?, ?)")
-# Versions of before have no such tables, and leave them where they are.
-PACKED = """CREATE TABLE IF NOT EXISTS packed (site INTEGER PRIMARY KEY, digest BLOB NOT NULL, fronts BLOB NOT NULL)"""
-HIDING = """CREATE TABLE IF NOT EXISTS hiding (author BLOB NOT NULL, site INTEGER NOT NULL, seq INTEGER NOT NULL,
-                                           PRIMARY KEY (author, site, seq))"""
-HIDE = "INSERT OR IGNORE INTO hiding VALUES (?, ?, ?)"
-HIDING_OF_TEXT = """CREATE TABLE IF NOT EXISTS hiding (author BLOB NOT NULL, site INTEGER NOT NULL, seq INTEGER NOT NULL,
-                                                   text INTEGER NOT NULL,
-                                                   PRIMARY KEY (author, site, seq, text))"""
-HIDE_OF_TEXT = "INSERT OR IGNORE INTO hiding VALUES (?, ?, ?, ?)"
-# What a client's row says of its number: it is gone on with, it was given up, or it is of a note that was copied into this
-# one. To a version of before the last two are the same.
+# Nothing hangs on it, so it is made as it is needed.
+PACKED = "CREATE TABLE IF NOT EXISTS packed (site INTEGER PRIMARY KEY, digest BLOB NOT NULL, fronts BLOB NOT NULL)"
+HIDE, HIDE_OF_TEXT = "INSERT OR IGNORE INTO hiding VALUES (?, ?, ?)", "INSERT OR IGNORE INTO hiding VALUES (?, ?, ?, ?)"
+# The state of a number in its row: 0 if it is used, 1 if it was given up, 2 if the note was copied from another one with it.
 RETIRED, COPIED = 1, 2
 
 
@@ -112,13 +107,11 @@ class OwnTables:
     def hidings(self) -> set[Copy]:
         """The messages made here that hide copies, or show them again."""
         with self._file.reading():
-            found = self._sql.execute(f"SELECT {self._columns} FROM hiding") if self._sql.has_tables(("hiding",)) else ()
-            return {Copy(*one) for one in found}
+            return {Copy(*one) for one in self._sql.execute(f"SELECT {self._columns} FROM hiding")}
 
     def add_hidings(self, hidings: Iterable[Copy]) -> None:
         """Notes which messages hide copies, or show them again."""
         if found := [*hidings]:
-            self._sql.execute(HIDING_OF_TEXT if self._has_texts else HIDING)
             self._sql.executemany(HIDE_OF_TEXT if self._has_texts else HIDE, (tuple(one)[:4 if self._has_texts else 3] for one in found))
 
     def restore(self, clients: Iterable[Client], anew: Iterable[Copy], hidings: Iterable[Copy]) -> None:

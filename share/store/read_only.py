@@ -21,7 +21,7 @@ from share.format.operation import TEXT
 from share.format.second.form import RecordForm
 from share.format.second.saved import CUT_SHORT, SAVED_SUFFIX, read_saved_note
 from share.log.folder import inode_of, undisturbed
-from share.log.sqlite_file import FAULTS, Busy, Malformed, SqliteFile
+from share.log.sqlite_file import FAULTS, Busy, Malformed, SqliteFile, copied
 from share.program.site import Site
 from share.store.chained import KeptEntry, put_together
 from share.store.entries import GREATEST_PLACE
@@ -29,9 +29,8 @@ from share.store.guarded import Damaged
 from share.store.letters import put_letters_together
 from share.store.locks import noted_beside, place_noted
 from share.store.note_file import NOTE_APPLICATIONS, SECOND, About, about_of, noted_of, unsent_of
-from share.store.old import copied
 from share.store.own import COPIED, names_of_messages
-from share.text.errors import NEWER, NOT_BEGUN, Trouble, entries
+from share.text.errors import NEWER, NOT_BEGUN, Gone, Trouble, entries, later
 
 Read = TypeVar("Read")
 # What is read of each entry: its place, and its bytes; or all that is kept of it, for who doesn't ask who made it.
@@ -285,6 +284,8 @@ def _opened_row(form: Form, looks: OneByOne, row: KeptEntry) -> Row:
     place, of, raw, body, check, _ = row
     try:
         if digest(raw) == of and zlib.crc32(b"" if body is None else body) == check:
+            if form.is_gone(raw):
+                raise Gone
             entry = form.reopened(raw, form.body(raw) if body is None else body, of)
             return Row(place, entry, False, looks.type_on(entry))
     except (TypeError, ValueError, struct.error):
@@ -331,6 +332,8 @@ def _note_in(path: pathlib.Path, copy: pathlib.Path) -> SqliteFile:
     with undisturbed(copy.parent):
         file = SqliteFile(copy, writes=False, bounded=True)
         try:
+            if file.is_later(NOTE_APPLICATIONS.values()):
+                raise later(str(path))
             if file.application() not in NOTE_APPLICATIONS.values():
                 raise Trouble(f"{path} isn't a note's file.")
         except BaseException:

@@ -8,9 +8,9 @@ from share.format.entry import Bad, Entry, Form, digest
 from share.format.link import is_network
 from share.log.base import START, InLog, Log, LogLost, Unreachable
 from share.log.opening import open_log, opener_of
+from share.log.sqlite_file import copied
 from share.store.guarded import Damaged, Unkept
 from share.store.note_file import Disk
-from share.store.old import copied
 from share.store.read_only import Faults, Judged
 from share.text.errors import Trouble, entries
 

@@ -123,9 +123,6 @@ class Giver:
 
     def _answer(self, disk: Disk, log: Log, carried: Carried) -> None:
         """Gives the log again what others lack, of what it seemed to have."""
-        places, reads = self._meeting.answers(disk)
-        if reads:
-            self._known.read_from_front()
-        if had := [place for place in places if carried.has(place)]:
+        if had := [place for place in self._meeting.answers(disk) if carried.has(place)]:
             log.append(disk.entries.offer(had))
             trace(Traced.GIVEN_AGAIN, entries=len(had))

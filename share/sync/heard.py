@@ -11,10 +11,9 @@ import math
 import time
 from collections.abc import Callable, Iterable, Iterator, Sequence
 from enum import IntEnum
-from typing import NamedTuple
 
-from share.format.heartbeat import OF_BEFORE, Hears, Lack, Said, is_of_now, read_heartbeat, token_of
-from share.format.presence import COUNT, FORM, LEAVING_BYTES, RANDOM_BYTES, TOKEN_BYTES, is_leaving, with_count
+from share.format.heartbeat import Hears, Lack, Said, read_heartbeat, token_of
+from share.format.presence import COUNT, FORM, LEAVING_BYTES, RANDOM_BYTES, TOKEN_BYTES, PRESENCE_VERSION, is_leaving, with_count
 from share.log.base import MOST_ON, ON_SECONDS
 
 # The most tokens that are remembered; the one that was silent longest is forgotten first.
@@ -56,13 +55,6 @@ class Voices:
         return known is not None and time.monotonic() - known[1] < ON_SECONDS
 
 
-class Asked(NamedTuple):
-    """What others ask for: entries, and whether one of a version of before can't say which."""
-
-    lacks: list[Lack]
-    all: bool
-
-
 class Others:
     """The replicators of others, by what they say. The presence's thread alone calls it."""
 
@@ -85,9 +77,9 @@ class Others:
         """Whether a replicator says by the channel that it is on."""
         return token in self._by_channel and self._voices.is_on(token)
 
-    def heard(self, said: Iterable[bytes]) -> Asked:
+    def heard(self, said: Iterable[bytes]) -> list[Lack]:
         """Takes over what was said by the channel; what is asked for."""
-        asked = Asked([], False)
+        asked = list[Lack]()
         for one in filter(None, map(read_heartbeat, said)):
             if one.token == self._token:
                 self.was_heard = True
@@ -98,24 +90,17 @@ class Others:
                 else:
                     self._by_channel[one.token] = None
                 self.has_come |= one.hears is Hears.CHANNEL_FROM_NOW
-                asked.lacks.extend(self._asked_by(one))
+                asked.extend(self._asked_by(one))
         while len(self._by_channel) > MOST_ON:
             del self._by_channel[next(iter(self._by_channel))]
         return asked
 
-    def met(self, said: Iterable[bytes]) -> Asked:
+    def met(self, said: Iterable[bytes]) -> list[Lack]:
         """Takes over what all say in the table who are on; what is asked for since."""
         on: set[bytes] = set()
-        asked, self.need_table = Asked([], False), False
-        for data in said:
-            if one := read_heartbeat(data):
-                asked.lacks.extend(self._met(one, on))
-            elif len(data) == OF_BEFORE.size:
-                token, asks = OF_BEFORE.unpack(data)
-                if not is_of_now(token):
-                    on.add(token)
-                    self.need_table = True
-                    asked = asked._replace(all=self._asking.hears(token, asks) is Heard.MORE or asked.all)
+        asked, self.need_table = list[Lack](), False
+        for one in filter(None, map(read_heartbeat, said)):
+            asked.extend(self._met(one, on))
         self._in_table = on
         return asked
 
@@ -144,7 +129,7 @@ class Shows:
     def heard(self, said: Iterable[bytes]) -> None:
         """Takes over what was said by the channel."""
         for token, count, data in self._of_others(said):
-            if count is not None and self._voices.hears(token, count) is not Heard.NOTHING:
+            if self._voices.hears(token, count) is not Heard.NOTHING:
                 self._by_channel.pop(token, None)
                 # What the table has of it was said before that.
                 self._in_table.pop(token, None)
@@ -158,7 +143,7 @@ class Shows:
         is nothing."""
         now: dict[bytes, bytes] = {}
         for token, count, data in self._of_others(said):
-            is_new = count is None or self._voices.hears(token, count) is not Heard.NOTHING
+            is_new = self._voices.hears(token, count) is not Heard.NOTHING
             if is_new or token not in now and self._in_table.get(token) == data and self._voices.is_on(token):
                 now[token] = data
         self._in_table = {token: data for token, data in now.items() if not is_leaving(data)}
@@ -166,11 +151,12 @@ class Shows:
     def now(self, is_on: Callable[[bytes], bool]) -> list[bytes]:
         """What each editor of others has said last, whose replicator is on or is met in the table."""
         on = {token: data for token, data in self._by_channel.items() if is_on(token_of(token[:RANDOM_BYTES]))}
-        return [data if COUNT.unpack_from(data, RANDOM_BYTES)[0] else with_count(data, 0) for data in (on | self._in_table).values()]
+        return [with_count(data, 0) for data in (on | self._in_table).values()]
 
-    def _of_others(self, said: Iterable[bytes]) -> Iterator[tuple[bytes, int | None, bytes]]:
-        """What others say of editors: under which token, and with which count, which those of before don't have."""
+    def _of_others(self, said: Iterable[bytes]) -> Iterator[tuple[bytes, int, bytes]]:
+        """What others say of editors: under which token, and with which count."""
         for data in said:
             if FORM.size <= len(data) <= LEAVING_BYTES and not data.startswith(self._engine):
-                zeros, count = COUNT.unpack_from(data, RANDOM_BYTES)
-                yield data[:RANDOM_BYTES] + data[TOKEN_BYTES:2 * TOKEN_BYTES], None if zeros else count, data
+                version, count = COUNT.unpack_from(data, RANDOM_BYTES)
+                if version == PRESENCE_VERSION:
+                    yield data[:RANDOM_BYTES] + data[TOKEN_BYTES:2 * TOKEN_BYTES], count, data

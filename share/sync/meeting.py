@@ -6,11 +6,10 @@ from itertools import chain
 
 from share.format import heartbeat
 from share.format.entry import Form
-from share.format.heartbeat import OF_BEFORE, Hears, Lack, Said, Way
-from share.format.presence import RANDOM_BYTES
+from share.format.heartbeat import Hears, Lack, Said, Way
 from share.log.base import Log
 from share.store.note_file import Disk
-from share.sync.heard import Asked, Others
+from share.sync.heard import Others
 from share.sync.turns import LacksInTurn
 
 # The pause before the others are asked for more of what is missing, which doubles up to a most each time that all of it was asked for; and
@@ -18,12 +17,10 @@ from share.sync.turns import LacksInTurn
 ASK_SECONDS, MOST_ASK_SECONDS, RESTS_FROM_CHOOSING = 2, 600, 20
 # How often what stands where an entry is damaged is asked for, and the most such places.
 ASKS_FOR_DAMAGED, MOST_DAMAGED = 3, 100
-# The pause between two readings of the log, or of the whole file, for those who ask, however many they are.
+# The pause between two readings of the whole file for those who ask, however many they are.
 WHOLE_ANSWER_SECONDS = 30
 # The most entries that others lack and that are remembered, and of those after one that are given in one go.
 MOST_WANTED, WANTED_AT_ONCE = 50, 200
-# What follows its token's first bytes where a replicator says what it lacks.
-ASKING = b"asking\0\0"
 
 
 class Meeting:
@@ -43,13 +40,14 @@ class Meeting:
         self._turns = LacksInTurn()
         # The entries after which something damaged came, and how often that is to be asked for yet.
         self._damaged: dict[bytes, int] = {}
-        # What others have asked for; whether one couldn't say what it lacks; and from when on this is looked at again.
+        # What others have asked for.
         self._lock = threading.Lock()
         self._wanted: dict[Lack, None] = {}
         # The hashes of what others want and name otherwise, which the editor's thread knows; and what it may be that is before it.
         self._found: list[bytes] = []
         self._after: dict[Lack, None] = {}
-        self._is_asked, self._answers_again = False, 0.0
+        # From when on it is looked at again what follows an entry.
+        self._answers_again = 0.0
 
     def is_on(self, many: int) -> None:
         """Takes over how many are on."""
@@ -82,14 +80,12 @@ class Meeting:
         return self._form.presence(heartbeat.heartbeat_of(Said(self._token, next(self._counts), self._asks, self._lacks, hears)))
 
     def meet(self, log: Log, hears: Hears) -> list[bytes]:
-        """Says it in the table, to all versions; what all say there."""
-        log.meet(self._token[:RANDOM_BYTES] + ASKING, self.heartbeat(hears))
-        return log.meet(self._token, self._form.presence(OF_BEFORE.pack(self._token, self._asks)))
+        """Say it in the table; return what all say there."""
+        return log.meet(self._token, self.heartbeat(hears))
 
     def leave(self, log: Log) -> None:
-        """Says in the table that this one is there no more."""
-        for token in self._token, self._token[:RANDOM_BYTES] + ASKING:
-            log.leave(token)
+        """Say in the table that this one is there no more."""
+        log.leave(self._token)
 
     def heard(self, said: Iterable[bytes]) -> None:
         """Takes over what was said by the channel."""
@@ -99,24 +95,23 @@ class Meeting:
         """Takes over what all say in the table."""
         self._take(self.others.met(said))
 
-    def _take(self, asked: Asked) -> None:
+    def _take(self, asked: Sequence[Lack]) -> None:
         with self._lock:
-            for one in asked.lacks[:MOST_WANTED - len(self._wanted)]:
+            for one in asked[:MOST_WANTED - len(self._wanted)]:
                 self._wanted[one] = None
             if self._form.names_messages:
-                self._after |= {one: None for one in asked.lacks[:MOST_WANTED - len(self._after)] if one.way is Way.AFTER}
-            self._is_asked |= asked.all
-        if asked.lacks and self._form.names_messages:
+                self._after |= {one: None for one in asked[:MOST_WANTED - len(self._after)] if one.way is Way.AFTER}
+        if asked and self._form.names_messages:
             self._wake()
         self.is_on(self.others.on)
 
-    def answers(self, disk: Disk) -> tuple[list[int], bool]:
-        """The places of what others lack, and whether the log is to be read for one that can't say what it lacks."""
-        wanted, reads = self._take_wanted()
+    def answers(self, disk: Disk) -> list[int]:
+        """Return the places of what others lack."""
+        wanted = self._take_wanted()
         with self._lock:
             found, self._found = self._found, []
         places = {*disk.entries.places_of(found + [one.hash for one in wanted if one.way is Way.IT]).values()}
-        return sorted(places | {*disk.entries.places_after([one.hash for one in wanted if one.way is Way.AFTER], WANTED_AT_ONCE)}), reads
+        return sorted(places | {*disk.entries.places_after([one.hash for one in wanted if one.way is Way.AFTER], WANTED_AT_ONCE)})
 
     def find(self, found: Callable[[Lack], list[bytes]]) -> None:
         """Finds what others want and ask for by what names a message or a claim, where a file knows its entries by their hashes."""
@@ -128,18 +123,17 @@ class Meeting:
                 for one in named:
                     del self._wanted[one]
 
-    def _take_wanted(self) -> tuple[list[Lack], bool]:
+    def _take_wanted(self) -> list[Lack]:
         """What others want and is to be looked for now."""
         with self._lock:
             # What is named by a message is found by the editor's thread.
             named = [one for one in self._wanted if one.way is Way.IT and self._form.names_messages]
             later = [one for one in self._wanted if one.way is Way.AFTER]
-            wanted, reads = [*self._wanted], False
-            if (later or self._is_asked) and time.monotonic() >= self._answers_again:
-                self._answers_again = time.monotonic() + WHOLE_ANSWER_SECONDS
-                reads, self._is_asked, later = self._is_asked, False, []
+            wanted = [*self._wanted]
+            if later and time.monotonic() >= self._answers_again:
+                self._answers_again, later = time.monotonic() + WHOLE_ANSWER_SECONDS, []
             self._wanted = dict.fromkeys([*named, *later])
-            return [one for one in wanted if one not in self._wanted], reads
+            return [one for one in wanted if one not in self._wanted]
 
     def _ask_for_more(self) -> None:
         """Puts some of what is lacked now into what is said next."""

@@ -205,7 +205,7 @@ class OpenFile:
         """All that is in memory, and as the note is opened what can be read of its damaged file besides."""
         holdings = self._holdings
         rows = [*holdings.rows.each()]
-        # What has no room in memory, or only a newer version knows, is there alone.
+        # What has no room in memory, or only a later version knows, is there alone.
         is_more_there = not self.moved or holdings.waiting_for_room() or holdings.judge.has_newer()
         if is_more_there and damaged.exists():
             with suppress(Trouble):

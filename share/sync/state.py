@@ -40,7 +40,7 @@ class Holdings(WhatWasLost):
         self.rows = RowsInMemory(self.judge, self._withdrawn)
         # Those of this person under whose number somebody else writes, too.
         self._shared: set[Who] = set()
-        # Those of this person under which a newer version wrote what this one doesn't know.
+        # Those of this person under which a later version wrote what this one doesn't know.
         self.newer: set[Who] = set()
         # Where entries are in the file for which there was no room, and those of them that are to be read again.
         self._backlog, self._again = Backlog(), ReadAgain()

@@ -1,4 +1,4 @@
-"""The two ways of presence: by a log's channel, which keeps nothing, and by its table, which every version knows."""
+"""The two ways of presence: by a log's channel, which keeps nothing, and by its table."""
 import math
 import time
 from collections.abc import Iterator, Mapping

@@ -18,7 +18,7 @@ from typing import NamedTuple
 
 from share.format import chunk
 from share.format.entry import GREATEST_SITE, HEAD, MOST_BYTES, NO_HASH, Author, Bad, Entry, FirstForm, Form, Kind, digest
-from share.format.heartbeat import OF_BEFORE
+from share.format.heartbeat import Said, heartbeat_of, new_token
 from share.format.operation import DELETE, INSERT, MOST_RANGES, PLAIN_LOOKS, TEXT, Operation
 from share.format.second.claim import found_among
 from share.format.second.form import RecordForm
@@ -242,7 +242,7 @@ def nothing(_: Hostile, stopped: threading.Event) -> None:
 
 def old_presence(hostile: Hostile, stopped: threading.Event) -> None:
     """What an editor has said once is put under other tokens, and taken away again."""
-    said = hostile.form.presence(OF_BEFORE.pack(secrets.token_bytes(16), 7))
+    said = hostile.form.presence(heartbeat_of(Said(new_token(), 1, 7, ())))
     for number in itertools.count():
         token = number.to_bytes(16, "big")
         hostile.say(token, said)

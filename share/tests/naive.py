@@ -10,7 +10,7 @@ from itertools import chain
 from typing import Any, cast
 from typing import NamedTuple
 
-from share.format.chunk import packed, packed_in_parts
+from share.format.chunk import Packed, packed, packed_in_parts
 from share.format.entry import HEAD, NO_HASH, Author, BuiltOn, Entry, FirstEntry, FirstForm, Form, Kind
 from share.format.operation import NoMessage, Operation
 from share.program.process import Program
@@ -363,7 +363,7 @@ def ended(entries: Iterable[FirstEntry]) -> set[bytes]:
 
 def loose(entries: Iterable[FirstEntry]) -> list[FirstEntry]:
     """The entries from which no walk to what came before them ends at a claim that is there. What says that something
-    was made anew, or what stands for what, waits for nothing, nor does what a newer version wrote."""
+    was made anew, or what stands for what, waits for nothing, nor does what a later version wrote."""
     known = {entry.hash: entry for entry in entries}
     found = []
     for entry in known.values():
@@ -406,7 +406,7 @@ LOOKS = b"\x10Oberon10.Scn.Fnt\x01\x00"
 
 
 def newer(form: Form, before: Entry, author: Author, body: bytes = b"new") -> FirstEntry:
-    """What a newer version wrote after an entry, of a kind that this version doesn't know."""
+    """What a later version wrote after an entry, of a kind that this version doesn't know."""
     head_of_it = HEAD.pack(form.number, 9, form.note, before.site, before.last + 1, 0, before.hash)
     assert isinstance(form, FirstForm)
     return form.open(form._closed(head_of_it + author.name, body, author))
@@ -444,11 +444,6 @@ def taking(program: Program, one: Operation) -> bytes:
     return program.event("take", spelled(one).hex().encode())
 
 
-def body_of(operations: Iterable[Operation]) -> bytes:
-    """Messages one after the other, each after its length, as entries of the older kinds have them."""
-    return b"".join(len(data).to_bytes(2, "big") + data for data in map(spelled, operations))
-
-
 def chunk_of(operations: Iterable[Operation], length: int = 0) -> bytes | None:
     """The chunk of operations; None where none has them."""
     part = packed(operations, length)
@@ -460,13 +455,27 @@ def in_entries(operations: Iterable[Operation]) -> list[list[Operation]]:
     return [[each for one in part.operations for each in one.each()] for part in packed_in_parts(operations)]
 
 
+def in_chunks(operations: Iterable[Operation]) -> list[list[Operation]]:
+    """Split operations into parts of which each has a chunk. An operation that doesn't follow the one before it begins another part."""
+    parts: list[list[Operation]] = []
+    for one in operations:
+        if parts and _packed([*parts[-1], one]):
+            parts[-1].append(one)
+        else:
+            parts.append([one])
+    return parts
+
+
+def _packed(operations: Sequence[Operation]) -> Packed | None:
+    """Operations with their chunk, wherever their characters begin; None where no chunk has them."""
+    return packed(operations, next((one.at for one in operations if one.data), 0))
+
+
 def entry_of(form: Form, before: Entry, operations: Sequence[Operation], author: Author, on: BuiltOn = b"", length: int = 0) -> FirstEntry:
-    """The entry of operations that follow an entry; one of an older kind, where no chunk has them."""
-    if part := packed(operations, length):
-        return cast(FirstEntry, form.entry(before, part, author, on))
-    assert isinstance(form, FirstForm) and isinstance(on, bytes)
-    kind = Kind.BUILDING if on else Kind.MESSAGES
-    return form._made(kind, before.site, operations[0].seq, len(operations), before.hash, author, on, body_of(operations))
+    """The entry of operations that follow an entry. Their chunk may say that their characters begin at another place than they should."""
+    part = packed(operations, length) or _packed(operations)
+    assert part, "no chunk has them"
+    return cast(FirstEntry, form.entry(before, part, author, on))
 
 
 def inserting(site: int, seq: int, stamp: int, cause: Name | None, at: int, data: bytes) -> Operation:

@@ -215,7 +215,7 @@ class Set:
                          self._chance.choice([ZEROS, new.said[-1].hash]), *map(varint, stretch)])
 
     def be_newer(self) -> None:
-        """A newer version says what this one doesn't know."""
+        """A later version says what this one doesn't know."""
         if one := self._leaf():
             self._add(self._chance.choice([0, 8, 255]), one.author, one, one.said[-1].hash, b"new")
 

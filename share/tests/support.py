@@ -352,7 +352,7 @@ def claim_of(form: Form, site: int, author: Author | None = None) -> Entry:
 
 
 def newer_of(form: Form, before: Entry, author: Author, body: bytes = b"new") -> Entry:
-    """What a newer version of an author's wrote after an entry, of a kind that this version doesn't know."""
+    """What a later version of an author's wrote after an entry, of a kind that this version doesn't know."""
     if not isinstance(form, RecordForm):
         return newer(form, before, author, body)
     head = RECORD_HEAD.pack(form.number, 99, form.note, author.name, before.site, before.text, 0, 0, NO_HASH)

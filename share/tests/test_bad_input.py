@@ -3,7 +3,6 @@ import contextlib
 import itertools
 import json
 import os
-import pathlib
 import shlex
 import shutil
 import signal
@@ -21,14 +20,11 @@ from share.log.sqlite import SqliteLog
 from share.program import patience
 from share.program.process import Ended, Program, command
 from share.store import read_only
-from share.tests.forms import is_second_form
-from share.tests.naive import entry_of, inserting
 from share.tests.note import Note
 from share.tests.servers import Hostile
-from share.tests.support import NOTE, TOP, Case, change, claim_of, newer_of, python, raws_of, type_at_the_end, wait_for, written
+from share.tests.support import NOTE, TOP, Case, change, python, raws_of, type_at_the_end, wait_for, written
 from share.tests.test_logs import WITHOUT_END
 from share.tests.waiting import PATIENCE
-from share.text.errors import NEWER
 
 SOMEBODY = 65_534
 
@@ -250,55 +246,6 @@ class BadInput(Case):
         with mock.patch("share.log.sqlite_file.MOST_TICKS", 1):
             found = read_only.found_in(self.ann.path())
         self.assertRegex(found.faults[0], "damaged .interrupted.")
-
-    def test_an_entry_of_a_kind_that_a_later_version_has(self) -> None:
-        with contextlib.closing(self.ann.disk()) as disk, contextlib.closing(self.ann.log()) as log:
-            author = disk.form.new_author()
-            claim = claim_of(disk.form, 7, author)
-            later = [newer_of(disk.form, claim, author, body).raw for body in (b"", b"new", b"newer")]
-            log.append(later)
-        ann, bob = self.opened(self.ann), self.opened(self.person("bob"), link=self.ann.link())
-        for note, words in (ann, "four "), (bob, "five "):
-            wait_for(lambda one=note: (one.take_in(), one.notice)[1], "it to be told")
-            self.assertEqual(note.notice, NEWER)
-            written(note, words)
-        self.assertEqual(sorted(self.assert_meet(ann, bob).split()), sorted(b"one two three four five".split()))
-        self.assertEqual((ann.notice, ann.session.status().waiting, ann.session.status().offline), (NEWER, 0, None))
-        # Whoever has it gives it to a log that lost it.
-        pathlib.Path(self.file_log()).unlink()
-        wait_for(lambda: pathlib.Path(self.file_log()).exists() and self.has_in_log(later), "it to be there again")
-
-    def has_in_log(self, raws: list[bytes]) -> bool:
-        """Whether the log has all of these."""
-        with contextlib.closing(self.ann.log()) as log:
-            return set(raws) <= set(raws_of(log))
-
-    def test_a_file_that_a_later_version_wrote(self) -> None:
-        with contextlib.closing(self.ann.disk()) as disk:
-            last = [row.entry for row in disk.entries.rows() if row.entry.kind.has_messages][-1]
-            (client,) = [one for one in disk.own.clients() if one.site == last.site]
-            later = [newer_of(disk.form, last, client.author, body) for body in (b"", b"new")]
-            # What comes after it doesn't count here, and isn't made anew: it counts there. In the second form nothing comes after it.
-            follower = [inserting(client.site, last.last + 1, 2**16, None, 14, b"more ")]
-            later += [] if is_second_form() else [entry_of(disk.form, later[0], follower, client.author)]
-            disk.keep(later, made=True)
-        # It may keep it otherwise, too.
-        change(self.ann.path(), "UPDATE entry SET sum = 7, body = 'words' WHERE hash = ?", later[1].hash)
-        note = self.opened(self.ann)
-        note.take_in()
-        self.assertEqual(note.notice, NEWER)
-        self.assertNotEqual(note.session.number, client.site)
-        written(note, "four ")
-        self.assert_comes_to(note, b"one two three four ")
-        self.assertEqual((note.notice, note.session.status().offline), (NEWER, None))
-        note.session.close()
-        with contextlib.closing(self.ann.disk()) as disk:
-            self.assertEqual({entry.hash for entry in later} - {place.hash for place in disk.entries.places()}, set())
-            self.assertEqual([one for one in disk.own.clients() if one.retired], [])
-            self.assertEqual((len(disk.entries.rows()), disk.entries.damaged), (disk.entries.size() - 1, 0))
-        run = self.note("note", "--print")
-        self.assertEqual((run.returncode, run.stdout), (3, "one two three four "))
-        self.assertEqual(run.stderr, f"note: {NEWER}\n")
 
     def test_a_server_that_goes_away_while_it_appends(self) -> None:
         server = self.redis()

@@ -247,7 +247,7 @@ class TypedByHand(Case):
                 self.assertEqual(disk.entries.damaged, 1)
 
     def test_what_is_left_out_is_passed_over(self) -> None:
-        # What a newer version keeps in another way, more than is read in one go.
+        # What a later version keeps in another way, more than is read in one go.
         author, path, holdings = Author(self.entries[0].author, b""), self.folder / "newer.note", Holdings(FORM, Handover())
         newer = [FORM._made(cast(Kind, 99), 9, 0, 0, NO_HASH, author, b"", bytes([number])) for number in range(PORTION)]
         entries = [*self.entries[:PORTION], *newer, *self.entries[PORTION:]]

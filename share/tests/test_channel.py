@@ -15,7 +15,7 @@ from unittest import mock
 
 from share.format import heartbeat, presence
 from share.format.entry import Plain
-from share.format.heartbeat import OF_BEFORE, Hears, Lack, Said, Way
+from share.format.heartbeat import Hears, Lack, Said, Way
 from share.format.presence import MOST_PRESENCE, Present
 from share.log.base import ON_SECONDS, START, InLog, Log, PresenceChannel, Unreachable
 from share.log.bell import Bell
@@ -435,15 +435,15 @@ class Simulated(unittest.TestCase):
         self.until(self.all_see_all, 2)
         self.air.loses = 0.7
         ann.meeting.ask(lambda: [LACK.hash])
-        self.until(lambda: LACK in bob.meeting._take_wanted()[0], 10 * SAY_ON_SECONDS)
+        self.until(lambda: LACK in bob.meeting._take_wanted(), 10 * SAY_ON_SECONDS)
         self.air.loses = 0.0
         # It is answered once; who still lacks it asks again, ever later, and nobody asks after that.
         for _ in range(3):
             self.pass_time(30)
-            self.assertEqual(bob.meeting._take_wanted()[0], [])
+            self.assertEqual(bob.meeting._take_wanted(), [])
             self.pass_time(MOST_ASK_SECONDS)
             ann.meeting.ask(lambda: [LACK.hash])
-            self.until(lambda: LACK in bob.meeting._take_wanted()[0], 2)
+            self.until(lambda: LACK in bob.meeting._take_wanted(), 2)
 
     def test_who_comes_asks_for_nothing_at_first(self) -> None:
         ann = self.somebody(1)
@@ -451,7 +451,7 @@ class Simulated(unittest.TestCase):
         bob = self.somebody(2)
         bob.meeting.ask(lambda: [LACK.hash])
         # The first that is heard under a token asks for nothing, so it is the second.
-        self.until(lambda: LACK in ann.meeting._take_wanted()[0], 1)
+        self.until(lambda: LACK in ann.meeting._take_wanted(), 1)
 
     def test_a_refused_channel(self) -> None:
         ann, bob = self.somebody(1), self.somebody(2)
@@ -493,25 +493,6 @@ class Simulated(unittest.TestCase):
         self.pass_time(ON_SECONDS + 2)
         self.assertGreater(self.pass_time(1)["meet"], 0)
         self.until(self.all_see_all, 2)
-
-    def test_a_version_of_before(self) -> None:
-        ann, bob = self.somebody(1), self.somebody(2)
-        self.until(self.all_see_all, 2)
-        old, log, form = heartbeat.new_token(), AirLog(self.air), Plain(bytes(16))
-        found, others, seen = ways.ByTable(log, form, count(1), Meeting(form, old, count(1), lambda: None)), set[bytes](), list[int]()
-        # As that version does it: it meets, and hears what the table has.
-        for _ in range(200):
-            self.pass_time(0.1)
-            if (said := found.turn(shows(old, 9), Hears.TABLE)) is not None:
-                others = {data[:16] for data in said if len(data) == OF_BEFORE.size}
-                seen = cursors(said)
-        self.assertEqual(others, {old, ann.token, bob.token})
-        self.assertEqual(seen, [1, 2, 9])
-        self.assertEqual((ann.meeting.on, ann.sees(), bob.sees()), (3, [2, 9], [1, 9]))
-        found.leave()
-        self.until(lambda: ann.meeting.on == bob.meeting.on == 2 and ann.sees() == [2], 3)
-        self.pass_time(2)
-        self.assertEqual((self.pass_time(60)["meet"], self.air.table), (0, {}))
 
     def test_what_is_older_is_nothing_whichever_way_it_comes(self) -> None:
         ann, bob, heard = self.somebody(1), self.somebody(2), AirChannel(self.air)
@@ -560,7 +541,7 @@ class Simulated(unittest.TestCase):
             for number in range(100):
                 said.say(heartbeat.heartbeat_of(Said(heartbeat.new_token(), number, number, [LACK])))
                 self.pass_time(0.1)
-        self.assertEqual((ann.meeting.on, ann.meeting._take_wanted()), (1, ([], False)))
+        self.assertEqual((ann.meeting.on, ann.meeting._take_wanted()), (1, []))
 
     def test_of_many_who_are_on_the_last_are_remembered(self) -> None:
         ann, said = self.somebody(1), AirChannel(self.air)

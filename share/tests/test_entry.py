@@ -1,13 +1,14 @@
 """Entries: their bytes both ways, damage of each bit of them, what is no entry, and how messages are parted."""
 import hashlib
 import random
+import re
 import unittest
 
-from share.format.chunk import MOST_CHUNK, chunk_begin, varint
-from share.format.entry import GREATEST_SITE, HEAD, LENGTH, MOST_BYTES, NO_HASH, Author, Bad, Copied, Entry, Kind, Plain
+from share.format.chunk import MOST_CHUNK, chunk_begin, varint, varints_in
+from share.format.entry import GREATEST_SITE, HEAD, MOST_BYTES, NO_HASH, Author, Bad, Copied, Entry, Kind, Plain
 from share.format.operation import LONGEST_MESSAGE, MOST_RANGES, Operation
 from share.tests import naive
-from share.tests.naive import CHANGE_LOOKS, DELETE, about, body_of, chunk_of, entry_of, in_entries, inserting, is_spelled
+from share.tests.naive import CHANGE_LOOKS, DELETE, about, chunk_of, entry_of, in_entries, inserting, is_spelled
 
 NOTE = bytes(range(100, 116))
 FORM = Plain(NOTE)
@@ -20,13 +21,13 @@ def closed(head: bytes, body: bytes) -> bytes:
     return head + body + hashlib.blake2b(head + body, digest_size=16).digest()
 
 
-def spelled(form: int = 1, kind: int = 2, note: bytes = NOTE, site: int = 7, first: int = 1, count: int | None = None,
+def spelled(form: int = 1, kind: int = 5, note: bytes = NOTE, site: int = 7, first: int = 1, count: int | None = None,
             before: bytes = b"b" * 32, author: bytes = ANNE.name, messages: tuple[Operation, ...] = (),
             body: bytes | None = None) -> bytes:
     """The bytes of an entry of these fields, whose digest is right."""
     head = b"".join([bytes([form, kind]), note, site.to_bytes(2, "big"), first.to_bytes(4, "big"),
                      (len(messages) if count is None else count).to_bytes(2, "big"), before, author])
-    return closed(head, body_of(messages) if body is None else body)
+    return closed(head, chunk_of(messages) or b"" if body is None else body)
 
 
 def typed(count: int, site: int = 7, first: int = 1, data: bytes = b"x") -> tuple[Operation, ...]:
@@ -49,6 +50,11 @@ def chunk(*messages: Operation, length: int = 0) -> bytes:
     return found
 
 
+def inserted_before(of: bytes) -> int:
+    """Return how many characters a site had inserted before a chunk, by the chunk's fourth field."""
+    return varints_in(re.findall(rb"[\x80-\xff]*[\x00-\x7f]", of[len(chunk_begin(1)) + 1:])[3])[0]
+
+
 def parts() -> list[tuple[Operation, ...]]:
     """What some entries have, one after the other."""
     return [typed(1), (*typed(2, first=2), about(DELETE, 7, 4, 9, [(1, 0, 3), (1, 5, 1)])),
@@ -62,24 +68,22 @@ def copies_body(old: bytes = ANNE.name + b"\0\7", new: bytes = BERTA.name + b"\0
 
 
 def samples() -> list[Entry]:
-    """Entries of each kind, one after another; the two before the last are as versions of before wrote them."""
+    """Entries of each kind, one after another."""
     entries = [FORM.claim(7, ANNE), FORM.claim(GREATEST_SITE, ANNE)]
     one, two, three = parts()
     # What is typed second begins where what was typed first does.
     first = entry_of(FORM, entries[0], one, ANNE)
     second = entry_of(FORM, first, two, ANNE, length=0)
     third = entry_of(FORM, second, three, ANNE, b"on" * 16, length=2)
-    old = FORM.open(spelled(before=entries[0].hash, messages=one))
-    older = FORM.open(spelled(kind=3, first=2, before=old.hash, count=3, body=b"on" * 16 + body_of(two)))
     copies = FORM.copies(COPIED, ANNE, 7, third.hash)
-    return [*entries, first, second, third, FORM.made_anew(third, ANNE), old, older, copies]
+    return [*entries, first, second, third, FORM.made_anew(third, ANNE), copies]
 
 
 class Spelling(unittest.TestCase):
     """An entry has one spelling, and what is spelled otherwise is none."""
 
     def test_the_bytes_are_those_of_the_table(self) -> None:
-        claim, _, first, second, third, anew, old, older, copies = samples()
+        claim, _, first, second, third, anew, copies = samples()
         one, two, three = parts()
         self.assertEqual(claim.raw, spelled(kind=1, first=0, before=NO_HASH))
         self.assertEqual(first.raw, spelled(kind=5, before=claim.hash, count=1, body=chunk(*one)))
@@ -88,8 +92,6 @@ class Spelling(unittest.TestCase):
                                             body=b"on" * 16 + chunk(*three, length=2)))
         self.assertEqual(anew.raw, spelled(kind=4, first=0, before=third.hash))
         self.assertEqual(copies.raw, spelled(kind=7, first=0, before=third.hash, body=copies_body()))
-        self.assertEqual(old.raw[74:76], len(naive.spelled(old.messages[0])).to_bytes(2, "big"))
-        self.assertEqual(older.raw[74:106], b"on" * 16)
         self.assertEqual(first.raw[74:89], b"OTC1\0\1\x0f\7\1\1\0x" + first.raw[86:89])
         self.assertEqual(first.hash, hashlib.blake2b(first.raw, digest_size=32).digest())
 
@@ -99,20 +101,10 @@ class Spelling(unittest.TestCase):
             self.assertEqual(FORM.reopened(entry.raw, FORM.body(entry.raw), entry.hash), entry)
         self.assertEqual([(entry.kind, entry.first, entry.last) for entry in samples()],
                          [(Kind.CLAIM, 0, 0), (Kind.CLAIM, 0, 0), (Kind.CHUNK, 1, 1), (Kind.CHUNK, 2, 4),
-                          (Kind.CHUNK_BUILDING, 5, 5), (Kind.ANEW, 0, 0), (Kind.MESSAGES, 1, 1), (Kind.BUILDING, 2, 4),
-                          (Kind.COPIES, 0, 0)])
-        self.assertEqual([entry.messages for entry in samples()], [(), (), *parts(), (), *parts()[:2], ()])
+                          (Kind.CHUNK_BUILDING, 5, 5), (Kind.ANEW, 0, 0), (Kind.COPIES, 0, 0)])
+        self.assertEqual([entry.messages for entry in samples()], [(), (), *parts(), (), ()])
         self.assertEqual(samples()[-1].copied, COPIED)
         self.assertEqual({entry.author for entry in samples()}, {ANNE.name})
-
-    def test_what_no_chunk_has_is_read_as_older_versions_wrote_it(self) -> None:
-        before = FORM.claim(7, ANNE)
-        for messages in ((*typed(1), inserting(7, 2, 1, None, 1, b"y")), (*typed(1), inserting(7, 2, 2, None, 5, b"y")),
-                         (*typed(1), *typed(1, first=3))):
-            self.assertIsNone(chunk_of(messages))
-            for on, kind in (b"", Kind.MESSAGES), (b"on" * 16, Kind.BUILDING):
-                entry = entry_of(FORM, before, messages, ANNE, on)
-                self.assertEqual((entry.kind, entry.messages), (kind, messages))
 
     def test_each_prefix_and_each_bit(self) -> None:
         for entry in samples():
@@ -218,24 +210,18 @@ class Wrong(unittest.TestCase):
     def test_messages_of_another_place(self) -> None:
         self.assert_bad("no messages", spelled())
         self.assert_bad("nothing before it", spelled(before=NO_HASH, messages=typed(1)))
-        two = typed(2)
-        for messages in typed(1, site=8), typed(1, first=2), (two[0], two[0]), (two[1], two[0]), (
-                two[0], *typed(1, first=3)):
+        for messages in typed(1, site=8), typed(1, first=2):
             self.assert_bad("another place", spelled(messages=messages))
 
     def test_bodies(self) -> None:
         two = typed(2)
-        for kind, body in (2, body_of(two)), (5, chunk(*two)):
-            self.assert_bad("no messages", spelled(kind=kind, body=body, count=0))
-            for count in 1, 3, 65_535:
-                self.assert_bad("as many messages", spelled(kind=kind, body=body, count=count))
-        for body in b"\0", body_of(two)[:-1], body_of(two) + b"\0", body_of(two) + b"\0\1":
-            self.assert_bad("cut short", spelled(body=body, count=2))
-        for body in b"", bytes(31), bytes(32) + body_of(two)[:-1]:
-            self.assert_bad("cut short", spelled(kind=3, body=body, count=2))
-        empty = body_of(two[:1]) + LENGTH.pack(0)
-        self.assert_bad("no message", spelled(body=empty, count=2))
-        self.assert_bad("no message", spelled(body=LENGTH.pack(20) + naive.spelled(two[0])[:20], count=1))
+        self.assert_bad("no messages", spelled(messages=two, count=0))
+        for count in 1, 3, 65_535:
+            self.assert_bad("as many messages", spelled(messages=two, count=count))
+
+    def test_kinds_that_only_unreleased_versions_wrote(self) -> None:
+        for kind in 2, 3:
+            self.assert_bad("made by an unreleased version", spelled(kind=kind, messages=typed(1)))
 
     def test_chunks(self) -> None:
         two = typed(2)
@@ -244,7 +230,7 @@ class Wrong(unittest.TestCase):
             self.assert_bad("cut short", spelled(kind=6, body=body, count=2))
         # Without its last three bytes it is the chunk of the first message.
         prefixes = [right[:end] for end in range(len(right)) if end != len(right) - 3]
-        for body in [*prefixes, right + b"\1", b"\0" + right, body_of(two)]:
+        for body in [*prefixes, right + b"\1", b"\0" + right, b"".join(map(naive.spelled, two))]:
             self.assert_bad("no chunk", spelled(kind=5, body=body, count=2))
         self.assert_bad("as many messages", spelled(kind=5, body=right[:-3], count=2))
         self.assert_bad("as many messages", spelled(kind=5, body=right + b"y", count=2))
@@ -280,7 +266,7 @@ class Wrong(unittest.TestCase):
             self.assertEqual(again, raw)
             if found.kind in (Kind.CHUNK, Kind.CHUNK_BUILDING):
                 # No other bytes are the chunk of these messages, but where the length stands that no insertion says.
-                length = found.operations[0].at or found.chunk[10]
+                length = found.operations[0].at or inserted_before(found.chunk)
                 self.assertIn(found.chunk, [chunk_of(found.messages, length), chunk_of(found.messages)])
             self.assertTrue(all(is_spelled(naive.spelled(one)) for one in found.messages))
             self.assertEqual([(one.site, one.seq) for one in found.messages],
@@ -320,18 +306,9 @@ class Sizes(unittest.TestCase):
 
     def test_no_entry_is_larger(self) -> None:
         room = MOST_BYTES - HEAD.size - 16 - 16
-        for more in 0, 1:
-            messages = [longest(1), inserting(7, 2, 2, None, 0, b"x" * 4_096)]
-            last = inserting(7, 3, 3, None, 4_096, b"x")
-            lacks = room + more - len(body_of([*messages, last]))
-            messages.append(inserting(7, 3, 3, None, 4_096, b"x" * (1 + lacks)))
-            raw = spelled(messages=tuple(messages))
-            self.assertEqual(len(raw), MOST_BYTES + more)
-            if more:
-                with self.assertRaisesRegex(Bad, "more than"):
-                    FORM.open(raw)
-            else:
-                self.assertEqual(FORM.open(raw).messages, tuple(messages))
+        FORM.open(spelled(kind=9, body=bytes(room)))
+        with self.assertRaisesRegex(Bad, "more than"):
+            FORM.open(spelled(kind=9, body=bytes(room + 1)))
 
     def test_at_random(self) -> None:
         chance = random.Random(5)

@@ -3,6 +3,7 @@ full disks between two steps, damaged files, and names that aren't what they are
 import argparse
 import contextlib
 import io
+import os
 import pathlib
 import shutil
 import subprocess
@@ -15,12 +16,11 @@ from share.admission.chains import rank
 from share.cli import reading
 from share.format.operation import MOST_INSERTED
 from share.log.folder import MOST_DISTURBED_SECONDS, held, inode_of
-from share.log.sqlite_file import WRITTEN_AHEAD, SqliteFile, beside
+from share.log.sqlite_file import WRITTEN_AHEAD, SqliteFile, beside, copied
 from share.program.site import Edited, Site, Told
 from share.store.entries import Entries
 from share.store.guarded import Unkept
 from share.store.note_file import Disk, make_note
-from share.store.old import copied
 from share.store.own import Anew, Client, Overtaken, OwnTables
 from share.store.read_only import found_in
 from share.sync.open_file import OpenFile
@@ -357,6 +357,28 @@ class Replaced(Case):
             text = person.text()
         replaces.join()
         self.assertEqual(text, b"words ")
+
+    def test_one_that_is_written_to_is_copied_again(self) -> None:
+        person, copies, copy = self.person(), 0, shutil.copyfile
+        note = self.opened(person)
+        written(note, "words ")
+        note.session.close()
+        path = person.path()
+
+        def written_meanwhile(source: str, target: str) -> None:
+            nonlocal copies
+            copies += 1
+            copy(source, target)
+            if copies < 4:
+                os.utime(source, ns=(1, copies))
+
+        with mock.patch("shutil.copyfile", written_meanwhile):
+            self.assertEqual(person.text(), b"words ")
+        self.assertGreaterEqual(copies, 4)
+        with (mock.patch("share.log.sqlite_file.COPY_TRIES", 2),
+              mock.patch("share.log.sqlite_file._sizes_and_times", side_effect=range(100))):
+            with self.assertRaisesRegex(Trouble, "is being written to"), copied(path):
+                pass
 
     def test_who_stopped_as_it_took_a_place_keeps_nobody_from_opening(self) -> None:
         note = self.opened(self.person())

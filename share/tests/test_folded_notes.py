@@ -208,7 +208,7 @@ class Faults(OfFolds):
         self.are_folded(4 * LEAST, self.ann, ann, bob)
         text = self.assert_meet(ann, bob)
         with contextlib.closing(self.ann.log()) as log:
-            # As one of a version of before does, which takes it for lost.
+            # As one does who hasn't read the fold, and takes it for lost.
             log.append(old)
         type_at_the_end(bob, "x")
         self.waits(ann, bob, until=lambda: bytes(ann.text) == text + b"x", what="what comes after it")

@@ -172,7 +172,7 @@ class History:
         self._followed.add(said.hash)
 
     def be_newer(self) -> None:
-        """A newer version writes what this one doesn't know, mostly as the last of a branch."""
+        """A later version writes what this one doesn't know, mostly as the last of a branch."""
         if (last := self._chance.choice([self._leaf, self._leaf, self._any])()) is not None:
             self._add(naive.newer(FORM, last, Author(last.author, b"")), self._ends[last.hash])
             self._followed.add(last.hash)
@@ -197,7 +197,7 @@ class History:
             return
         place = place or before
         author = author or Author(place.author, b"")
-        end, seq, messages = self._ends[place.hash], place.last + skipped, []
+        end, seq, messages, ends = self._ends[place.hash], place.last + skipped, [], []
         self._seen: dict[naive.Name, bytes] = {}
         count = self._chance.choice([1, 1, 2, 3])
         wrong = self._chance.randrange(count)
@@ -205,10 +205,13 @@ class History:
             seq += 1
             message, end = self._said(place.site, seq, end, fault if number == wrong else Fault())
             messages.append(message)
-        self._followed.add(before.hash)
-        if on is None:
-            on = naive.built_on(messages, self._seen) if self._chance.random() < 0.7 else b""
-        self._add(entry_of(FORM, before._replace(site=place.site), messages, author, on), end)
+            ends.append(end)
+        says_it, before = self._chance.random() < 0.7, before._replace(site=place.site)
+        for part in naive.in_chunks(messages):
+            self._followed.add(before.hash)
+            built_on = on if on is not None else naive.built_on(part, self._seen) if says_it else b""
+            before = entry_of(FORM, before, part, author, built_on)
+            self._add(before, ends[messages.index(part[-1])])
 
     def _said(self, site: int, seq: int, end: End, fault: Fault) -> tuple[Operation, End]:
         """A message of a branch, and what this comes to."""

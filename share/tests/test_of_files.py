@@ -89,7 +89,7 @@ class UpToDate(OfFiles):
         server.kill()
         # A new note of the server is made, and typed into, while that is away.
         said = self.run_as(ann, "append", "three", "typed away", "--new", "--log", server.url).stderr
-        self.assertIn("three is a new note", said)
+        self.assertIn("three.note, and not sent yet", said)
         for name in "one", "two":
             self.run_as(ann, "append", name, "typed away")
         found = self.listed(ann)
@@ -217,9 +217,6 @@ class Named(OfFiles):
         editor.close()
         # Who had the note open is gone once its engine has closed it.
         wait_for(lambda: not ann.path().with_name("note.note-wal").exists(), "the engine's end")
-        (ann.data / "logs").mkdir()
-        (ann.data / "logs" / "other.db").write_bytes(b"")
-        self.assertIn("a log of the form of before", self.run_as(ann, "delete", "other", "--yes", status=2).stderr)
         self.assertEqual(ann.text("other"), b"one two\r")
 
     def test_deleted(self) -> None:

@@ -1,17 +1,13 @@
-"""Notes are made, joined by their links, copied under new keys, taken from the form of before, and brought back from
-what is left of them."""
+"""Notes are made, joined by their links, copied under new keys, and brought back from what is left of them."""
 import contextlib
 import os
-import pathlib
 import pty
 import random
 import shutil
 import subprocess
-import tarfile
 import unittest
 from collections.abc import Callable
 
-from share.format.link import UNCHECKED, Link, read_link
 from share.format.second.key_link import link_of
 from share.store import notes
 from share.store.guarded import Unkept
@@ -23,7 +19,6 @@ from share.tests.support import NOTE, Case, Person, change, raws_of, type_at_the
 from share.tests.terminals import Answering
 from share.text.errors import Trouble
 
-FIXTURES = pathlib.Path(__file__).parent / "data" / "old_notes.tar.gz"
 INCOMPLETE = 3
 CTRL_Q = b"\x11"
 
@@ -124,9 +119,6 @@ class Links(Opening):
         self.addCleanup(other.close)
         right, wrong = ann.link(), link_of(ann.link())._replace(url=other.url).spelled()
         cut = link_of(right)._replace(url="redis://127.0.0.1:1")
-        if isinstance(cut, Link):
-            # Bob joined by a link of before that was cut: its checksum is of the secret alone.
-            cut = read_link(cut.spelled(UNCHECKED))
         with bob.here(), contextlib.closing(notes.open_note("note", None, cut)):
             pass
         words = "append", "note", "two ", "--link-file", str(file)
@@ -149,7 +141,7 @@ class Links(Opening):
         (self.folder / "password").write_text("open sesame\n")
         ann = self.person("ann")
         with ann.here():
-            note = Note(Session(notes.open_note("note", server.url, None, "open sesame"), "open sesame"))
+            note = Note(Session(notes.open_note("note", server.url, None), "open sesame"))
         written(note, "one ")
         note.session.close()
         bob, link = self.person("bob"), ann.link()
@@ -261,80 +253,6 @@ class Renewed(Opening):
         self.assert_ends(run, "note is a new note", status=INCOMPLETE)
         self.assertIn("An entry of the file isn't spelled as one", run.stderr)
         self.assertIn("1 message lacks", run.stderr)
-
-
-class Before(Opening):
-    """Notes of the form of before."""
-
-    def setUp(self) -> None:
-        super().setUp()
-        with tarfile.open(FIXTURES) as archive:
-            archive.extractall(self.folder)
-        self.ann = self.person("data")
-        self.old_files = self.files()
-
-    def files(self) -> dict[str, bytes]:
-        """The files of the form of before."""
-        return {str(path): path.read_bytes() for part in ("logs", "journals")
-                for path in (self.folder / "data" / part).rglob("*") if path.is_file()}
-
-    def server(self) -> RedisServer:
-        """A server with a note of the form of before."""
-        server = RedisServer(self.folder / "redis")
-        self.addCleanup(server.close)
-        subprocess.run(["redis-cli", "-p", str(server.port), "--pipe"], check=True, capture_output=True,
-                       input=(self.folder / "server.aof").read_bytes())
-        return server
-
-    def test_the_first_opening_copies_and_tells(self) -> None:
-        printed = self.run_as(self.ann, "diary", "--print")
-        self.assert_ends(printed, status=INCOMPLETE)
-        self.assertIn("3.left has 2 edits that others never had", printed.stderr)
-        self.assertFalse((self.folder / "data" / "notes").exists())
-        told: list[str] = []
-        with self.ann.here():
-            session = Session(notes.open_note("diary", None, None, None, told.append))
-        self.addCleanup(session.close)
-        self.assertEqual(session.text().replace(b"\r", b"\n").decode(), printed.stdout)
-        self.assertRegex(" ".join(told), "3.left has 2 edits")
-        note = Note(session)
-        written(note, "and more")
-        self.assertTrue(self.ann.text("diary").endswith(b"and more"))
-        self.assertEqual(self.files(), self.old_files)
-        with contextlib.closing(notes.open_note("diary", None, None)) as disk:
-            self.assertEqual(disk.about.url, "")
-
-    def test_renewed_at_once(self) -> None:
-        run = self.run_as(self.ann, "renew", "diary", "--log", self.file_log())
-        self.assert_ends(run, "which is left as it is", status=INCOMPLETE)
-        self.assertIn("3.left has 2 edits", run.stderr)
-        self.assertTrue(self.ann.link("diary").startswith(link_begin("p")))
-        self.assertEqual(self.files(), self.old_files)
-
-    def test_on_a_server_it_is_read_only_until_it_was_copied(self) -> None:
-        server = self.server()
-        stranger = self.person("stranger")
-        with stranger.here(), self.assertRaisesRegex(Trouble, "is read only.*bin/note renew diary --log"):
-            notes.open_note("diary", server.url, None)
-        digest = server.cli("DEBUG", "DIGEST")
-        printed = self.run_as(stranger, "diary", "--print", "--log", server.url)
-        self.assertTrue(printed.stdout)
-        self.assertEqual(server.cli("DEBUG", "DIGEST"), digest)
-        self.assert_ends(self.run_as(self.ann, "renew", "diary", "--log", server.url), "which is left as it is")
-        self.assertTrue(self.ann.link("diary").startswith(link_begin("s")))
-        # What was never sent is there, too.
-        self.assertGreaterEqual(len(self.ann.text("diary")), len(printed.stdout.encode()))
-        note = self.opened(self.ann, "diary")
-        bob = self.opened(self.person("bob"), "diary", link=self.ann.link("diary"))
-        written(note, "and more")
-        self.assertTrue(self.assert_meet(note, bob).endswith(b"and more"))
-        self.assertEqual(self.files(), self.old_files)
-
-    def test_a_server_that_is_away(self) -> None:
-        run = self.run_as(self.person("stranger"), "diary", "--print", "--log", "redis://127.0.0.1:1")
-        self.assert_says(run, "Connection refused", "in the form of before can't be seen")
-        run = self.run_as(self.person("stranger"), "renew", "diary", "--log", "redis://127.0.0.1:1")
-        self.assert_says(run, "Connection refused")
 
 
 class Recovered(Opening):

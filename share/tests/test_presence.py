@@ -11,7 +11,7 @@ from unittest import mock
 
 from share.engine.others import OtherEditors
 from share.format import heartbeat, presence
-from share.format.heartbeat import OF_BEFORE, Lack, Said, Way
+from share.format.heartbeat import Lack, Said, Way
 from share.format.operation import TEXT
 from share.format.presence import MOST_PRESENCE, Present
 from share.format.sealed import NONCE_BYTES, TAG_BYTES
@@ -48,12 +48,25 @@ class Words(unittest.TestCase):
         many = heartbeat.heartbeat_of(one._replace(lacks=[LACK] * 20))
         self.assertEqual(len(many), len(heartbeat.heartbeat_of(one)))
         self.assertEqual(len(many) + NONCE_BYTES + TAG_BYTES, MOST_PRESENCE)
-        # Versions of before pass it over: it isn't their own word, nor a cursor.
-        self.assertNotEqual(len(many), OF_BEFORE.size)
+        # It isn't taken for a cursor.
         self.assertIsNone(presence.read_presence(many))
         for wrong in b"", many[1:], many + b"\0":
             self.assertIsNone(heartbeat.read_heartbeat(wrong))
-        self.assertEqual(heartbeat.read_heartbeat(bytes([255]) * heartbeat.BYTES), Said(b"\xff" * 16, 2**32 - 1, 2**32 - 1, []))
+        self.assertEqual(heartbeat.read_heartbeat(OTHER + bytes([255]) * (heartbeat.BYTES - 16)), Said(OTHER, 2**32 - 1, 2**32 - 1, []))
+
+    def test_what_a_later_version_says_is_passed_over(self) -> None:
+        others, shows, beat = Others(ME), Shows(ME), said(3, 2, LACK)
+        cursor = presence.presence_of(Present(OTHER, bytes(16), 7, "#000000", (0, 0), None, "Bo"))
+        for version in 1, 2, 2**32 - 1:
+            later = version.to_bytes(4, "big")
+            others.heard([beat[:8] + later + beat[12:]])
+            self.assertEqual(others.met([beat[:8] + later + beat[12:]]), [])
+            for hears in shows.heard, shows.met:
+                hears([cursor[:8] + later + cursor[12:]])
+        self.assertEqual((others.on, shows.now(lambda token: True)), (1, []))
+        self.assertEqual(others.met([beat]), [])
+        shows.met([presence.with_count(cursor, 1)])
+        self.assertEqual((others.on, shows.now(lambda token: False)), (2, [cursor]))
 
     def test_only_what_is_greater_is_heard(self) -> None:
         voices = Voices()
@@ -68,12 +81,12 @@ class Words(unittest.TestCase):
 
     def test_asks_are_heard_once(self) -> None:
         others = Others(ME)
-        self.assertEqual(others.met([said(3, 2, LACK)]), ([], False))
-        self.assertEqual(others.met([said(4, 2, LACK), said(1, 1, token=ME)]), ([], False))
-        self.assertEqual(others.met([said(5, 3, LACK), said(3, 2, LACK)]), ([LACK], False))
+        self.assertEqual(others.met([said(3, 2, LACK)]), [])
+        self.assertEqual(others.met([said(4, 2, LACK), said(1, 1, token=ME)]), [])
+        self.assertEqual(others.met([said(5, 3, LACK), said(3, 2, LACK)]), [LACK])
         repeated: list[list[bytes]] = [[said(5, 3, LACK)], [said(3, 2, LACK)], [], [said(4, 4, LACK)], [said(5, 3, LACK)] * 3]
         for again in repeated:
-            self.assertEqual(others.met(again), ([], False))
+            self.assertEqual(others.met(again), [])
 
     def test_who_says_nothing_new_is_off(self) -> None:
         others, now = Others(ME), time.monotonic()
@@ -86,16 +99,7 @@ class Words(unittest.TestCase):
             others.met([said(4, 0)])
             self.assertEqual(others.on, 2)
 
-    def test_versions_of_before(self) -> None:
-        others, old = Others(ME), secrets.token_bytes(16)
-        self.assertEqual(others.met([OF_BEFORE.pack(old, 4), OF_BEFORE.pack(OTHER, 4), said(1, 4)]), ([], False))
-        self.assertEqual(others.on, 3)
-        # What this version says for theirs isn't heard here.
-        self.assertEqual(others.met([OF_BEFORE.pack(old, 4), OF_BEFORE.pack(OTHER, 5)]), ([], False))
-        self.assertEqual(others.met([OF_BEFORE.pack(old, 5), OF_BEFORE.pack(old, 4)]), ([], True))
-        self.assertEqual(others.met([OF_BEFORE.pack(old, 4)]), ([], False))
-
-    def test_cursors_of_before(self) -> None:
+    def test_cursors_of_before_are_nothing(self) -> None:
         shows, editor = Shows(ME), secrets.token_bytes(16)
 
         def met(said: list[bytes]) -> list[bytes]:
@@ -113,9 +117,6 @@ class Words(unittest.TestCase):
         self.assertEqual(met([presence.with_count(one, 3)]), [one])
         own = presence.presence_of(Present(ME, editor, 7, "#000000", None, None, ""))
         self.assertEqual(met([presence.with_count(own, 9), b"", bytes(49), bytes(211)]), [])
-        # A version of before has a token that doesn't end so, and no count.
-        older = one[:8] + bytes(range(1, 9)) + one[16:]
-        self.assertEqual([met([older]), met([]), met([older])], [[older], [], [older]])
         self.assertEqual(present(presence.with_count(one, 2**32 - 1))._replace(engine=OTHER), presence.read_presence(one))
 
 
@@ -155,26 +156,16 @@ class OnAServer(Case):
                 wait_for(lambda called=called, least=least: len(called) > least, "Ann to hear")
 
     def test_what_was_said_before_has_nobody_read_the_log(self) -> None:
-        replicator, token = self.ann.session._replicator, secrets.token_bytes(16)
-        before = replicator.reading()
-        raw = self.form.presence(OF_BEFORE.pack(token, 3))
+        replicator = self.ann.session._replicator
+        token, before = heartbeat.new_token(), replicator.reading()
+        raw = self.form.presence(said(1, 3, LACK, token=token))
         for under in b"x", b"y":
             self.puts(under, raw)
             wait_for(lambda: replicator.on == 2, "it to be heard")
             self.hears()
             self.takes(under)
-            wait_for(lambda: replicator.on == 1, "it to be heard")
+            wait_for(lambda: replicator.on == 1, "it to be gone")
         self.assertEqual(replicator.reading(), before)
-
-    def test_versions_of_before_have_the_log_read_once(self) -> None:
-        replicator, token = self.ann.session._replicator, secrets.token_bytes(16)
-        before = replicator.reading()
-        for asks in range(4):
-            self.puts(b"x", self.form.presence(OF_BEFORE.pack(token, asks)))
-            self.hears(times=2)
-        wait_for(lambda: replicator.reading() > before, "the log to be read")
-        self.hears()
-        self.assertEqual(replicator.reading(), before + 1)
 
     def test_what_is_asked_for_is_given_alone(self) -> None:
         replicator, append, given = self.ann.session._replicator, RedisLog.append, list[list[bytes]]()

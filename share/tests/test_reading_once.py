@@ -13,7 +13,7 @@ from share.format import chunk as chunks
 from share.format import entry as entries
 from share.format.second.key_link import link_of
 from share.format.chunk import unpacked
-from share.format.entry import Author, Entry, Kind, Plain
+from share.format.entry import Author, Entry, Plain
 from share.format.operation import DELETE, Operation
 from share.program.process import Program
 from share.program.site import Site
@@ -22,7 +22,6 @@ from share.store.entries import Entries
 from share.sync.replicator import Watch
 from share.sync.session import Session
 from share.sync.state import Holdings
-from share.tests import naive
 from share.tests.editors import Engines
 from share.tests.forms import is_second_form
 from share.tests.naive import about, chunk_of, entry_of, inserting
@@ -289,22 +288,6 @@ class HandedIn(Case):
             self.assertEqual(self.handed(counts), [chunk_of(letters[begin:end])])
             self.assertEqual(counts.read, 0)
         self.assertEqual(self.site.text(), b"abcdefghbefore ")
-
-    def test_entries_of_the_older_kinds(self) -> None:
-        operations = [inserting(7, 1, 1, None, 0, b"ab"), about(DELETE, 7, 2, 2, [(7, 0, 1)]), inserting(7, 3, 3, (7, 1), 2, b"c")]
-        for kind, on in (Kind.MESSAGES, b""), (Kind.BUILDING, bytes(32)):
-            old = FORM._made(kind, 7, 1, 3, self.claim.hash, self.author, on, naive.body_of(operations))
-            entry = FORM.open(old.raw)
-            self.assertEqual((entry.kind, entry.messages), (kind, tuple(operations)))
-        for told in True, False:
-            site = Site(2)
-            self.addCleanup(site.close)
-            old = FORM.open(FORM._made(Kind.MESSAGES, 7, 1, 3, self.claim.hash, self.author, b"", naive.body_of(operations)).raw)
-            messages = Judge([self.claim, old]).count().messages
-            with Counts().counting() as counts:
-                site.take(messages, looks=told)
-            self.assertEqual(self.handed(counts), [chunk_of(operations)])
-            self.assertEqual(site.text(), b"bc")
 
     def test_much_is_handed_in_with_few_events(self) -> None:
         made, last = [], self.claim

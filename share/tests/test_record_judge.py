@@ -624,7 +624,7 @@ class Costs(unittest.TestCase):
         self.assert_no_dearer(newer[:200], newer)
 
     def newer(self, raw: bytes, number: int) -> bytes:
-        """What a newer version wrote."""
+        """What a later version wrote."""
         return self.form._unsigned(raw[:1] + bytes([99]) + raw[2:self.form.head_bytes], number.to_bytes(9, "big"))
 
     def test_a_base_that_is_linked_late_takes_as_long_as_it_is_whatever_the_order(self) -> None:

@@ -28,7 +28,7 @@ from share.format.second import claim, signature
 from share.format.second.append import challenged, may_append
 from share.format.second.claim import found_among, number_of_rank, rank_of
 from share.format.second.form import PlainRecords, RecordForm, SealedRecords
-from share.format.second.key_link import KeyLink, read_key_link
+from share.format.second.key_link import KeyLink, link_of, read_key_link
 from share.format.second.keys import Founding, NoteKeys, derived, key_of_founding, new_founding
 from share.format.second.record import RECORD_HEAD, RECORD_KINDS, Record, RecordKind
 from share.tests import naive_second as second
@@ -565,13 +565,15 @@ class Links(unittest.TestCase):
                     with self.assertRaises(Trouble, msg=wrong):
                         read_key_link(wrong)
 
-    def test_versions_of_the_first_form_refuse_it_in_words(self) -> None:
-        for text in [one.spelled() for one in self.LINKS] + [self.LINKS[3].page()]:
-            with self.assertRaisesRegex(Trouble, "of a newer version of Vialshoal, which its note needs"):
-                link.read_link(text)
-        # And a link of the first form is none of the second.
+    def test_a_link_of_the_first_form_is_none_of_the_second(self) -> None:
         with self.assertRaisesRegex(Trouble, "begins with vialshoal:2:"):
             read_key_link(link.Link("sealed", bytes(32), "redis://h:1").spelled())
+
+    def test_a_link_of_a_later_form_is_refused_in_words(self) -> None:
+        for text in [one.spelled() for one in self.LINKS] + [self.LINKS[3].page()]:
+            for number in "2.1", "3", "13":
+                with self.assertRaisesRegex(Trouble, "made by a later version of vialshoal"):
+                    link_of(text.replace("vialshoal:2", f"vialshoal:{number}", 1))
 
     def test_urls_have_one_spelling(self) -> None:
         for url in ("https://Notes.example", "https://h:443", "https://h:0", "https://h:65536", "https://h:07", "https://h/", "https://u@h",

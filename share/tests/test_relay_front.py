@@ -443,12 +443,12 @@ class Disks(Front):
         again = self.at(link, ALL_SENT)
         self.entries(again, 1)
 
-    def test_one_of_a_newer_version_is_told(self) -> None:
+    def test_one_of_a_later_version_is_told(self) -> None:
         window = self.at()
         window.run(NEWER_VERSION)
         window.wait_for("document.title === 'newer'")
-        window.wait_for(f"{WORDS}.includes('newer version')")
-        self.at("", f"{WORDS}.includes('newer version')")
+        window.wait_for(f"{WORDS}.includes('made by a later version')")
+        self.at("", f"{WORDS}.includes('made by a later version')")
 
     def test_a_saved_log_is_read_again(self) -> None:
         window = self.at()

@@ -14,7 +14,6 @@ from contextlib import closing
 from typing import Any
 from unittest import mock
 
-from share.format.heartbeat import OF_BEFORE
 from share.format.second.key_link import link_of
 from share.log.base import READ_AT_ONCE, START, InLog, LogLost, Unreachable
 from share.log.bell import Bell
@@ -81,7 +80,7 @@ class Operators(Relayed, test_security.Operators):
         token, key = note.session._replicator.token, self.about.secret
         with closing(self.ann.disk()) as disk:
             secrets = [one.author.secret[:32] for one in disk.own.clients()]
-        unseen = [b"marzipan", b"marz", b"gooseberry", b"one ", b"OT\1", token, OF_BEFORE.pack(token, 0), key, key.hex().encode(),
+        unseen = [b"marzipan", b"marz", b"gooseberry", b"one ", b"OT\1", token, key, key.hex().encode(),
                   base64.urlsafe_b64encode(key)[:20], self.form.keys.append, self.form.keys.seal, *secrets]  # type: ignore[attr-defined]
         for one in unseen:
             for data in [sent, *kept, *map(str.encode, self.server.relay.said)]:

@@ -199,7 +199,7 @@ class Threads(ReviewCase):
             self.assertIn("which?", self.note("export", "note", "-", *words, "--link-file", str(self.folder / "link")))
         with mock.patch.dict(os.environ, VIALSHOAL_DATA=str(self.folder / "data")):
             self.assertFalse(notes.is_here("note"))
-            notes.open_note("note", None, link_of(link.strip()), None).close()
+            notes.open_note("note", None, link_of(link.strip())).close()
             self.assertEqual([(one["line"], one["name"], one.get("own"), one["body"]) for one in self.remarks()],
                              [(2, "Bob", None, "which?")])
             self.assertEqual(read_only.own_sites(notes.path_of("note")), set())

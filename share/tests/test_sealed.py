@@ -15,7 +15,7 @@ from share.format.operation import DELETE, Operation
 from share.format.presence import MOST_PRESENCE
 from share.format.sealed import KEY_BYTES, SIGNATURE_BYTES, Sealed, identity_of, new_key
 from share.tests.naive import about, entry_of, in_entries, spelled
-from share.text.errors import Trouble
+from share.text.errors import Gone, Trouble
 
 KEY = bytes(range(KEY_BYTES))
 
@@ -198,9 +198,6 @@ class Links(unittest.TestCase):
             self.assertEqual(link.read_link(f" \n{one.spelled()}\r\n"), one)
 
     def test_the_spelling_lasts(self) -> None:
-        before = "vialshoal:1:s:AAECAwQFBgcICQoLDA0ODxAREhMUFRYXGBkaGxwdHh_9wj7X@redis://127.0.0.1:7000"
-        self.assertEqual(self.sealed.spelled(link.UNCHECKED), before)
-        self.assertEqual(link.read_link(before), self.sealed)
         self.assertEqual(self.sealed.spelled(),
                          "vialshoal:1.1:s:AAECAwQFBgcICQoLDA0ODxAREhMUFRYXGBkaGxwdHh9dlOS5@redis://127.0.0.1:7000")
 
@@ -219,8 +216,13 @@ class Links(unittest.TestCase):
 
     def test_a_link_of_a_later_form_is_refused_in_words(self) -> None:
         for number in "1.2", "2", "2.1", "13":
-            with self.assertRaisesRegex(Trouble, "of a newer version"):
+            with self.assertRaisesRegex(Trouble, "made by a later version of vialshoal"):
                 link.read_link(self.sealed.spelled().replace("1.1", number, 1))
+
+    def test_a_link_of_an_unreleased_version_is_refused_in_words(self) -> None:
+        # Its checksum is of the secret alone.
+        with self.assertRaisesRegex(Gone, "^This note was made by an unreleased version of vialshoal and can't be opened.$"):
+            link.read_link("vialshoal:1:s:AAECAwQFBgcICQoLDA0ODxAREhMUFRYXGBkaGxwdHh_9wj7X@redis://127.0.0.1:7000")
 
     def test_what_is_no_link_is_refused(self) -> None:
         text = self.sealed.spelled()

@@ -16,14 +16,12 @@ from cryptography.hazmat.primitives.ciphers.aead import AESGCM
 from hypothesis import HealthCheck, given, settings
 from hypothesis import strategies as st
 
-from share.format.link import read_link as read_first_link
 from share.tests import naive_second as second
 from share.tests.naive_chunks import DELETE, Message, NoChunk, chunk_of, inserting, messages_of, spelled
 from share.tests.naive_second import (FIELD, HEAD, LEAP, NONCE, PLAIN, SEALED, SIGNATURE, ZEROS, Answer, Author, Bad, Copied, Founding,
                                       Head, Kind, Note, Place, Saying, Why, closed, judged, opened, opening, rank, searched, written)
 from share.tests.naive_told import incomplete, told
 from share.tests.second_sets import COPIED, STEPS, ZERO_BITS, Branch, Set, authors, base_messages, counters, cut, made
-from share.text.errors import Trouble
 
 VECTORS = pathlib.Path(__file__).parent / "data" / "second_form.json"
 SEEDS = st.integers(0, 2**16 - 1)
@@ -140,11 +138,9 @@ class Vectors(unittest.TestCase):
             self.assertEqual(second.read_link(one["link"]), (one["form"], bytes.fromhex(one["key"]), one["url"]))
             self.assertEqual(second.link_of(bytes.fromhex(one["key"]), one["url"], one["form"]), one["link"])
 
-    def test_a_link_with_a_mistake_is_refused_and_versions_of_before_refuse_all_in_words(self) -> None:
+    def test_a_link_with_a_mistake_is_refused(self) -> None:
         for said in self.all["links"]:
             link = said["link"]
-            with self.assertRaisesRegex(Trouble, "newer version"):
-                read_first_link(link)
             for at in range(len("vialshoal:2:"), len(link)):
                 for other in "A", "p", "s", "":
                     if link[at] != other:

@@ -3,7 +3,6 @@ import contextlib
 import itertools
 import os
 import signal
-import sqlite3
 import statistics
 import subprocess
 import unittest
@@ -16,10 +15,9 @@ from share.cli import verbs
 from share.cli.words import parsed
 from share.editors.client import GET_NUMBER_SECONDS, NOT_READ_YET, ScriptNote, note_for_script
 from share.engine.arrivals import NO_NUMBER
-from share.format.link import NEWER_LINK, read_link
 from share.format.second.claim import ZERO_BITS
 from share.format.second.form import PlainRecords
-from share.format.second.key_link import KeyLink, link_of, read_key_link
+from share.format.second.key_link import KeyLink, link_of
 from share.log.opening import open_log
 from share.log.polling import can_read
 from share.program.site import Site
@@ -27,7 +25,7 @@ from share.store import notes, read_only
 from share.store.entries import Entries
 from share.store.founding import begun
 from share.store.guarded import Unkept
-from share.store.note_file import FIRST, NOTE_APPLICATIONS, SECOND, make_note
+from share.store.note_file import FIRST, SECOND, make_note
 from share.store.own import OwnTables
 from share.store.read_only import found_in
 from share.sync import number_search
@@ -350,17 +348,6 @@ class SecondForm(OfSecondForm):
             note.session.close()
         notes = [self.opened_to_type(person) for person in people]
         wait_for(lambda: (self.assert_meet(*notes), {*map(self.margin_of, people)})[1] == {"a remark"}, "it to be there once")
-
-    def test_a_version_of_before_refuses_it_in_words(self) -> None:
-        self.both(self.file_log())
-        link = self.ann.link()
-        self.assertTrue(NEWER_LINK.fullmatch(link))
-        with self.assertRaisesRegex(Trouble, "newer version"):
-            read_link(link)
-        self.assertEqual(read_key_link(link).spelled(), link)
-        # Its file isn't one of those that it knows, so nothing in it is taken for damaged.
-        with contextlib.closing(sqlite3.connect(self.ann.path())) as file:
-            self.assertEqual(file.execute("PRAGMA application_id").fetchone()[0], NOTE_APPLICATIONS[SECOND])
 
     def spares(self, person: Person) -> int:
         """How many numbers somebody can type under beside that of an editor."""

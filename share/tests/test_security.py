@@ -20,7 +20,6 @@ from unittest import mock
 from share.admission.chain import last_of_others
 from share.admission.record_judge import RecordJudge
 from share.format.entry import GREATEST_SITE, MOST_BYTES, Author, BuiltOn, Entry, Form
-from share.format.heartbeat import OF_BEFORE
 from share.format.link import Link
 from share.format.operation import DELETE, Operation
 from share.format.second.key_link import link_of
@@ -204,7 +203,7 @@ class Operators(Shared):
         with contextlib.closing(self.ann.disk()) as disk:
             secrets = [one.author.secret[:32] for one in disk.own.clients()]
         unseen = [b"marzipan", b"marz", b"gooseberry", b"one ", b"OT\1", token + bytes(4), token + bytes(3),
-                  OF_BEFORE.pack(token, 0), key, key.hex().encode(), base64.urlsafe_b64encode(key)[:20], *secrets]
+                  key, key.hex().encode(), base64.urlsafe_b64encode(key)[:20], *secrets]
         for one in unseen:
             for data in seen:
                 self.assertFalse(one in data, one)

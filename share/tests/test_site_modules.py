@@ -406,10 +406,11 @@ class BesidePython(Modules):
     def test_links_that_no_page_opens(self) -> None:
         old = "vialshoal:1.1:s:AAAAAAAAAAAAAAAAAAAAAAAAAAAAAAAAAAAAAAAAAAAA@redis://127.0.0.1:7000"
         for given, words in ((old, "first form.*renew"), (f"https://h/#{old}", "first form.*renew"),
-                             (old.replace("1.1", "1"), "first form.*renew"),
+                             (old.replace("1.1", "1"), "made by an unreleased version of vialshoal"),
                              (KeyLink("plain", bytes(32), "/srv/x.log").spelled(), "isn't sealed.*renew"),
                              (KeyLink("sealed", bytes(32), "redis://h:7").spelled(), "no browser reaches.*renew"),
-                             ("vialshoal:3:s:x@https://h", "newer version"), ("hello", "isn't a note's link"), ("", "isn't a note's link"),
+                             ("vialshoal:3:s:x@https://h", "made by a later version of vialshoal"),
+                             ("hello", "isn't a note's link"), ("", "isn't a note's link"),
                              ("https://notes.example/", "isn't a note's link"), ("vialshoal:2:s:abc", "cut short")):
             self.assertRegex(self.asked("readLink", given=given, relay="https://notes.example")["why"], words)
 

@@ -72,7 +72,7 @@ class ByTurns(Case):
                 one.ask(judge.missing)
                 other.heard([self.present(form, one.heartbeat(Hears.CHANNEL))])
                 other.find(holdings.found)
-                for place in other.answers(disk)[0]:
+                for place in other.answers(disk):
                     row = disk.entries.row_at(place)
                     assert row
                     judge.add(row.entry)

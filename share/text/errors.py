@@ -25,12 +25,26 @@ NOT_BEGUN = "This note's text isn't in its log yet. It comes, and can be edited,
 BEGIN_LOST = ("Something that this note began with is lost, so nothing of it can be shown or edited. bin/note recover FOLDER takes it from "
               "another copy of the note's file.")
 BEGUN = "This note's text is here now."
+# A note, a link or an entry of a form that only unreleased versions wrote.
+GONE_FORM = "This note was made by an unreleased version of vialshoal and can't be opened."
 # Entries of kinds that this version doesn't know.
-NEWER = "A newer version of Vialshoal wrote something in this note that isn't shown here."
+NEWER = "Something in this note was made by a later version of vialshoal. It is kept, and isn't shown here."
 
 
 class Trouble(Exception):
     """What a user is told where the note has to be closed: what happened, and what to do."""
+
+
+class Gone(Trouble):
+    """A note, a link or an entry has a form that only unreleased versions wrote. Nothing was changed."""
+
+    def __init__(self) -> None:
+        super().__init__(GONE_FORM)
+
+
+def later(what: str) -> Trouble:
+    """Return the error for a file that only a later version reads."""
+    return Trouble(f"{what} was made by a later version of vialshoal. Nothing was changed; open it with that version.")
 
 
 class Refused(Exception):

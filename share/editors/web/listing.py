@@ -3,7 +3,7 @@ import contextlib
 import time
 
 from share.store import notes, read_only
-from share.text.errors import Trouble
+from share.text.errors import Gone, Trouble
 from share.text.line import Line
 from share.text.rope import swapped
 
@@ -13,7 +13,9 @@ TEXTS_SECONDS, MOST_LISTED, MOST_LINE_SHOWN = 20, 500, 120
 
 def is_listed(name: str) -> bool:
     """Whether there is a note of this name."""
-    return notes.is_name(name) and notes.is_here(name)
+    with contextlib.suppress(Gone):
+        return notes.is_name(name) and notes.is_here(name)
+    return False
 
 
 def search_notes(words: str) -> list[Line]:

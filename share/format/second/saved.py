@@ -1,13 +1,15 @@
 """A note as one file, as a relay's page saves it and bin/note writes it: its link, by which whoever has the file reads and writes, and its
 entries as a log has them, each after its length."""
+import re
 from collections.abc import Iterable
 from typing import NamedTuple
 
 from share.format.second.key_link import KeyLink, read_key_link
-from share.text.errors import Trouble
+from share.text.errors import Trouble, later
 
 SAVED_SUFFIX = ".vialshoal-note"
 BEGIN, AFTER_LINK, MOST_LINK = b"vialshoal note 2\n", b"\n", 1_000
+OF_A_LATER_VERSION = re.compile(rb"vialshoal note ([3-9]|[1-9][0-9]+)\n")
 LENGTH_BYTES = 4
 CUT_SHORT = "That file was cut short"
 
@@ -27,6 +29,8 @@ def saved_note(link: KeyLink, raws: Iterable[bytes]) -> bytes:
 
 def read_saved_note(data: bytes) -> SavedNote:
     """What a file has; Trouble where it is none of a note, or of none that can be read."""
+    if OF_A_LATER_VERSION.match(data):
+        raise later("That file")
     spelled, after, _ = data.removeprefix(BEGIN)[:MOST_LINK].partition(AFTER_LINK)
     if not data.startswith(BEGIN) or not after or not spelled.isascii():
         raise Trouble(f"{CUT_SHORT}, or isn't a note's.")

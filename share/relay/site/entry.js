@@ -55,7 +55,7 @@ export function headOf(raw) {
  * @param {Head} head */
 export const counterOf = ({ before }) => new DataView(before.buffer, before.byteOffset + 24).getBigUint64(0);
 
-/** What bytes say that are an entry of the note; a Bad where they are none. Of an unknown kind it is a newer version's.
+/** What bytes say that are an entry of the note; a Bad where they are none. Of an unknown kind it is a later version's.
  * @param {NoteKeys} keys @param {Uint8Array} raw @param {number} zeroBits @returns {Promise<Entry>} */
 export async function opened(keys, raw, zeroBits = ZERO_BITS) {
   refuse(raw.length < LEAST_BYTES || raw.length > MOST_BYTES || raw[0] !== SEALED, "isn't spelled as one");

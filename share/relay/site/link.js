@@ -7,6 +7,7 @@ const SECRET = "[A-Za-z0-9_-]{48}";
 const ADDRESS = new RegExp(`^(https?://[^/#@?]+)/(?:\\?[^#]*)?#(.*)$`);
 const SPELLED = new RegExp(`^vialshoal:2:s:(${SECRET})(?:@(.+))?$`);
 const RENEW = "Whoever has the note runs bin/note renew NAME --form 2 --log";
+const LATER = "That link was made by a later version of vialshoal. Reload this page, or ask its relay for it.";
 const MISTAKEN = "That link has a mistake in it, or was cut short. Copy it whole, in one line.";
 
 /** @param {Uint8Array} key @param {string} url */
@@ -43,9 +44,10 @@ export async function readLink(given, relay) {
 /** @param {string} spelled @param {string} relay */
 function refuseOthers(spelled, relay) {
   const [, version, form] = /^vialshoal:([0-9.]+):(\w?)/.exec(spelled) ?? [];
-  if (/^1(\.1)?$/.test(version)) {
+  if (version === "1") throw new Trouble("This note was made by an unreleased version of vialshoal and can't be opened.");
+  if (version === "1.1") {
     throw new Trouble(`That note is of the first form, which no page reads. ${RENEW} ${relay}`);
   }
-  if (version && version !== "2") throw new Trouble("That link is of a newer version of Vialshoal. Reload this page, or ask its relay for it.");
+  if (version && version !== "2") throw new Trouble(LATER);
   if (form === "p") throw new Trouble(`That note isn't sealed, and stays on its machine. ${RENEW} ${relay}`);
 }

@@ -4,7 +4,7 @@ import { forgetUnkept } from "./unkept.js";
 
 const [NAME, VERSION] = ["vialshoal", 1];
 const NO_ROOM = "This browser has no room left for its notes. Free some, or save the log as a file; nothing more is kept until then.";
-const NEWER = "This browser has notes by a newer version of this page. Reload it.";
+const NEWER = "The notes in this browser were made by a later version of vialshoal. Reload the page.";
 const GONE = "What this browser kept was removed while the page was open. Notes come back by their links; reload the page.";
 const WORDS = { QuotaExceededError: NO_ROOM, VersionError: NEWER, InvalidStateError: GONE, NotFoundError: GONE };
 

@@ -21,7 +21,8 @@ OVER_THE_CORE = frozenset(("test_all_at_relay", "test_relay_text", "test_relay_t
 OVER_THE_LIBRARY = frozenset(("test_proved",))
 # These also run over notes of the second form, as "test_one:2": their subjects have other rules there.
 OVER_BOTH = frozenset(("test_all_editors", "test_carried", "test_changed", "test_copied_numbers", "test_copies", "test_left_out",
-                       "test_losses", "test_numbers", "test_presence", "test_security", "test_withdrawn"))
+                       "test_losses", "test_numbers", "test_presence", "test_security", "test_versions",
+                       "test_withdrawn"))
 # A function that says in words that something is missing, or returns nothing if it is here; beside the modules that need it.
 Lacking = Callable[[], str]
 NEEDS: Sequence[tuple[frozenset[str], Lacking]] = (
