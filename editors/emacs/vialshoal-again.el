@@ -104,7 +104,9 @@ Nothing, if there is no such text, or a change of it was broken off."
                   :edits (cdr vialshoal--step)
                   :hash (vialshoal-again--hash)
                   :made (vconcat
-                         (mapcar (lambda (edit) (vconcat (nth 1 edit)))
+                         (mapcar (lambda (edit)
+                                   (vialshoal--edit-fields (nth 1 edit)
+                                                           (nth 2 edit)))
                                  (vialshoal-again--after
                                   (cdr vialshoal--step)))))))))
 

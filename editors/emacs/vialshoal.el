@@ -676,10 +676,15 @@ Positions make lines long, too, where there are many changes."
 (defun vialshoal--send-edit (number edit joins)
   "Send EDIT, a list, as that of this NUMBER, with JOINS."
   (apply #'vialshoal--send :do "edit" :version vialshoal--version
-         :edits number :changes (vconcat edit)
-         (pcase joins
-           ('t '(:join t))
-           ('begins '(:join :false)))))
+         :edits number (vialshoal--edit-fields edit joins)))
+
+(defun vialshoal--edit-fields (edit joins)
+  "Return what a request has of EDIT, a list, with JOINS."
+  (cons :changes
+        (cons (vconcat edit)
+              (pcase joins
+                ('t '(:join t))
+                ('begins '(:join :false))))))
 
 (defun vialshoal--soon ()
   "Send soon what was gathered, where no command does it."

@@ -335,7 +335,7 @@ class EngineNote:
         if words := _inserted_words(self.mirror.opened_again(answer)):
             self.unmade += words
             self._say(NOT_CARRIED)
-        self._goes_on = False
+        self._goes_on = self._goes_on and "text" not in answer
         self._told_cursor.forget()
 
     def _take(self, line: Line) -> None:

@@ -36,6 +36,8 @@ class Peer:
 
     # What it called itself, so that it can open again, and whether it did so by another line.
     editor, is_left = "", False
+    # Whether it is just opening again, so that it will send edits again that can't be kept now.
+    rejoins = False
     # With which version and number of edits it was last noted to be in step, and what notes that.
     in_step_at: tuple[int, int] | None = None
     notes_step: Callable[["Peer"], None] = staticmethod(lambda peer: None)

@@ -13,6 +13,7 @@ from share.engine.gaps import rewrite_of
 from share.engine.history import History
 from share.engine.margin_writing import MarginWriting
 from share.engine.margins import MOST_ORDERED_AT_ONCE, FoundThread, ShownMargin, Stood
+from share.engine.places import name_before
 from share.engine.protocol import Wrong
 from share.engine.shared_text import SharedText
 from share.engine.thread_lines import MOST_PAGE, ToldTo, thread_lines
@@ -282,7 +283,7 @@ class Reviewing:
         site = self._session.site
         at = [one for stretch in seen for one in site.names(*stretch)]
         text = b"".join(self._text.measured.slice(*stretch) for stretch in seen)
-        return anchored(at, None if at else _name_before(site, begin), [], readable(swapped(text))[:MOST_SELECTED],
+        return anchored(at, None if at else name_before(site, begin), [], readable(swapped(text))[:MOST_SELECTED],
                         self._session.margin.knows())
 
     def _thread_name(self, request: Line) -> Name:
@@ -304,12 +305,6 @@ def _wanted_threads(shown: ShownMargin, found: list[FoundThread], within: Range 
         some = [one for one in shown.in_places(found) if one.spot.meets(within.begin, within.end) and is_wanted(one)]
         return some, len(some)
     return filter(is_wanted, shown.in_order()), shown.counts()[only_open]
-
-
-def _name_before(site: Site, place: int) -> Name:
-    """The character before a place, (0, 0) at the front."""
-    before = site.names(place - 1, place) if place else []
-    return (before[0].site, before[0].at) if before else (0, 0)
 
 
 def _seen_of(text: SharedText, peer: Peer, request: Line) -> list[tuple[int, int]]:

@@ -45,7 +45,7 @@
   "Return what is sent of a step at VERSION and EDITS, TEXT, and edits MADE."
   (list :version version :edits edits
         :hash (secure-hash 'sha256 (encode-coding-string text 'utf-8-unix))
-        :made made))
+        :made (mapcar (lambda (changes) (list :changes changes)) made)))
 
 (ert-deftest vialshoal-again-test-typing-goes-on ()
   (vialshoal-again-test-with "tea\n"
@@ -133,7 +133,7 @@
     (let ((made (plist-get (plist-get (vialshoal-again-test--starts) :again)
                            :made)))
       (should (= (length made) 11))
-      (should (equal (car (last made)) '((0 0 "a") (0 0 "a")))))))
+      (should (equal (car (last made)) '(:changes ((0 0 "a") (0 0 "a"))))))))
 
 (ert-deftest vialshoal-again-test-how-edits-join-is-kept ()
   (vialshoal-again-test-with "tea\n"
@@ -147,6 +147,17 @@
                                                 (plist-get line :join)))
                            (vialshoal-support--sent))
                    '(((:join nil) nil) ((:join t) t))))))
+
+(ert-deftest vialshoal-again-test-an-opening-says-how-edits-join ()
+  (vialshoal-again-test-with "tea\n"
+    (vialshoal--ended nil)
+    (setq vialshoal--joins 'begins)
+    (vialshoal-again-test--types "a" 0)
+    (vialshoal-again-test--types "b")
+    (should (equal (plist-get (plist-get (vialshoal-again-test--starts) :again)
+                              :made)
+                   '((:changes ((0 0 "a")) :join nil)
+                     (:changes ((1 1 "b")) :join t))))))
 
 (ert-deftest vialshoal-again-test-what-is-not-carried-over-is-put-back ()
   (dolist (case '((nil "one two") (1 "two") (2 nil)))

@@ -28,7 +28,8 @@ local function answers(note, line)
 end
 
 local function wanted(version, edits, text, made)
-  return { version = version, edits = edits, hash = vim.fn.sha256(text), made = made }
+  local given = vim.tbl_map(function(changes) return { changes = changes } end, made)
+  return { version = version, edits = edits, hash = vim.fn.sha256(text), made = given }
 end
 
 test('the hash of a text is its SHA-256', function()
@@ -129,7 +130,7 @@ test('what waits to be sent is one edit', function()
   note:engine_ended()
   local made = starts(note).made
   same(11, #made)
-  same({ { 0, 0, 'a' }, { 0, 0, 'a' } }, made[11])
+  same({ changes = { { 0, 0, 'a' }, { 0, 0, 'a' } } }, made[11])
 end)
 
 test('how edits join is kept', function()
@@ -141,6 +142,15 @@ test('how edits join is kept', function()
   puts(note, 'b', 1)
   answers(note, { version = 1, edits = 0 })
   same({ false, true }, vim.tbl_map(function(line) return line.join end, fake.sent(note)))
+end)
+
+test('an opening says how edits join', function()
+  local note = fake.with('tea\n')
+  note:engine_ended()
+  note:begin_unit()
+  puts(note, 'a', 0)
+  puts(note, 'b', 1)
+  same({ { changes = { { 0, 0, 'a' } }, join = false }, { changes = { { 1, 1, 'b' } }, join = true } }, starts(note).made)
 end)
 
 test('what is not carried over is put back', function()
