@@ -3,7 +3,8 @@ older note was put back, or the journal was being written again."""
 import errno
 import os
 import time
-from collections.abc import Callable
+from collections.abc import Iterable
+from typing import Any
 from unittest import mock
 
 from share.editors.mirror import Mirror
@@ -63,15 +64,8 @@ class Reopened(Journaled):
             one.open()
             with mock.patch("share.engine.edits._put_cursor", full):
                 self.assertEqual(one.ask("edit", version=0, edits=1, changes=[[0, 0, "b"]])["error"], "failed")
-            self.assertEqual(self.editors().of[self.name].edits, {})
+            self.assertEqual(Editors(Journal(self.path, self.identity()).read()).of[self.name].edits, {})
             engine.close()
-
-    def editors(self) -> Editors:
-        """What the journal says."""
-        with self.person().here():
-            engine = self.engine()
-            engine.joined(lambda data: None, lambda: 0)
-        return Editors(Journal(self.path, self.identity()).read())
 
     def identity(self) -> bytes:
         """The identity that the journal names."""
@@ -107,53 +101,52 @@ class Reopened(Journaled):
         self.assertEqual(("text" in answer, self.text()), (False, "cab"))
 
     def test_a_journal_that_is_full_for_a_while(self) -> None:
-        """No edit that isn't kept yet is in the front with which it begins again."""
+        """An engine is killed before it keeps an edit, and has just begun its journal again. Nothing says that the edit is there."""
         with self.person().here():
             engine = self.engine()
             one = OneEditor(engine, self.name)
             one.open()
             with mock.patch.object(Journal, "_append", full):
                 one.ask("edit", version=0, edits=1, changes=[[0, 0, "b"]])
-            version = one.lines[-1].get("version", 0)
-            with mock.patch.object(OwnEdits, "keep", unkept):
-                one.ask("edit", version=version, edits=2, changes=[[0, 0, "a"]])
-            editors = self.editors()
-            front = editors.front(1 << 30)
-            self.assertEqual([one.last for edit in editors.of[self.name].edits.values() for one in edit.at
-                              if one.last > front.get(one.site, 0)], [])
-            self.assertEqual(len(editors.of[self.name].can_undo().as_line()["all"][0]), 0)
+            with mock.patch.object(OwnEdits, "keep", side_effect=KeyboardInterrupt), self.assertRaises(KeyboardInterrupt):
+                one.ask("edit", version=0, edits=2, changes=[[0, 0, "a"]])
+            said = self.path.read_bytes() if self.path.exists() else b""
             engine.close()
-
-    def long_one(self, at: Callable[[bytes], object]) -> None:
-        """Has a journal be written again at each step, and something happen as it is."""
-        begin = Journal.begin
-
-        def begins(journal: Journal, lines: list[Line]) -> bool:
-            at(self.path.read_bytes() if self.path.exists() else b"")
-            return begin(journal, lines)
-
-        with mock.patch("share.engine.journal.LONG_BYTES", 0), mock.patch.object(Journal, "begin", begins):
-            self.typed(*"fedcba")
+            self.path.write_bytes(said)
+            engine = self.engine()
+            OneEditor(engine, "other").open()
+            editors = Editors(Journal(self.path, self.identity()).read())
+            engine.close()
+        self.assertEqual([one.edits for one in editors.of.values() if one.edits], [])
 
     def test_a_journal_is_written_again_only_as_all_is_kept(self) -> None:
         """Else it says that something can be taken back that never was."""
-        kept, made = set[int](), set[int]()
-        keep = OwnEdits.keep
+        begun, making = list[bool](), list[OwnEdits]()
+        make, begin = OwnEdits.make, Journal.begin
 
-        def keeps(edits: OwnEdits, messages: list[object], **more: object) -> None:
-            made.add(len(made))
-            keep(edits, messages, **more)  # type: ignore[arg-type]
-            kept.add(len(kept))
+        def makes(edits: OwnEdits, *given: Any) -> Any:
+            making.append(edits)
+            try:
+                return make(edits, *given)
+            finally:
+                making.pop()
 
-        with mock.patch.object(OwnEdits, "keep", keeps):
-            self.long_one(lambda _: self.assertEqual(kept, made))
-        self.assertGreater(len(kept), 5)
+        def begins(journal: Journal, lines: Iterable[Line]) -> bool:
+            begun.append(not making)
+            return begin(journal, lines)
+
+        with mock.patch.object(Journal, "is_long", True), mock.patch.object(Journal, "begin", begins), \
+                mock.patch.object(OwnEdits, "make", makes):
+            self.typed(*"fedcba")
+        self.assertGreater(len(begun), 5)
+        self.assertTrue(all(begun))
 
     def test_a_kill_as_a_journal_is_written_again(self) -> None:
         """The old one is there until the new one is, and nothing stays of one that wasn't finished."""
         self.typed("b", "a")
         before = self.path.read_bytes()
-        with mock.patch("os.replace", side_effect=KeyboardInterrupt), self.assertRaises(KeyboardInterrupt):
+        with mock.patch("os.replace", side_effect=KeyboardInterrupt), mock.patch("os.getpid", return_value=1), \
+                self.assertRaises(KeyboardInterrupt):
             Journal(self.path, self.identity()).begin([])
         self.assertEqual(self.path.read_bytes(), before)
         answer, _ = self.next(0, 0, "cab", *MADE)
