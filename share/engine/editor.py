@@ -52,6 +52,8 @@ class Peer:
         # What it has of the text, from its opening on.
         self._transformer: Transformer | None = None
         self.undoing, self.coalescing, self.extents = Undoing(), Coalescing(clock), Extents()
+        # The ids of what it said in the margin, by the numbers that it gave.
+        self.said: dict[int, str] = {}
         # Where it deleted something last.
         self.gap: Gap | None = None
         # In bytes: the cursor and the other end of a selection, and where its own undo has put the cursor.

@@ -71,7 +71,7 @@ class Rejoining:
         step = known.steps.get((again.version, again.edits)) if known else None
         has = known.has_up_to(again.edits) if known and step else None
         if known:
-            peer.undoing = known.can_undo()
+            peer.undoing, peer.said = known.can_undo(), {number: of for number, (_, of) in known.said.items()}
         if known and step and has is not None:
             pending = self._pending(units, again, known, step, has)
             if pending is not None:

@@ -9,6 +9,8 @@ from share.text.names import Names
 
 # The most editors that are remembered, and the most steps of each.
 MOST_REMEMBERED, MOST_STEPS_OF_ONE = 100, 5_000
+# The most remarks, suggestions and replies of an editor that are remembered.
+MOST_SAID = 100
 # An editor's changes: what is between two positions gives way to a text.
 EditChanges = Sequence[tuple[int, int, str]]
 SiteFront = dict[int, int]
@@ -56,6 +58,8 @@ class Remembered:
     steps: dict[tuple[int, int], InStep] = field(default_factory=dict)
     # What was done that can be taken back, with the messages of that.
     undoing: list[tuple[list[MadeMessages], Line]] = field(default_factory=list)
+    # The remarks, suggestions and replies that it asked for, by the number that it gave to each: the messages and the id.
+    said: dict[int, tuple[list[MadeMessages], str]] = field(default_factory=dict)
 
     def is_of(self, edits: int, checksums: Iterable[int]) -> bool:
         """Whether all that is noted after an edit is what an editor says that it made since, given the checksums of these edits. It isn't
@@ -110,6 +114,10 @@ class Editors:
             one.edits[line["edit"]] = KeptEdit(at, [Names(*each) for each in line["new"]], "partly" not in line, line["sum"])
         if "undo" in line:
             one.undoing.append((at, line["undo"]))
+        if "is" in line:
+            one.said[line["once"]] = at, line["is"]
+        elif "once" in line:
+            one.said.pop(line["once"], None)
         if "step" in line:
             self._step(one, line)
 
@@ -132,9 +140,12 @@ class Editors:
                         one.edits[number] = KeptEdit([], [], False, edit.changes)
             one.undoing = [each for each in one.undoing if not any(map(is_gone, each[0]))]
 
-    def settle(self, now: SiteFront, is_kept: Callable[[MadeMessages], bool]) -> None:
-        """Decide which of the edits that an engine was making as it ended are kept: others are as if they had never come. `now` is the
-        front of what the note's file has, which may be less than was noted, for example after an older file was put back."""
+    def settle(self, now: SiteFront, is_kept: Callable[[MadeMessages], bool], is_said: Callable[[MadeMessages], bool]) -> None:
+        """Decide which of the edits, and of the messages of the margin, that an engine was making as it ended are kept: others are as if
+        they had never come. `now` is the front of what the note's file has, which may be less than was noted, for example after an older
+        file was put back."""
+        for one in self.of.values():
+            one.said = {number: said for number, said in one.said.items() if all(map(is_said, said[0]))}
         front = self.front(len(self._fronts) - 1)
         known = dict[MadeMessages, bool]()
 
@@ -162,6 +173,7 @@ class Editors:
             first = min((step.edits for step in one.steps.values()), default=0)
             yield from (edit.as_line(editor, number) for number, edit in sorted(one.edits.items()) if number > first)
             yield {"of": editor, "undo": one.can_undo().as_line() | one.goes_on()}
+            yield from ({"of": editor, "once": number, "is": of, "at": at} for number, (at, of) in [*one.said.items()][-MOST_SAID:])
         told, now = dict[int, int](), dict[int, int]()
         read = 0
         for number, editor, at, step in steps:

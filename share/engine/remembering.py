@@ -1,6 +1,7 @@
 """What an engine notes of its editors for the next one, before anybody can know of it."""
 import zlib
 from collections.abc import Callable, Iterable, Iterator, Sequence
+from contextlib import suppress
 
 from share.admission.ledger import Branch
 from share.admission.lines import Path
@@ -11,6 +12,7 @@ from share.engine.remembered import Editors, KeptEdit, MadeMessages, SiteFront, 
 from share.format.history import Messages
 from share.format.operation import Operation
 from share.program.site import Site
+from share.review.record import MARGIN
 from share.sync.session import Session
 from share.text.line import Line
 from share.text.names import Names
@@ -61,7 +63,7 @@ class Remembering:
     def _begin(self, journal: Journal) -> None:
         """Decides at once what is there of what the last engine was making: its numbers may be used again from here on."""
         editors, front = self.read(), self.front()
-        editors.settle(front, self._is_kept)
+        editors.settle(front, self._is_kept, self._is_said)
         if editors.of and journal.begin(editors.lines(front)):
             self._fronts.told = front
         else:
@@ -87,6 +89,22 @@ class Remembering:
     def _is_kept(self, one: MadeMessages) -> bool:
         """Whether messages of which the note's file has the numbers are these."""
         return one.checksum == checksum(self._session.message(one.site, seq) for seq in range(one.first, one.last + 1))
+
+    def _is_said(self, one: MadeMessages) -> bool:
+        """Whether messages are in the margin, and are these."""
+        with suppress(LookupError):
+            return one.checksum == checksum(self._session.message(one.site, seq, MARGIN) for seq in range(one.first, one.last + 1))
+        return False
+
+    def said(self, peer: Peer, number: int, of: str, messages: Sequence[Operation]) -> None:
+        """Note that messages of the margin, which aren't kept yet, are what an editor asks for by a number; `of` is the id."""
+        peer.said[number] = of
+        self._add([{"of": peer.editor, "once": number, "is": of, "at": _as_made(messages)}])
+
+    def unsaid(self, peer: Peer, number: int) -> None:
+        """Note that they weren't kept."""
+        if peer.said.pop(number, ""):
+            self._add([{"of": peer.editor, "once": number}])
 
     def edit(self, peer: Peer, request: Line, made: Sequence[Sequence[Operation]] = (), undo: Line | None = None,
              is_whole: bool = True) -> None:

@@ -15,6 +15,7 @@ from share.engine.margin_writing import MarginWriting
 from share.engine.margins import MOST_ORDERED_AT_ONCE, FoundThread, ShownMargin, Stood
 from share.engine.places import name_before
 from share.engine.protocol import Wrong
+from share.engine.remembering import Remembering
 from share.engine.shared_text import SharedText
 from share.engine.thread_lines import MOST_PAGE, ToldTo, thread_lines
 from share.program.site import Edited, Site
@@ -51,10 +52,10 @@ class Reviewing:
     """The requests about the margin. The engine's thread alone calls it."""
 
     def __init__(self, session: Session, text: SharedText, arrivals: Arrivals, by_name: ByName, history: History,
-                 answer: Callable[[Peer, Line, Line], None]):
+                 answer: Callable[[Peer, Line, Line], None], remembering: Remembering):
         self._session, self._text, self._arrivals, self._answer = session, text, arrivals, answer
         self.shown = ShownMargin(session)
-        self._writing = MarginWriting(session, arrivals, self.shown)
+        self._writing = MarginWriting(session, arrivals, self.shown, remembering)
         self._accepting, self._history = Accepting(session, text, arrivals, by_name, self._writing), history
         # The stretches that are asked for and not answered yet; and what is done once all is looked at.
         self._ranges, self._waiting = WeakSet[Range](), list[Callable[[], None]]()
@@ -165,13 +166,18 @@ class Reviewing:
 
     def remark(self, peer: Peer, request: Line) -> Line:
         """Does the request `remark`."""
+        if said := _said_before(peer, request):
+            return {"thread": said}
         body = _body(request, may_be_empty=False)
         anchor = self._anchor(peer, request)
         self._arrivals.check_typing()
-        return {"thread": _id(self._writing.write(self._writing.record(MarginKind.REMARK, peer)._replace(body=body, anchor=anchor)))}
+        record = self._writing.record(MarginKind.REMARK, peer)._replace(body=body, anchor=anchor)
+        return {"thread": self._writing.write_once(peer, request, record)}
 
     def suggest(self, peer: Peer, request: Line) -> Line:
         """Does the request `suggest`: types the replacement inside what it would replace, hides it, and writes of it."""
+        if said := _said_before(peer, request):
+            return {"thread": said}
         new = swapped(protocol.string(request, "new").encode())
         body = _body(request) if "body" in request else ""
         if len(new) > MOST_REPLACED:
@@ -186,7 +192,7 @@ class Reviewing:
         names = self._typed_hidden(rewrite.begin + rewrite.inside, new) if new else []
         anchor = anchored(anchor.at, anchor.behind, names, anchor.text, self._session.margin.knows())
         record = self._writing.record(MarginKind.SUGGESTION, peer)._replace(body=body, anchor=anchor, new=tuple(names))
-        return {"thread": _id(self._writing.write(record, names[0].site if names else None))}
+        return {"thread": self._writing.write_once(peer, request, record, names[0].site if names else None)}
 
     def _typed_hidden(self, place: int, data: bytes) -> list[Names]:
         """Types bytes at a place and hides them, as one edit; their names."""
@@ -210,10 +216,12 @@ class Reviewing:
 
     def _reply(self, peer: Peer, request: Line) -> Line:
         """Does the request `reply`."""
+        if said := _said_before(peer, request):
+            return {"record": said}
         body = _body(request, may_be_empty=False)
         name = self._thread_name(request)
         record = self._writing.record(MarginKind.REPLY, peer)._replace(body=body, of=self._session.margin.said.ref(name))
-        return {"record": _id(self._writing.write(record))}
+        return {"record": self._writing.write_once(peer, request, record)}
 
     def _state(self, peer: Peer, request: Line) -> Line:
         """Does the requests `resolve`, `reopen` and `reject`."""
@@ -335,8 +343,10 @@ def _body(request: Line, may_be_empty: bool = True) -> str:
     return body
 
 
-def _id(name: Name) -> str:
-    return f"{name[0]}:{name[1]}"
+def _said_before(peer: Peer, request: Line) -> str | None:
+    """The id of what an engine wrote already for this request of the editor's."""
+    number = protocol.once_of(request)
+    return None if number is None else peer.said.get(number)
 
 
 def _name_in(request: Line) -> Name:

@@ -106,8 +106,8 @@ class DyingEditor:
         most = min(3, len(self.typed))
         if self._chance.randrange(6) == 0 and most:
             many = self._chance.randint(1, most)
-            places = [units.count(units.encode(text[:at])) for at in (end - many, end)]
-            self.mirror.edit([(*places, "")], **({"join": False} if self._chance.randrange(2) else {}))
+            begin, end = (units.count(units.encode(text[:at])) for at in (end - many, end))
+            self.mirror.edit([(begin, end, "")], **({"join": False} if self._chance.randrange(2) else {}))
             self.typed = self.typed[:-many]
         else:
             place, key = units.count(units.encode(text[:end])), self._chance.choice(KEYS)

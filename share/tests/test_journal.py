@@ -92,7 +92,7 @@ class Journals(Journaled):
         self.assertTrue(journal.begin(lines))
         for is_kept, edits in (lambda one: True, 1), (lambda one: False, 0):
             editors = Editors(journal.read())
-            editors.settle({7: 2}, is_kept)
+            editors.settle({7: 2}, is_kept, is_kept)
             self.assertEqual(editors.of["e"].has_up_to(0), edits)
         editors = Editors([*journal.read(), {"unkept": [7, 2]}])
         self.assertEqual((editors.of["e"].has_up_to(0), editors.of["e"].edits[1].is_whole), (1, False))
