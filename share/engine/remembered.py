@@ -10,7 +10,7 @@ from share.text.names import Names
 # The most editors that are remembered, and the most steps of each.
 MOST_REMEMBERED, MOST_STEPS_OF_ONE = 100, 5_000
 # The most remarks, suggestions and replies of an editor that are remembered.
-MOST_SAID = 100
+MOST_ONCE = 100
 # An editor's changes: what is between two positions gives way to a text.
 EditChanges = Sequence[tuple[int, int, str]]
 SiteFront = dict[int, int]
@@ -173,7 +173,7 @@ class Editors:
             first = min((step.edits for step in one.steps.values()), default=0)
             yield from (edit.as_line(editor, number) for number, edit in sorted(one.edits.items()) if number > first)
             yield {"of": editor, "undo": one.can_undo().as_line() | one.goes_on()}
-            yield from ({"of": editor, "once": number, "is": of, "at": at} for number, (at, of) in [*one.said.items()][-MOST_SAID:])
+            yield from ({"of": editor, "once": number, "is": of, "at": at} for number, (at, of) in [*one.said.items()][-MOST_ONCE:])
         told, now = dict[int, int](), dict[int, int]()
         read = 0
         for number, editor, at, step in steps:

@@ -1,6 +1,7 @@
 """What editors ask about the margin: what is remarked and suggested where, and what is to be written of it."""
 import gc
 from collections.abc import Callable, Iterable
+from functools import wraps
 from itertools import islice
 from weakref import WeakSet
 
@@ -48,6 +49,20 @@ class Range:
         self.begin, self.end = change.moved(self.begin), change.moved(self.end)
 
 
+Writes = Callable[["Reviewing", Peer, Line], Line]
+
+
+def _once(name: str) -> Callable[[Writes], Writes]:
+    """Answer a request whose words an engine has written already with the id of these, and don't write them twice."""
+    def around(writes: Writes) -> Writes:
+        @wraps(writes)
+        def written(reviewing: "Reviewing", peer: Peer, request: Line) -> Line:
+            number = protocol.once_of(request)
+            return {name: peer.said[number]} if number in peer.said else writes(reviewing, peer, request)
+        return written
+    return around
+
+
 class Reviewing:
     """The requests about the margin. The engine's thread alone calls it."""
 
@@ -61,8 +76,7 @@ class Reviewing:
         self._ranges, self._waiting = WeakSet[Range](), list[Callable[[], None]]()
         # Whether some of what came is still to be looked at.
         self.has_more = False
-        self._of_a_thread = dict(zip(OF_A_THREAD, (
-            self._reply, *(self._state for _ in STATES), self._revise, self._withdraw, self._accept)))
+        self._of_a_thread = dict(zip(OF_A_THREAD, (self._reply, *[self._state] * len(STATES), self._revise, self._withdraw, self._accept)))
 
     def moved(self, change: Change, names: list[Names] | None) -> None:
         """Follows a change of the text."""
@@ -164,20 +178,18 @@ class Reviewing:
 
     # What is written.
 
+    @_once("thread")
     def remark(self, peer: Peer, request: Line) -> Line:
         """Does the request `remark`."""
-        if said := _said_before(peer, request):
-            return {"thread": said}
         body = _body(request, may_be_empty=False)
         anchor = self._anchor(peer, request)
         self._arrivals.check_typing()
         record = self._writing.record(MarginKind.REMARK, peer)._replace(body=body, anchor=anchor)
         return {"thread": self._writing.write_once(peer, request, record)}
 
+    @_once("thread")
     def suggest(self, peer: Peer, request: Line) -> Line:
         """Does the request `suggest`: types the replacement inside what it would replace, hides it, and writes of it."""
-        if said := _said_before(peer, request):
-            return {"thread": said}
         new = swapped(protocol.string(request, "new").encode())
         body = _body(request) if "body" in request else ""
         if len(new) > MOST_REPLACED:
@@ -214,10 +226,9 @@ class Reviewing:
         self._check()
         return self.after_look(peer, request, lambda: self._of_a_thread[request["do"]](peer, request))
 
+    @_once("record")
     def _reply(self, peer: Peer, request: Line) -> Line:
         """Does the request `reply`."""
-        if said := _said_before(peer, request):
-            return {"record": said}
         body = _body(request, may_be_empty=False)
         name = self._thread_name(request)
         record = self._writing.record(MarginKind.REPLY, peer)._replace(body=body, of=self._session.margin.said.ref(name))
@@ -341,12 +352,6 @@ def _body(request: Line, may_be_empty: bool = True) -> str:
     if not (may_be_empty or body.strip()):
         raise Wrong("field", "body has to have words.")
     return body
-
-
-def _said_before(peer: Peer, request: Line) -> str | None:
-    """The id of what an engine wrote already for this request of the editor's."""
-    number = protocol.once_of(request)
-    return None if number is None else peer.said.get(number)
 
 
 def _name_in(request: Line) -> Name:
