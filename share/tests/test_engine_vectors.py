@@ -11,6 +11,7 @@ from unittest import mock
 
 from share.editors.mirror import Mirror
 from share.editors.note import EngineNote
+from share.editors.saying import Saying
 from share.editors.since import NoteChanges
 from share.editors.suggesting import Gathered, Gathering, Meant
 from share.editors.threads import NoteThreads
@@ -33,6 +34,7 @@ class Placed(Mirror):
         super().__init__(opened, send, units, clock)
         self.note = EngineNote.__new__(EngineNote)
         self.note.threads, self.note.changes, self.note.gathering = NoteThreads(), NoteChanges(), Gathering()
+        self.note.saying = Saying(lambda request: request, lambda: True)
         self.note.text, self.note.cursor, self.note.top, self.note.anchor = bytearray(swapped(self.text.encode())), 0, 0, None
 
     def follow(self, begin: int, end: int, data: bytes) -> None:
