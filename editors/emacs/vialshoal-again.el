@@ -34,6 +34,10 @@ They are doubled with each try.")
 (defconst vialshoal-again--patience 5
   "Who closes a note waits so many seconds at most for its engine.")
 
+(defconst vialshoal-again--not-repeated
+  '("open" "remarks" "remark" "suggest" "reply" "revise")
+  "The requests that the user has not to repeat if the engine ends.")
+
 (defconst vialshoal-again--most-shown 200
   "So many characters are shown of words that the note didn't take.")
 
@@ -60,7 +64,8 @@ They are doubled with each try.")
   "Say whether something that the user asked for isn't answered."
   (and vialshoal--is-open
        (cl-some (lambda (waiting)
-                  (not (member (nth 2 waiting) '("open" "remarks"))))
+                  (not (member (nth 2 waiting)
+                               vialshoal-again--not-repeated)))
                 vialshoal--waiting)))
 
 (defun vialshoal-again--pause ()
@@ -130,6 +135,8 @@ Nothing, if there is no such text, or a change of it was broken off."
       (vialshoal-again--is-not-carried-over line)
     (vialshoal-again--is-carried-over line))
   (setq vialshoal--place nil)
+  (run-hook-with-args 'vialshoal--opened-again-hook
+                      (not (plist-member line :text)))
   (vialshoal--tell-place)
   (force-mode-line-update))
 

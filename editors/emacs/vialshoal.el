@@ -178,6 +178,13 @@ holds places is one edit.")
 (defvar vialshoal--forget-hook nil
   "What is called where all is forgotten that an engine said.")
 
+(defvar vialshoal--opened-again-hook nil
+  "What is called once another engine has opened a note.
+Its argument says whether that shows the text that is here.")
+
+(vialshoal--defvar vialshoal--once 0
+  "The number of what the user said last, by which an engine writes it once.")
+
 (defvar vialshoal--applying nil
   "The buffer that is being changed as the engine says.")
 

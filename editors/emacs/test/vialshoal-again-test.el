@@ -9,6 +9,8 @@
 
 (require 'vialshoal-support)
 (require 'vialshoal-again)
+(require 'vialshoal-review)
+(require 'vialshoal-suggesting)
 
 (defmacro vialshoal-again-test-with (text &rest body)
   "Run BODY in a note of TEXT, whose engine can end."
@@ -158,6 +160,57 @@
                               :made)
                    '((:changes ((0 0 "a")) :join nil)
                      (:changes ((1 1 "b")) :join t))))))
+
+(defun vialshoal-again-test--said ()
+  "Return the requests of the margin that were sent."
+  (mapcar (lambda (line)
+            (mapcar (lambda (key) (plist-get line key))
+                    '(:do :version :begin :end :once)))
+          (cl-remove-if-not (lambda (line) (plist-member line :once))
+                            (vialshoal-support--sent))))
+
+(ert-deftest vialshoal-again-test-what-was-said-is-asked-for-again ()
+  "By the same numbers, with the places of then."
+  (vialshoal-again-test-with "tea and jam\n"
+    (let (kill-ring)
+      (vialshoal-remark 5 8 "Why?")
+      (vialshoal-suggest 9 12 "honey")
+      (vialshoal-reply '(:id "7:1") "Because.")
+      (should (equal (vialshoal-again-test--said)
+                     '(("remark" 0 4 7 1) ("suggest" 0 8 11 2)
+                       ("reply" nil nil nil 3))))
+      (vialshoal--ended nil)
+      (should-not (string-match-p "repeat it" vialshoal--words))
+      (vialshoal-again-test--types "> " 0)
+      (vialshoal-again-test--starts)
+      (vialshoal-again-test--answers :version 1 :edits 1)
+      (should (equal (vialshoal-again-test--said)
+                     '(("remark" 1 6 9 1) ("suggest" 1 10 13 2)
+                       ("reply" nil nil nil 3))))
+      (vialshoal-support--take :answer "remark" :id (- vialshoal--asked 2)
+                               :thread "7:2")
+      ;; The next engine shows another text: the words are kept.
+      (vialshoal--ended nil)
+      (vialshoal-again-test--starts)
+      (vialshoal-again-test--answers :text "> tea and jam\n!" :version 3
+                                     :edits 1)
+      (should-not (vialshoal-again-test--said))
+      (should (equal kill-ring '("honey\n\nBecause."))))))
+
+(ert-deftest vialshoal-again-test-what-is-suggested-by-typing-keeps-its-number ()
+  (vialshoal-again-test-with "tea and jam\n"
+    (let ((vialshoal-suggesting--pause 1000))
+      (vialshoal-suggesting--begin 5 8 "or")
+      (vialshoal-suggesting--finish)
+      (should (equal (vialshoal-again-test--said) '(("suggest" 0 4 7 1))))
+      (vialshoal--ended nil)
+      (vialshoal-again-test--starts)
+      (vialshoal-again-test--answers :version 1 :edits 0)
+      (vialshoal-suggesting--finish)
+      (should (equal (vialshoal-again-test--said) '(("suggest" 1 4 7 1))))
+      (vialshoal-suggesting--begin 9 12 "honey")
+      (vialshoal-suggesting--finish)
+      (should (equal (vialshoal-again-test--said) '(("suggest" 1 8 11 2)))))))
 
 (ert-deftest vialshoal-again-test-what-is-not-carried-over-is-put-back ()
   (dolist (case '((nil "one two") (1 "two") (2 nil)))
