@@ -157,7 +157,7 @@ end)
 --- The requests of the margin that were sent.
 local function said(note)
   local found = {}
-  for _, line in ipairs(fake.sent(note)) do
+  for _, line in ipairs(fake.all_sent(note)) do
     if line.once then
       table.insert(found, { line['do'], line.version, line.begin or 0, line['end'] or 0, line.once })
     end
