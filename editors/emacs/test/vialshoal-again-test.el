@@ -365,6 +365,43 @@
     (should (equal (vialshoal-support--text "*picnic as it was here*") "atea\n"))
     (kill-buffer "*picnic as it was here*")))
 
+(ert-deftest vialshoal-again-test-an-emacs-that-is-ended-leaves-the-words ()
+  "In a file that only the user reads; the next opening says where."
+  (let* ((data (make-temp-file "vialshoal" t))
+         (process-environment (cons (concat "VIALSHOAL_DATA=" data)
+                                    process-environment)))
+    (unwind-protect
+        (progn
+          (vialshoal-again-test-with "tea\n"
+            (vialshoal-again-test--types "sent " 0)
+            (vialshoal-support--take :answer "edit" :edits 1 :version 0)
+            (vialshoal--ended nil)
+            (vialshoal-again-test--types "漢🍰" 5)
+            (cl-letf (((symbol-function 'vialshoal-again--wait) #'ignore))
+              (vialshoal--close-all))
+            (kill-buffer "*picnic as it was here*"))
+          (let* ((left (expand-file-name "left" data))
+                 (files (directory-files left t "\\`picnic-.*\\.txt\\'")))
+            (should (= 1 (length files)))
+            (should (= #o600 (file-modes (car files))))
+            (should (equal "漢🍰" (with-temp-buffer
+                                  (insert-file-contents (car files))
+                                  (buffer-string))))
+            (vialshoal-again-test-with "tea\n"
+              (vialshoal--send-open nil)
+              (vialshoal-again-test--answers :text "tea\n" :version 0 :edits 0
+                                             :units "utf-32")
+              (should (string-search (car files) vialshoal--words)))
+            (delete-file (car files))
+            (vialshoal-again-test-with "tea\n"
+              (setq vialshoal--words nil)
+              (vialshoal--send-open nil)
+              (vialshoal-again-test--answers :text "tea\n" :version 0 :edits 0
+                                             :units "utf-32")
+              (should-not (and vialshoal--words
+                               (string-search "left" vialshoal--words))))))
+      (delete-directory data t))))
+
 ;;;; Edits that the note doesn't take
 
 (defun vialshoal-again-test--refuses (error &optional changes)
