@@ -15,6 +15,8 @@
 
 (require 'vialshoal)
 
+(defvar vialshoal-review--unanswered)
+
 (vialshoal--defvar vialshoal-again--words nil
   "The words that the note didn't take, a string; or nil.")
 (vialshoal--defvar vialshoal-again--place nil
@@ -33,6 +35,10 @@ They are doubled with each try.")
 
 (defconst vialshoal-again--patience 5
   "Who closes a note waits so many seconds at most for its engine.")
+
+(defconst vialshoal-again--not-repeated
+  '("open" "remarks" "remark" "suggest" "reply" "revise")
+  "The requests that the user has not to repeat if the engine ends.")
 
 (defconst vialshoal-again--most-shown 200
   "So many characters are shown of words that the note didn't take.")
@@ -60,7 +66,8 @@ They are doubled with each try.")
   "Say whether something that the user asked for isn't answered."
   (and vialshoal--is-open
        (cl-some (lambda (waiting)
-                  (not (member (nth 2 waiting) '("open" "remarks"))))
+                  (not (member (nth 2 waiting)
+                               vialshoal-again--not-repeated)))
                 vialshoal--waiting)))
 
 (defun vialshoal-again--pause ()
@@ -104,7 +111,9 @@ Nothing, if there is no such text, or a change of it was broken off."
                   :edits (cdr vialshoal--step)
                   :hash (vialshoal-again--hash)
                   :made (vconcat
-                         (mapcar (lambda (edit) (vconcat (nth 1 edit)))
+                         (mapcar (lambda (edit)
+                                   (vialshoal--edit-fields (nth 1 edit)
+                                                           (nth 2 edit)))
                                  (vialshoal-again--after
                                   (cdr vialshoal--step)))))))))
 
@@ -128,6 +137,8 @@ Nothing, if there is no such text, or a change of it was broken off."
       (vialshoal-again--is-not-carried-over line)
     (vialshoal-again--is-carried-over line))
   (setq vialshoal--place nil)
+  (run-hook-with-args 'vialshoal--opened-again-hook
+                      (not (plist-member line :text)))
   (vialshoal--tell-place)
   (force-mode-line-update))
 
@@ -298,12 +309,53 @@ They come in where they were typed."
 If there is none, the text is kept in another buffer."
   (unless (vialshoal-again--has-all)
     (vialshoal--keep-beside))
+  (when vialshoal-again--is-ending
+    (vialshoal-again--leave))
   (when vialshoal-again--timer
     (cancel-timer vialshoal-again--timer))
   (setq vialshoal-again--timer nil
         vialshoal-again--words nil
         vialshoal-again--tries 0
         vialshoal--is-away nil))
+
+;;;; Emacs ends, perhaps by a signal, while there is no engine
+
+(defun vialshoal-again--not-in-note ()
+  "Return the words that aren't in the note, as far as anybody knows."
+  (vialshoal--in-note
+    (let ((edits (vialshoal-again--after vialshoal--answered)))
+      (string-join
+       (cl-remove-if #'string-blank-p
+                     (append (list (or vialshoal-again--words "")
+                                   (vialshoal-again--put-by
+                                    (vialshoal-again--changes edits)))
+                             (mapcar #'car (reverse vialshoal-review--unanswered))))
+       "\n\n"))))
+
+(defun vialshoal-again--leave ()
+  "Write the words that aren't in the note into a file of their own."
+  (let ((words (vialshoal-again--not-in-note))
+        (name (expand-file-name (format-time-string
+                                 (concat vialshoal--note "-%Y%m%d-%H%M%S.txt"))
+                                (vialshoal--folder "left"))))
+    (unless (string-empty-p words)
+      (with-file-modes #o700
+        (make-directory (file-name-directory name) t))
+      (with-file-modes #o600
+        (let ((coding-system-for-write 'utf-8-unix))
+          (write-region words nil name nil 'silent nil))))))
+
+(defun vialshoal-again--tell-left ()
+  "Say which files have words of this note that an Emacs left as it ended."
+  (let* ((folder (vialshoal--folder "left"))
+         (files (and (file-directory-p folder)
+                     (directory-files
+                      folder t (concat "\\`" (regexp-quote vialshoal--note)
+                                       "-[0-9]\\{8\\}-[0-9]\\{6\\}\\.txt\\'")))))
+    (when files
+      (vialshoal--say
+       (format "Emacs ended before it could put all of your words into %s.  They are in %s; delete the file once you have them"
+               vialshoal--note (string-join files ", "))))))
 
 (provide 'vialshoal-again)
 ;;; vialshoal-again.el ends here

@@ -47,7 +47,8 @@
 (vialshoal--defvar vialshoal-review--is-asking nil
   "Whether they were asked for and aren't here.")
 (vialshoal--defvar vialshoal-review--unanswered nil
-  "What the user wrote and the engine hasn't answered.")
+  "What the user wrote and the engine hasn't answered, the last first.
+Each is a text, and the request that says it, in which places are markers.")
 (vialshoal--defvar vialshoal-review--is-due nil
   "Whether what is shown of them may be old.")
 
@@ -263,11 +264,25 @@ They may be many, and few of them are looked at."
   (setq vialshoal-review--timer nil
         vialshoal-review--is-asking nil
         vialshoal-review--is-due nil)
+  ;; While the engine is away, the next one will be asked.
+  (unless vialshoal--is-away
+    (vialshoal-review--keep-unanswered)))
+
+(defun vialshoal-review--keep-unanswered ()
+  "Keep the words that the engine didn't answer."
   (when vialshoal-review--unanswered
-    (vialshoal-review--keep "The engine didn't answer."
-                            (string-join (nreverse vialshoal-review--unanswered)
-                                         "\n\n"))
+    (vialshoal-review--keep
+     "The engine didn't answer."
+     (mapconcat #'car (nreverse vialshoal-review--unanswered) "\n\n"))
     (setq vialshoal-review--unanswered nil)))
+
+(defun vialshoal-review--opened-again (is-carried-over)
+  "Ask the next engine for what the last one didn't answer.
+Unless the text IS-CARRIED-OVER, nobody knows its places any more."
+  (if is-carried-over
+      (mapc #'vialshoal-review--send (reverse vialshoal-review--unanswered))
+    (vialshoal-review--keep-unanswered)))
+(add-hook 'vialshoal--opened-again-hook #'vialshoal-review--opened-again)
 (add-hook 'vialshoal--forget-hook #'vialshoal-review--forget)
 
 ;;;; Which thread is meant
@@ -349,16 +364,44 @@ If there is none, say WORDS."
   "Ask that WHAT is done with TEXT, which the user wrote, as KEY of LINE.
 What is refused isn't lost."
   (with-current-buffer (vialshoal-review--here)
-    (let ((text (vialshoal--clean text)))
+    (let* ((text (vialshoal--clean text))
+           (said (list text (append (list :do what key text)
+                                    (vialshoal-review--marked line)
+                                    (list :once (cl-incf vialshoal--once))))))
       (when vialshoal--is-open
-        (push text vialshoal-review--unanswered))
-      (apply #'vialshoal--ask
-             (lambda (line)
-               (setq vialshoal-review--unanswered
-                     (delq text vialshoal-review--unanswered))
-               (when (plist-get line :error)
-                 (vialshoal-review--keep (plist-get line :words) text)))
-             :do what key text line))))
+        (push said vialshoal-review--unanswered))
+      (vialshoal-review--send said))))
+
+(defun vialshoal-review--marked (line)
+  "Return LINE with markers as its places, which move with the text."
+  (let* ((begin (plist-get line :begin))
+         (is-place (eql begin (plist-get line :end))))
+    (if (not begin)
+        line
+      (list :version nil
+            :begin (copy-marker (1+ begin) (not is-place))
+            :end (copy-marker (1+ (plist-get line :end)))))))
+
+(defun vialshoal-review--send (said)
+  "Send the request of SAID, one of `vialshoal-review--unanswered'."
+  (apply #'vialshoal--ask
+         (lambda (line)
+           (setq vialshoal-review--unanswered
+                 (delq said vialshoal-review--unanswered))
+           (when (plist-get line :error)
+             (vialshoal-review--keep (plist-get line :words) (car said))))
+         (vialshoal-review--placed (cadr said))))
+
+(defun vialshoal-review--placed (line)
+  "Return LINE with its places as they are by now."
+  (let (found)
+    (cl-loop for (name value) on line by #'cddr
+             do (push name found)
+             do (push (cond ((eq name :version) vialshoal--version)
+                            ((markerp value) (1- value))
+                            (t value))
+                      found))
+    (nreverse found)))
 
 (defun vialshoal-review--keep (words text)
   "Keep TEXT, which wasn't taken, and say so behind WORDS."

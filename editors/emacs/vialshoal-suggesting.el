@@ -248,10 +248,13 @@ Return where point is then."
 (defun vialshoal-suggesting--send (mark)
   "Send what MARK suggests."
   (overlay-put mark 'vialshoal-sent t)
+  (unless (overlay-get mark 'vialshoal-once)
+    (overlay-put mark 'vialshoal-once (cl-incf vialshoal--once)))
   (vialshoal--ask (lambda (line) (vialshoal-suggesting--answered mark line))
                   :do "suggest" :version vialshoal--version
                   :begin (1- (overlay-start mark)) :end (1- (overlay-end mark))
-                  :new (overlay-get mark 'vialshoal-new)))
+                  :new (overlay-get mark 'vialshoal-new)
+                  :once (overlay-get mark 'vialshoal-once)))
 
 (defun vialshoal-suggesting--answered (mark line)
   "Show MARK no more, as LINE answers it; the text of one that failed is kept."
@@ -276,7 +279,8 @@ Return where point is then."
           (t (user-error "You have suggested nothing that could be taken back")))))
 
 (defun vialshoal-suggesting--forget ()
-  "Send anew what the engine, which isn't there any more, didn't answer."
+  "Send again what the engine, which isn't there any more, didn't answer.
+By its number the next one knows whether that is written."
   (dolist (mark vialshoal-suggesting--marks)
     (overlay-put mark 'vialshoal-sent nil))
   (when vialshoal-suggesting--marks

@@ -175,8 +175,18 @@ holds places is one edit.")
 (defvar vialshoal--close-hook nil
   "What is called before a note is closed.")
 
+(defvar vialshoal-again--is-ending nil
+  "Whether Emacs is ending, so that no buffer keeps anything.")
+
 (defvar vialshoal--forget-hook nil
   "What is called where all is forgotten that an engine said.")
+
+(defvar vialshoal--opened-again-hook nil
+  "What is called once another engine has opened a note.
+Its argument says whether that shows the text that is here.")
+
+(vialshoal--defvar vialshoal--once 0
+  "The number of what the user said last, by which an engine writes it once.")
 
 (defvar vialshoal--applying nil
   "The buffer that is being changed as the engine says.")
@@ -676,10 +686,15 @@ Positions make lines long, too, where there are many changes."
 (defun vialshoal--send-edit (number edit joins)
   "Send EDIT, a list, as that of this NUMBER, with JOINS."
   (apply #'vialshoal--send :do "edit" :version vialshoal--version
-         :edits number :changes (vconcat edit)
-         (pcase joins
-           ('t '(:join t))
-           ('begins '(:join :false)))))
+         :edits number (vialshoal--edit-fields edit joins)))
+
+(defun vialshoal--edit-fields (edit joins)
+  "Return what a request has of EDIT, a list, with JOINS."
+  (cons :changes
+        (cons (vconcat edit)
+              (pcase joins
+                ('t '(:join t))
+                ('begins '(:join :false))))))
 
 (defun vialshoal--soon ()
   "Send soon what was gathered, where no command does it."
@@ -1177,15 +1192,18 @@ that isn't here, the user is asked, if ASKS is non-nil."
 
 (defun vialshoal--names ()
   "Return the names of the notes that are here."
-  (let ((folder (expand-file-name
-                 "notes" (or (vialshoal--variable "VIALSHOAL_DATA")
-                             (expand-file-name
-                              "vialshoal"
-                              (or (vialshoal--variable "XDG_DATA_HOME")
-                                  "~/.local/share"))))))
+  (let ((folder (vialshoal--folder "notes")))
     (mapcar #'file-name-sans-extension
             (and (file-directory-p folder)
                  (directory-files folder nil "\\`[^.].*\\.note\\'")))))
+
+(defun vialshoal--folder (name)
+  "Return the folder NAME of the user's data folder."
+  (expand-file-name name (or (vialshoal--variable "VIALSHOAL_DATA")
+                             (expand-file-name
+                              "vialshoal"
+                              (or (vialshoal--variable "XDG_DATA_HOME")
+                                  "~/.local/share")))))
 
 (defun vialshoal--variable (name)
   "Return the environment's variable NAME, or nil where it is empty."
@@ -1280,7 +1298,8 @@ It is told what it has to carry over from an engine that has ended."
   (pcase (plist-get line :error)
     ('nil (if vialshoal--is-away
               (vialshoal-again--opened line)
-            (vialshoal--fill line)))
+            (vialshoal--fill line)
+            (vialshoal-again--tell-left)))
     ((guard vialshoal--is-away)
      (vialshoal--part)
      (vialshoal-again--start-later))
@@ -1384,7 +1403,8 @@ An indirect buffer has the note go on."
     (when (and (buffer-live-p buffer)
                (buffer-local-value 'vialshoal--note buffer))
       (with-current-buffer buffer
-        (vialshoal--close))))
+        (let ((vialshoal-again--is-ending t))
+          (vialshoal--close)))))
   (let ((end (+ (vialshoal--now) vialshoal--end-patience)))
     (dolist (process (process-list))
       (when (process-get process 'vialshoal-buffer)
@@ -1781,7 +1801,7 @@ If there is one, ask before it is replaced, unless REPLACES."
 (dolist (function '(vialshoal-again--close vialshoal-again--ended
                     vialshoal-again--may-close vialshoal-again--may-close-all
                     vialshoal-again--opened vialshoal-again--refused
-                    vialshoal-again--start-later
+                    vialshoal-again--start-later vialshoal-again--tell-left
                     vialshoal-again--to-carry-over))
   (autoload function "vialshoal-again"))
 (dolist (function '(vialshoal-evil--set-up vialshoal-evil--pre-command

@@ -45,9 +45,10 @@ class Mirror:
         self._gathered: list[TextChange] = []
         self._more: Line = {}
         self._said_version = self.version
-        # With which version and number of edits it showed the engine's text last, its edits since, and how many of them an opening names.
+        # The version and the number of edits with which it showed the engine's text last, its edits since, and the number of them that an
+        # opening names. Each edit has `changes`, and `join` if its user's command says that.
         self._base = self.version, self.made
-        self._since_base: list[list[TextChange]] = []
+        self._since_base: list[Line] = []
         self._named = 0
         # Whether the engine is away: then nothing is sent.
         self.is_away = False
@@ -75,9 +76,9 @@ class Mirror:
         self.made += 1
         self._said_version = self.version
         changes, more, self._gathered, self._more = self._gathered, self._more, [], {}
-        self._since_base.append(changes)
-        self._tell({"do": "edit", "version": self.version, "edits": self.made, "changes": [list(one) for one in changes],
-                    **more})
+        edit = {"changes": [list(one) for one in changes], **more}
+        self._since_base.append(edit)
+        self._tell({"do": "edit", "version": self.version, "edits": self.made, **edit})
 
     def _tell(self, line: Line) -> None:
         if not self.is_away:
@@ -94,28 +95,33 @@ class Mirror:
         self._named = len(self._since_base)
         version, edits = self._base
         return {"version": version, "edits": edits, "hash": hashlib.sha256(self.text.encode()).hexdigest(),
-                "made": [[[*one] for one in changes] for changes in self._since_base]}
+                "made": [*self._since_base]}
 
     def left_unmade(self) -> list[list[TextChange]]:
-        """The edits that no engine may have."""
+        """Return the changes of the edits that no engine has answered."""
         self._send_gathered()
-        return self._since_base
+        return self._after(self.answered)
+
+    def _after(self, number: int) -> list[list[TextChange]]:
+        """Return the changes of the edits behind a number."""
+        return [edit["changes"] for edit in self._since_base[max(0, number - self._base[1]):]]
 
     def opened_again(self, answer: Line) -> list[list[TextChange]]:
         """Takes in what `open` was answered; the edits that weren't carried over, which are their user's."""
         self._send_gathered()
-        before, edits, unmade = self._base, self._since_base, list[list[TextChange]]()
+        edits, unmade = self._since_base, list[list[TextChange]]()
+        if "text" in answer:
+            unmade = self._after(max(self.answered, answer.get("has", 0)))
         self.version = self._said_version = answer["version"]
         self.is_away, self.cursors = False, []
         self.made = self.answered = answer["edits"]
         self._base, self._since_base = (self.version, self.made), []
         if "text" in answer:
-            unmade = edits[max(0, answer.get("has", before[1]) - before[1]):]
             self._data = bytearray(self.units.encode(answer["text"]))
             self.follow_all()
         else:
-            for changes in edits[self._named:]:
-                self._gathered = changes
+            for edit in edits[self._named:]:
+                self._gathered, self._more = edit["changes"], {name: value for name, value in edit.items() if name != "changes"}
                 self._send_gathered()
         return unmade
 

@@ -9,6 +9,7 @@ from collections.abc import Callable, Sequence
 
 from share.editors.joined_line import WATCH_SECONDS, JoinedLine, Joins
 from share.editors.mirror import Mirror, TextChange, new_editor
+from share.editors.saying import AWAY, SAID_ONCE, Saying
 from share.editors.since import NoteChanges
 from share.editors.suggesting import Gathering
 from share.editors.threads import NoteThreads
@@ -21,7 +22,6 @@ from share.text.rope import swapped
 from share.text.units import UNITS
 
 ENDED = "The note's engine ended before the note was open. Open it again: all that was typed before is kept."
-AWAY = "The note's engine ended. What you type is kept here until the next one is there."
 DROPPED = "The note's engine ended, and this may not have been done. Look, and do it again."
 NOT_CARRIED = "The note's engine ended, and not all that you typed could be carried over. ^V puts it back."
 REFUSED_KEPT = "^V puts back what you typed."
@@ -109,6 +109,7 @@ class EngineNote:
 
     def __init__(self, line: socket.socket, bar: Bar, wake: Callable[[], None], name: str = "", joins: Joins = lambda: None):
         self._line, self._bar = JoinedLine(line, joins, wake), bar
+        self._send = self._line.send
         self._open_line: Line = {"do": "open", "id": "open", "protocol": 1, "units": ["utf-8"], "name": name, "remarks": True,
                                  "editor": new_editor()}
         self.text = bytearray()
@@ -124,6 +125,7 @@ class EngineNote:
         self._answers: list[Line] = []
         self._is_open = False
         self.threads, self.changes, self.gathering = NoteThreads(), NoteChanges(), Gathering()
+        self.saying = Saying(self._asked, lambda: self._come_again(0.05))
         self._send(self._open_line)
         opened = self._opened()
         self.text[:] = swapped(UTF_8.encode(opened["text"]))
@@ -175,26 +177,27 @@ class EngineNote:
     def say(self, what: str, **more: object) -> Line | None:
         """Says something of the text, or accepts; the answer (`changed` is one), None where it was refused, which the notice says."""
         self._goes_on = False
-        self._send({"do": what, "id": what, **({"version": self.mirror.version} if "begin" in more else {}), **more})
-        answer = self._until(what)
+        answer = (self.saying.say if what in SAID_ONCE else self._asked)({"do": what, **more})
         if answer.get("error", "changed") == "changed":
             return answer
         self._say(answer["words"])
         return None
 
+    def _asked(self, request: Line) -> Line:
+        """What a request is answered."""
+        self._send({"id": request["do"], **({"version": self.mirror.version} if "begin" in request else {}), **request})
+        return self._until(request["do"])
+
     def suggest_all(self, changes: Sequence[TextChange]) -> list[str]:
-        """Suggests changes of the text as it is; what the suggestions are named that were made."""
-        for begin, end, new in changes:
-            self._send({"do": "suggest", "id": "suggest", "version": self.mirror.version, "begin": begin, "end": end, "new": new})
-        answers = [self._until("suggest") for _ in changes]
+        """Suggests changes of the text as it is, the last one first; what the suggestions are named that were made."""
+        answers = [self.saying.say({"do": "suggest", "begin": begin, "end": end, "new": new}) for begin, end, new in changes]
         self.notice, self.mirror.words = next((one["words"] for one in answers if "error" in one), self.notice), ""
         return [one["thread"] for one in answers if "error" not in one]
 
     def take_in(self) -> bool:
         """Takes in what came from the others; whether the text changed."""
         version: int = self.mirror.version
-        if self.mirror.is_away:
-            self._come_again()
+        self._come_again()
         while self._receive(0):
             pass
         if not self.mirror.is_away:
@@ -225,10 +228,7 @@ class EngineNote:
         """Closes the note, when all is sent or after some seconds."""
         end = time.monotonic() + SEND_SECONDS
         while (self.mirror.is_away or self.mirror.state["log"] == "sending") and time.monotonic() < end:
-            if self.mirror.is_away:
-                self._come_again()
-            if not self._receive(0.05) and self.mirror.is_away:
-                time.sleep(0.05)
+            self._come_again(0.05)
         words = _inserted_words(self.mirror.left_unmade()) if self.mirror.is_away else self.unmade
         if not self.mirror.is_away:
             while self.mirror.answered < self.mirror.made and not self.mirror.is_away:
@@ -242,7 +242,7 @@ class EngineNote:
         """Changes the text, and moves the places with it."""
         change.look(self.text[max(0, change.begin - 1):change.begin], len(self.text))
         self.text[change.begin:change.end] = change.new
-        for follow in self.threads.follow, self.changes.follow, self.gathering.follow:
+        for follow in self.threads.follow, self.changes.follow, self.gathering.follow, self.saying.follow:
             follow(change)
         (cursor, anchor), top = change.moved_both(self.cursor, self.anchor), change.moved(self.top, True)
         self.cursor, self.top = boundary(self.text, cursor), boundary(self.text, top)
@@ -300,9 +300,6 @@ class EngineNote:
                 return {"answer": what, "error": AWAY, "words": DROPPED}
             self._receive(WATCH_SECONDS)
 
-    def _send(self, line: Line) -> None:
-        self._line.send(line)
-
     def _receive(self, seconds: float) -> bool:
         """Takes in what comes within some time; whether something did."""
         was_there = self._line.is_there
@@ -322,10 +319,13 @@ class EngineNote:
         for ended in self.threads.ended, self.changes.ended:
             ended()
 
-    def _come_again(self) -> None:
-        """Opens the note again at the next engine, as soon as it is there."""
-        if not self._line.is_there and self._line.join():
+    def _come_again(self, seconds: float = 0) -> bool:
+        """Opens the note again at the next engine, as soon as it is there, and takes in what comes within some time; whether it is open."""
+        if self.mirror.is_away and not self._line.is_there and self._line.join():
             self._send({**self._open_line, "again": self.mirror.again()})
+        if seconds and not self._receive(seconds) and self.mirror.is_away:
+            time.sleep(seconds)
+        return not self.mirror.is_away
 
     def _opened_again(self, answer: Line) -> None:
         if "error" in answer:
@@ -335,7 +335,7 @@ class EngineNote:
         if words := _inserted_words(self.mirror.opened_again(answer)):
             self.unmade += words
             self._say(NOT_CARRIED)
-        self._goes_on = False
+        self._goes_on = self._goes_on and "text" not in answer
         self._told_cursor.forget()
 
     def _take(self, line: Line) -> None:

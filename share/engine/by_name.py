@@ -116,8 +116,10 @@ class ByName:
 
         try:
             edited = self._session.edit(work)
-        except Trouble as why:
-            self._remembering.unkept(made)
+        except Exception as why:
+            self._remembering.unkept(peer, made)
+            if not isinstance(why, Trouble):
+                raise
             self._arrivals.catch_up()
             raise Wrong("unkept", str(why)) from why
         with peer.extents.are_of(changed.key):

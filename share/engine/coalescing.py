@@ -42,7 +42,15 @@ class Coalescing:
 
     def ended_at(self, end: int, changes: Sequence[Change]) -> None:
         """Says where the edit left the cursor; a line's end ends what goes on."""
-        self._end = None if any(LINE_END in one.new for one in changes) else end
+        self._end = None if _ends_line(changes) else end
+
+    def keys_after(self, changes: Sequence[Change]) -> tuple[int, bool] | None:
+        """Return the number of keys that are one edit by now and whether they delete; None if no key goes on from these changes."""
+        return None if _ends_line(changes) else (self._keys, self._deleted)
+
+    def goes_on_at(self, place: int, keys: int, deleted: bool, silence: float) -> None:
+        """Go on from keys that another engine made into one edit, given the place and the seconds since the last one."""
+        self._end, self._keys, self._deleted, self._last = place, keys, deleted, self._clock() - silence
 
     def cursor_is(self, place: int) -> None:
         """Says where the cursor is; elsewhere another edit begins."""
@@ -56,6 +64,10 @@ class Coalescing:
     def stop(self) -> None:
         """Says that nothing goes on."""
         self._end = None
+
+
+def _ends_line(changes: Sequence[Change]) -> bool:
+    return any(LINE_END in one.new for one in changes)
 
 
 def _keys(changes: Sequence[Change], old: bytes) -> int:

@@ -36,6 +36,8 @@ class Peer:
 
     # What it called itself, so that it can open again, and whether it did so by another line.
     editor, is_left = "", False
+    # Whether it is just opening again, so that it will send edits again that can't be kept now.
+    rejoins = False
     # With which version and number of edits it was last noted to be in step, and what notes that.
     in_step_at: tuple[int, int] | None = None
     notes_step: Callable[["Peer"], None] = staticmethod(lambda peer: None)
@@ -50,6 +52,8 @@ class Peer:
         # What it has of the text, from its opening on.
         self._transformer: Transformer | None = None
         self.undoing, self.coalescing, self.extents = Undoing(), Coalescing(clock), Extents()
+        # The ids of what it said in the margin, by the numbers that it gave.
+        self.said: dict[int, str] = {}
         # Where it deleted something last.
         self.gap: Gap | None = None
         # In bytes: the cursor and the other end of a selection, and where its own undo has put the cursor.

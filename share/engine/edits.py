@@ -9,6 +9,7 @@ from share.engine.arrivals import NOT_NOW, Arrivals
 from share.engine.editor import Peer
 from share.engine.gaps import Gap, cut_by, rewrite_of
 from share.engine.protocol import Wrong
+from share.engine.places import name_before
 from share.engine.remembering import Remembering
 from share.engine.shared_text import SharedText
 from share.engine.transform import Transformer
@@ -50,7 +51,7 @@ class EditRequests:
         try:
             self._session.edit(work) if can_type else work(self._session.site)
         except Exception as fault:  # pylint: disable=broad-except
-            self._remembering.unkept(made)
+            self._remembering.unkept(peer, made)
             answers = self._not_kept(peer, first, answers, fault)
         self._text.end_unkept()
         self._arrivals.look_at_number()
@@ -62,12 +63,13 @@ class EditRequests:
         messages, end = list[Operation](), time.monotonic() + TOGETHER_SECONDS
         request: Line | None = first
         while request:
-            before = len(site.history)
+            before, noted = len(site.history), self._remembering.gathered
             try:
                 answer, made = self._edit(peer, request, site if can_type else None)
             except Exception as fault:  # pylint: disable=broad-except
                 # What was made before it is kept all the same, and nothing of it.
                 answer, made = self._failed(peer, fault), []
+                self._remembering.forget_gathered(noted)
                 with suppress(Exception):
                     site.go_back(before)
             answers.append((request, answer))
@@ -112,7 +114,7 @@ class EditRequests:
         if self._arrivals.is_behind:
             raise Trouble(NOT_NOW)
         if site is None:
-            self._remembering.edit(peer, is_whole=False)
+            self._remembering.edit(peer, request, is_whole=False)
             text.take_out(peer, own, text.measured.as_note())
             return {"edits": edits, "error": "number", "words": self._arrivals.no_number}, []
         gap, peer.gap = peer.gap, None
@@ -127,7 +129,7 @@ class EditRequests:
             cut = cut_by(changes, text.measured, site)
             refused = _made(site, [rewrite_of(one, text.measured) for one in changes], made)
             peer.gap = cut.gap(made[0], gap) if cut and refused is None else None
-        more = self._show(peer, own, changes, site, request.get("join"), made, refused)
+        more = self._show(peer, own, changes, site, request, made, refused)
         return {"edits": edits, **more}, [*chain.from_iterable(made)]
 
     def _places(self, transformer: Transformer, changes: list[Change]) -> range:
@@ -157,17 +159,18 @@ class EditRequests:
             own = transformer.moved_behind({met.place: many for met in transformer.met()})
         return own, [Change(place, place, one.new)], [edited.messages], edited.refused
 
-    def _show(self, peer: Peer, own: Op, changes: list[Change], site: Site, join: object, made: list[list[Operation]],
+    def _show(self, peer: Peer, own: Op, changes: list[Change], site: Site, request: Line, made: list[list[Operation]],
               refused: int | None) -> Line:
         """Shows the others changes that an editor shows already, and that were made; what the answer has besides."""
         if not changes:
-            self._remembering.edit(peer, made)
+            self._remembering.edit(peer, request, made)
             return {}
         messages = [*chain.from_iterable(made)]
         old = self._text.measured.slice(changes[0].begin, changes[0].end)
-        step, joins = step_of(messages), peer.coalescing.joins(changes, old, join)
+        step, joins = step_of(messages), peer.coalescing.joins(changes, old, request.get("join"))
         key = peer.undoing.made(step, joins)
-        self._remembering.edit(peer, made, {"made": step.as_line(), "joins": joins}, is_whole=refused is None)
+        noted = {"made": step.as_line(), "joins": joins} | _goes_on_from(peer, changes, made, site)
+        self._remembering.edit(peer, request, made, noted, is_whole=refused is None)
         if refused is not None:
             self._text.take_out(peer, own, site.text())
             return {"error": "refused", "words": str(Refused(refused)), "number": refused}
@@ -192,10 +195,26 @@ def _next_edit(waiting: list[bytes | None]) -> Line | None:
     return request
 
 
+def _end_of(changes: list[Change]) -> int:
+    """The place behind an edit, in the text with it."""
+    last = changes[0]
+    return last.begin + len(last.new) + sum(len(one.new) - one.end + one.begin for one in changes[1:])
+
+
+def _goes_on_from(peer: Peer, changes: list[Change], made: list[list[Operation]], site: Site) -> Line:
+    """What a journal has of an edit so that the next key may be undone with it: the keys so far, the character behind which the next one
+    comes, and the time."""
+    if not peer.editor or not (keys := peer.coalescing.keys_after(changes)):
+        return {}
+    new = [names for one in made[0] if (names := one.new)] if changes[0].new else []
+    end = _end_of(changes)
+    site_at = (new[-1].site, new[-1].at + new[-1].length - 1) if new else name_before(site, end)
+    return {"keys": keys, "behind": site_at, "time": int(time.time())}
+
+
 def _put_cursor(peer: Peer, changes: list[Change]) -> None:
     """Puts an editor's cursor behind its edit."""
-    last = changes[0]
-    end = last.begin + len(last.new) + sum(len(one.new) - one.end + one.begin for one in changes[1:])
+    end = _end_of(changes)
     peer.coalescing.ended_at(end, changes)
     peer.cursor, peer.anchor = end if peer.cursor is not None else None, None
 

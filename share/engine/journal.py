@@ -61,18 +61,23 @@ class Journal:
         return lines if first.get("note") == self._note.hex() else []
 
     def begin(self, lines: Iterable[Line]) -> bool:
-        """Begins the journal again with these lines, in place of the old one; whether that could be done."""
-        self.stop()
+        """Begin the journal again with these lines, and return whether that could be done. If not, the old one stays as it is."""
         data = b"".join(map(_serialized, [{"journal": JOURNAL_VERSION, "note": self._note.hex()}, *lines]))
-        fresh = self._path.with_name(f".{self._path.name}.{os.getpid()}")
+        # One engine at a time has the note open. So a file that a killed one left under this name is written over.
+        fresh, file = self._path.with_name(f".{self._path.name}.new"), -1
+        self._long = max(LONG_BYTES, 2 * max(len(data), self._size))
         try:
-            self._file = os.open(fresh, os.O_WRONLY | os.O_CREAT | os.O_TRUNC | os.O_APPEND | os.O_CLOEXEC, 0o600)
-            self._append(data)
+            file = os.open(fresh, os.O_WRONLY | os.O_CREAT | os.O_TRUNC | os.O_APPEND | os.O_CLOEXEC, 0o600)
+            self._append(file, data)
             os.replace(fresh, self._path)
         except OSError:
-            self.give_up(fresh)
+            if file >= 0:
+                os.close(file)
+            with suppress(OSError):
+                fresh.unlink()
             return False
-        self._size, self._long = len(data), max(LONG_BYTES, 2 * len(data))
+        self.stop()
+        self._file, self._size = file, len(data)
         return True
 
     def add(self, lines: Iterable[Line]) -> bool:
@@ -81,28 +86,16 @@ class Journal:
             return False
         data = b"".join(map(_serialized, lines))
         try:
-            self._append(data)
+            self._append(self._file, data)
         except OSError:
-            self.give_up(self._path)
+            self.delete()
             return False
         self._size += len(data)
         return True
 
-    def _append(self, data: bytes) -> None:
-        assert self._file is not None
-        if os.write(self._file, data) != len(data):
+    def _append(self, file: int, data: bytes) -> None:
+        if os.write(file, data) != len(data):
             raise OSError("The disk is full.")
-
-    def give_up(self, path: pathlib.Path) -> None:
-        """Takes away a file that doesn't say all, since it would say something wrong."""
-        self.stop()
-        for one in {path, self._path}:
-            try:
-                one.unlink(missing_ok=True)
-            except OSError:
-                # A line that isn't whole says that it is no journal.
-                with suppress(OSError):
-                    os.truncate(one, 0)
 
     def stop(self) -> None:
         """Closes the file, which stays."""
@@ -111,8 +104,14 @@ class Journal:
             self._file = None
 
     def delete(self) -> None:
-        """Takes the file away, which nobody needs any more."""
-        self.give_up(self._path)
+        """Delete the file: nobody needs it, or it lacks a line and so would say something wrong."""
+        self.stop()
+        try:
+            self._path.unlink(missing_ok=True)
+        except OSError:
+            # An empty file says nothing.
+            with suppress(OSError):
+                os.truncate(self._path, 0)
 
 
 def _serialized(line: Line) -> bytes:

@@ -1,28 +1,36 @@
 """What editors have written into the margin: kept on the disk, or refused in words, and shown."""
 import time
-from collections.abc import Callable
+from collections.abc import Callable, Sequence
 from contextlib import suppress
 from typing import TypeVar
 
 from share.engine.arrivals import Arrivals
 from share.engine.editor import Peer
 from share.engine.margins import ShownMargin
-from share.engine.protocol import Wrong
+from share.engine.protocol import Wrong, once_of
+from share.engine.remembering import Remembering
+from share.format.operation import Operation
 from share.format.presence import MOST_NAME
 from share.review.record import MarginKind, MarginRecord, MarginState, Ref
 from share.sync.margin import NotOwn
 from share.sync.session import Session
 from share.text.errors import Refused, Trouble
+from share.text.line import Line
 from share.text.names import Name
 
 DoneWork = TypeVar("DoneWork")
 
 
+def id_of(name: Name) -> str:
+    """The id of what a record says."""
+    return f"{name[0]}:{name[1]}"
+
+
 class MarginWriting:
     """Writes records. The engine's thread alone calls it."""
 
-    def __init__(self, session: Session, arrivals: Arrivals, shown: ShownMargin):
-        self._session, self._arrivals, self._shown = session, arrivals, shown
+    def __init__(self, session: Session, arrivals: Arrivals, shown: ShownMargin, remembering: Remembering):
+        self._session, self._arrivals, self._shown, self._remembering = session, arrivals, shown, remembering
         # What names the suggestions that were accepted here, which may have to be named before they are read again.
         self._accepted = dict[Name, Ref]()
 
@@ -37,6 +45,25 @@ class MarginWriting:
         name = self.kept(lambda: self._session.margin.write(record, site))
         self._shown.look_on()
         return name
+
+    def write_once(self, peer: Peer, request: Line, record: MarginRecord, site: int | None = None) -> str:
+        """Write what a request says, and return its id. If the request has a number, it is noted before the record is kept: the next engine
+        answers the same request with this id."""
+        number = once_of(request) if peer.editor else None
+
+        def notes(name: Name, made: Sequence[Operation]) -> None:
+            if number is not None:
+                self._remembering.said(peer, number, id_of(name), made)
+
+        self._arrivals.check_typing()
+        try:
+            name = self.kept(lambda: self._session.margin.write(record, site, notes))
+        except Exception:
+            if number is not None:
+                self._remembering.unsaid(peer, number)
+            raise
+        self._shown.look_on()
+        return id_of(name)
 
     def accepted(self, peer: Peer, name: Name, is_accepted: bool) -> None:
         """Says that a suggestion is settled, since it was accepted, so that it stays so where its text is deleted later; or that this is

@@ -64,6 +64,11 @@ def editor_of(request: Line) -> str:
     return given
 
 
+def once_of(request: Line) -> int | None:
+    """The number by which an editor asks for something again, if the request has one."""
+    return number(request, "once") if "once" in request else None
+
+
 def edits_of(request: Line, default: int) -> int:
     """How many edits an editor says that it has made, if it says so."""
     given = request.get("edits")

@@ -1,7 +1,9 @@
 """An editor opens again whose engine ended, or that lost its line: which of its edits are there is found out, the others are carried over
 from the text that it shows to the text of now, and what it could take back it can take back again."""
 import hashlib
+import time
 from collections.abc import Sequence
+from itertools import count
 from typing import NamedTuple
 
 from share.admission.ledger import Branch
@@ -11,9 +13,10 @@ from share.engine.arrivals import Arrivals
 from share.engine.editor import Peer
 from share.engine.edits import EditRequests
 from share.engine.named_text import NamedText
+from share.engine.places import place_behind
 from share.engine.protocol import Wrong
 from share.engine.remembered import EditChanges, SiteFront, InStep, Remembered
-from share.engine.remembering import Remembering
+from share.engine.remembering import Remembering, changes_checksum
 from share.engine.shared_text import SharedText
 from share.engine.transform import Transformer
 from share.format.history import Messages, Part
@@ -32,21 +35,25 @@ MOST_WORDS_TOLD = 200
 
 
 class Again(NamedTuple):
-    """What an editor shows that opens again: when it was last in step, its edits since, and the hash of the text with these."""
+    """What an editor shows that opens again: when it was last in step, the changes of each edit since then, whether each one joins the
+    edit before it, if the editor says so, and the hash of the text with all of them."""
 
     version: int
     edits: int
     made: list[EditChanges]
+    joins: list[Line]
     hash: str
 
     @classmethod
     def read(cls, request: Line) -> "Again":
         """What a request says."""
         line = request["again"]
-        if not isinstance(line, dict) or not isinstance(line.get("made"), list):
-            raise Wrong("field", "again has to have version, edits, hash and made, a list of lists of changes.")
-        made: list[EditChanges] = [protocol.replacements({"changes": one}) for one in line["made"]]
-        return cls(protocol.number(line, "version"), protocol.number(line, "edits"), made, protocol.string(line, "hash"))
+        given = line.get("made") if isinstance(line, dict) else None
+        if not isinstance(given, list) or not all(isinstance(one, dict) for one in given):
+            raise Wrong("field", "again has to have version, edits, hash and made, a list of edits with changes.")
+        made: list[EditChanges] = [protocol.replacements(one) for one in given]
+        joins = [{"join": one["join"]} if "join" in one else {} for one in given]
+        return cls(protocol.number(line, "version"), protocol.number(line, "edits"), made, joins, protocol.string(line, "hash"))
 
 
 class Rejoining:
@@ -59,19 +66,21 @@ class Rejoining:
         """Opens the note for an editor; what the answer has besides. After an error it isn't open."""
         if self._arrivals.is_behind:
             raise Wrong("failed", "What the editor shows can't be compared now.")
-        known = self._remembering.read().of.get(peer.editor)
+        found = self._remembering.read().of.get(peer.editor)
+        known = found if found and found.is_of(again.edits, map(changes_checksum, again.made)) else None
         step = known.steps.get((again.version, again.edits)) if known else None
         has = known.has_up_to(again.edits) if known and step else None
         if known:
-            peer.undoing = known.can_undo()
-        if known and step and has is not None and has <= again.edits + len(again.made):
+            peer.undoing, peer.said = known.can_undo(), {number: of for number, (_, of) in known.said.items()}
+        if known and step and has is not None:
             pending = self._pending(units, again, known, step, has)
             if pending is not None:
+                self._go_on(peer, known.goes_on(), is_later=has == again.edits + len(again.made))
                 has = self._carried(peer, units, again, has, pending)
                 if has == again.edits + len(again.made):
                     self._tell_what_was_not_made(peer, again, known)
-                    return {"has": has}
-        return self._not_carried(peer, units, again, known, has)
+                    return {}
+        return self._not_carried(peer, units, again, found, has)
 
     def _pending(self, units: Units, again: Again, known: Remembered, step: InStep, has: int) -> Op | None:
         """What has to be done to the text that the editor shows with the edits that are there, so that it becomes the text of now; None
@@ -106,16 +115,28 @@ class Rejoining:
             site.close()
         return NamedText(shown.text, shown.names)
 
+    def _go_on(self, peer: Peer, noted: Line, is_later: bool) -> None:
+        """Have the editor's next key be undone with those before it, as without the engine's end. If it was typed before now, it isn't known
+        after how much silence; then that counts as none."""
+        if not noted:
+            return
+        (site, at), (keys, deleted) = noted["behind"], noted["keys"]
+        place = place_behind(self._session.site, (site, at))
+        if place is not None:
+            peer.coalescing.goes_on_at(place, keys, deleted, max(0, time.time() - noted["time"]) if is_later else 0)
+
     def _carried(self, peer: Peer, units: Units, again: Again, has: int, pending: Op) -> int:
         """Makes the edits that aren't there; the number of the last one that is there then."""
-        peer.transformer = Transformer.resumed(units, again.version, has, pending)
-        lines = [{"do": "edit", "version": again.version, "edits": again.edits + number, "changes": changes}
-                 for number, changes in enumerate(again.made, 1) if again.edits + number > has]
+        peer.transformer, peer.rejoins = Transformer.resumed(units, again.version, has, pending), True
+        lines = [{"do": "edit", "version": again.version, "edits": number, "changes": changes, **joins}
+                 for number, changes, joins in zip(count(again.edits + 1), again.made, again.joins) if number > has]
         try:
             has += self._made(peer, lines)
         except BaseException:
             peer.leave_text()
             raise
+        finally:
+            peer.rejoins = False
         if has == again.edits + len(again.made):
             self._remembering.carried(peer, (again.version, again.edits), again.made)
         return has
@@ -144,7 +165,11 @@ class Rejoining:
         self._remembering.in_step(peer)
         if self._remembering.trouble:
             peer.say(self._remembering.trouble)
-        return {"text": self._text.measured.text(), **({} if has is None else {"has": has})}
+        text = self._text.measured.text()
+        if _sha_256(text) == again.hash:
+            # Nothing is missing of what the editor shows, whatever is known of its edits.
+            has = again.edits + len(again.made)
+        return {"text": text, **({} if has is None else {"has": has})}
 
     @staticmethod
     def _tell_what_was_not_made(peer: Peer, again: Again, known: Remembered) -> None:
@@ -175,4 +200,8 @@ def _is_shown(text: NamedText, edits: Sequence[EditChanges], units: Units, wante
             text.edit(changes, units)
     except Wrong:
         return False
-    return hashlib.sha256(text.measured.text().encode()).hexdigest() == wanted
+    return _sha_256(text.measured.text()) == wanted
+
+
+def _sha_256(text: str) -> str:
+    return hashlib.sha256(text.encode()).hexdigest()

@@ -9,6 +9,8 @@ from share.text.names import Names
 
 # The most editors that are remembered, and the most steps of each.
 MOST_REMEMBERED, MOST_STEPS_OF_ONE = 100, 5_000
+# The most remarks, suggestions and replies of an editor that are remembered.
+MOST_ONCE = 100
 # An editor's changes: what is between two positions gives way to a text.
 EditChanges = Sequence[tuple[int, int, str]]
 SiteFront = dict[int, int]
@@ -24,15 +26,18 @@ class MadeMessages(NamedTuple):
 
 
 class KeptEdit(NamedTuple):
-    """An edit: its messages, the names of what it inserted, from the front of the text on, and whether all of it was made."""
+    """An edit: its messages, the names of what it inserted, from the front of the text on, whether all of it was made, and the checksum
+    of its changes as the editor sent them."""
 
     at: list[MadeMessages]
     new: list[Names]
     is_whole: bool
+    changes: int
 
     def as_line(self, editor: str, number: int) -> Line:
         """What a journal has of it."""
-        return {"of": editor, "edit": number, "at": self.at, "new": self.new, **({} if self.is_whole else {"partly": True})}
+        return {"of": editor, "edit": number, "at": self.at, "new": self.new, "sum": self.changes,
+                **({} if self.is_whole else {"partly": True})}
 
 
 class InStep(NamedTuple):
@@ -53,12 +58,25 @@ class Remembered:
     steps: dict[tuple[int, int], InStep] = field(default_factory=dict)
     # What was done that can be taken back, with the messages of that.
     undoing: list[tuple[list[MadeMessages], Line]] = field(default_factory=list)
+    # The remarks, suggestions and replies that it asked for, by the number that it gave to each: the messages and the id.
+    said: dict[int, tuple[list[MadeMessages], str]] = field(default_factory=dict)
+
+    def is_of(self, edits: int, checksums: Iterable[int]) -> bool:
+        """Whether all that is noted after an edit is what an editor says that it made since, given the checksums of these edits. It isn't
+        if another editor took the same name for itself."""
+        made = dict(enumerate(checksums, edits + 1))
+        return all(made.get(number) == edit.changes for number, edit in self.edits.items() if number > edits)
 
     def has_up_to(self, edits: int) -> int:
         """The number of its edits that are there, of those after a number."""
         while edits + 1 in self.edits:
             edits += 1
         return edits
+
+    def goes_on(self) -> Line:
+        """Return what is noted of the last edit so that the next key can be undone with it; nothing if no key can."""
+        line = self.undoing[-1][1] if self.undoing else {}
+        return {name: line[name] for name in ("keys", "behind", "time") if name in line}
 
     def can_undo(self) -> Undoing:
         """What it can take back."""
@@ -83,17 +101,23 @@ class Editors:
             self._fronts.append({site: seq for site, seq in line["front"]})
         if "unkept" in line:
             site, first = map(int, line["unkept"])
-            self._drop(lambda one: one.site == site and one.last >= first)
+            self._drop(lambda one: one.site == site and one.last >= first, counts="again" not in line)
         if "of" not in line:
             return
         if "gone" in line:
             self.of.pop(line["of"], None)
             return
-        one, at = self.of.setdefault(line["of"], Remembered()), [MadeMessages(*each) for each in line.get("at", ())]
+        # The editors stand in the order in which something was noted of them last.
+        one = self.of[line["of"]] = self.of.pop(line["of"], Remembered())
+        at = [MadeMessages(*each) for each in line.get("at", ())]
         if "edit" in line:
-            one.edits[line["edit"]] = KeptEdit(at, [Names(*each) for each in line["new"]], "partly" not in line)
+            one.edits[line["edit"]] = KeptEdit(at, [Names(*each) for each in line["new"]], "partly" not in line, line["sum"])
         if "undo" in line:
             one.undoing.append((at, line["undo"]))
+        if "is" in line:
+            one.said[line["once"]] = at, line["is"]
+        elif "once" in line:
+            one.said.pop(line["once"], None)
         if "step" in line:
             self._step(one, line)
 
@@ -103,32 +127,35 @@ class Editors:
         of_before, edits_before = line.get("as", (-1, 0))
         if before := one.steps.get((of_before, edits_before)):
             one.steps[version, edits] = InStep(before.front, before.edits, [*before.made, *made])
-        else:
+        elif "as" not in line:
             one.steps[version, edits] = InStep(len(self._fronts) - 1, edits - len(made), made)
 
-    def _drop(self, is_gone: Callable[[MadeMessages], bool]) -> None:
-        """Forgets that there are messages. An edit of which some weren't kept counts, and isn't made."""
+    def _drop(self, is_gone: Callable[[MadeMessages], bool], counts: bool) -> None:
+        """Forget that there are messages. An edit of which some are gone isn't made, and perhaps counts all the same."""
         for one in self.of.values():
-            for number, edit in one.edits.items():
+            for number, edit in [*one.edits.items()]:
                 if any(map(is_gone, edit.at)):
-                    one.edits[number] = KeptEdit([], [], False)
+                    del one.edits[number]
+                    if counts:
+                        one.edits[number] = KeptEdit([], [], False, edit.changes)
             one.undoing = [each for each in one.undoing if not any(map(is_gone, each[0]))]
 
-    def settle(self, is_kept: Callable[[MadeMessages], bool]) -> None:
-        """Decides which of the edits that an engine was making as it ended are kept: others are as if they had never come."""
+    def settle(self, now: SiteFront, is_kept: Callable[[MadeMessages], bool], is_said: Callable[[MadeMessages], bool]) -> None:
+        """Decide which of the edits, and of the messages of the margin, that an engine was making as it ended are kept: others are as if
+        they had never come. `now` is the front of what the note's file has, which may be less than was noted, for example after an older
+        file was put back."""
+        for one in self.of.values():
+            one.said = {number: said for number, said in one.said.items() if all(map(is_said, said[0]))}
         front = self.front(len(self._fronts) - 1)
         known = dict[MadeMessages, bool]()
 
         def is_gone(one: MadeMessages) -> bool:
-            if one.last <= front.get(one.site, 0):
-                return False
             if one not in known:
-                known[one] = not is_kept(one)
+                is_here = one.last <= now.get(one.site, 0)
+                known[one] = not (is_here and (one.last <= front.get(one.site, 0) or is_kept(one)))
             return known[one]
 
-        for one in self.of.values():
-            one.edits = {number: edit for number, edit in one.edits.items() if not any(map(is_gone, edit.at))}
-            one.undoing = [each for each in one.undoing if not any(map(is_gone, each[0]))]
+        self._drop(is_gone, counts=False)
 
     def front(self, number: int) -> SiteFront:
         """How many messages of each site a text was made of."""
@@ -145,7 +172,8 @@ class Editors:
         for editor, one in self.of.items():
             first = min((step.edits for step in one.steps.values()), default=0)
             yield from (edit.as_line(editor, number) for number, edit in sorted(one.edits.items()) if number > first)
-            yield {"of": editor, "undo": one.can_undo().as_line()}
+            yield {"of": editor, "undo": one.can_undo().as_line() | one.goes_on()}
+            yield from ({"of": editor, "once": number, "is": of, "at": at} for number, (at, of) in [*one.said.items()][-MOST_ONCE:])
         told, now = dict[int, int](), dict[int, int]()
         read = 0
         for number, editor, at, step in steps:

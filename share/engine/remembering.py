@@ -1,15 +1,18 @@
 """What an engine notes of its editors for the next one, before anybody can know of it."""
 import zlib
 from collections.abc import Callable, Iterable, Iterator, Sequence
+from contextlib import suppress
 
 from share.admission.ledger import Branch
 from share.admission.lines import Path
 from share.engine.editor import Peer
 from share.engine.journal import Journal, Unreadable
+from share.engine.protocol import ENCODER
 from share.engine.remembered import Editors, KeptEdit, MadeMessages, SiteFront, front_differing
 from share.format.history import Messages
 from share.format.operation import Operation
 from share.program.site import Site
+from share.review.record import MARGIN
 from share.sync.session import Session
 from share.text.line import Line
 from share.text.names import Names
@@ -59,12 +62,12 @@ class Remembering:
 
     def _begin(self, journal: Journal) -> None:
         """Decides at once what is there of what the last engine was making: its numbers may be used again from here on."""
-        editors = self.read()
-        editors.settle(self._is_kept)
-        front = self._fronts.now(self._session.site)
-        if editors.of:
-            journal.begin(editors.lines(front))
+        editors, front = self.read(), self.front()
+        editors.settle(front, self._is_kept, self._is_said)
+        if editors.of and journal.begin(editors.lines(front)):
             self._fronts.told = front
+        else:
+            journal.delete()
 
     def front(self) -> SiteFront:
         """How many messages of each site the text is made of now."""
@@ -78,20 +81,38 @@ class Remembering:
             self.trouble = f"What was noted of this editor isn't known, since {why}."
         except (KeyError, ValueError, TypeError, IndexError, StopIteration) as why:
             self.trouble = f"What was noted of this editor isn't known, since it is no journal ({why})."
+        if self._journal:
+            # The next step of an editor begins it again.
+            self._journal.stop()
         return Editors()
 
     def _is_kept(self, one: MadeMessages) -> bool:
-        """Whether messages are in the note's file, and are these."""
-        site = self._session.site
-        if self._fronts.now(site).get(one.site, 0) < one.last:
-            return False
+        """Whether messages of which the note's file has the numbers are these."""
         return one.checksum == checksum(self._session.message(one.site, seq) for seq in range(one.first, one.last + 1))
 
-    def edit(self, peer: Peer, made: Sequence[Sequence[Operation]] = (), undo: Line | None = None, is_whole: bool = True) -> None:
+    def _is_said(self, one: MadeMessages) -> bool:
+        """Whether messages are in the margin, and are these."""
+        with suppress(LookupError):
+            return one.checksum == checksum(self._session.message(one.site, seq, MARGIN) for seq in range(one.first, one.last + 1))
+        return False
+
+    def said(self, peer: Peer, number: int, of: str, messages: Sequence[Operation]) -> None:
+        """Note that messages of the margin, which aren't kept yet, are what an editor asks for by a number; `of` is the id."""
+        peer.said[number] = of
+        self._add([{"of": peer.editor, "once": number, "is": of, "at": _as_made(messages)}])
+
+    def unsaid(self, peer: Peer, number: int) -> None:
+        """Note that they weren't kept."""
+        if peer.said.pop(number, ""):
+            self._add([{"of": peer.editor, "once": number}])
+
+    def edit(self, peer: Peer, request: Line, made: Sequence[Sequence[Operation]] = (), undo: Line | None = None,
+             is_whole: bool = True) -> None:
         """Gathers what an editor's last edit made, change by change from the last one to the first."""
-        if peer.editor:
+        if peer.editor and (made or not peer.rejoins):
             new = [names for parts in reversed(made) for one in parts if (names := one.new)]
-            edit = KeptEdit(_as_made([one for parts in made for one in parts]), _joined_names(new), is_whole)
+            edit = KeptEdit(_as_made([one for parts in made for one in parts]), _joined_names(new), is_whole,
+                            changes_checksum(request["changes"]))
             self._gathered.append(edit.as_line(peer.editor, peer.transformer.edits) | ({"undo": undo} if undo else {}))
 
     def by_name(self, peer: Peer, messages: Sequence[Operation], undo: Line) -> None:
@@ -105,20 +126,26 @@ class Remembering:
         if lines:
             self._add(lines)
 
-    def forget_gathered(self) -> None:
-        """Forgets what was gathered, since it wasn't made."""
-        self._gathered.clear()
+    @property
+    def gathered(self) -> int:
+        """The number of lines that are gathered."""
+        return len(self._gathered)
 
-    def unkept(self, messages: Sequence[Operation]) -> None:
-        """Notes that messages weren't kept, so that others may be called the same."""
+    def forget_gathered(self, after: int = 0) -> None:
+        """Forgets what was gathered after some lines, since it wasn't made."""
+        del self._gathered[after:]
+
+    def unkept(self, peer: Peer, messages: Sequence[Operation]) -> None:
+        """Note that an editor's messages weren't kept, so that others may get their numbers. The edits count all the same. Exception: an
+        editor that is just opening again sends them again with its next request."""
         self.forget_gathered()
         if messages:
-            self._add([{"unkept": [messages[0].site, messages[0].seq]}])
+            self._add([{"unkept": [messages[0].site, messages[0].seq], **({"again": True} if peer.rejoins else {})}])
 
     def forgets(self, peer: Peer) -> None:
-        """Notes that an editor can take nothing back."""
+        """Note that an editor can take nothing back. One that is just opening again reads from the journal what it can."""
         peer.undoing.forget()
-        if peer.editor:
+        if peer.editor and not peer.rejoins:
             self._add([{"of": peer.editor, "undo": {"forgets": True}}])
 
     def comes(self, peer: Peer) -> None:
@@ -130,7 +157,7 @@ class Remembering:
     def in_step(self, peer: Peer) -> None:
         """Notes that an editor that takes over what it is sent now shows the text as it is."""
         at = peer.transformer.version, peer.transformer.edits
-        if peer.editor and at != peer.in_step_at and not self.is_behind():
+        if peer.editor and at != peer.in_step_at and not self.is_behind() and self._makes_room():
             peer.in_step_at = at
             more = self._fronts.more(self._session.site)
             self._add([{"of": peer.editor, "step": at, **({"front": more} if more else {})}])
@@ -145,31 +172,29 @@ class Remembering:
 
     def gone(self, editor: str) -> None:
         """Forgets an editor."""
-        if self._journal and self._journal.is_open:
-            self._add([{"of": editor, "gone": True}])
+        self._add([{"of": editor, "gone": True}])
 
     def _add(self, lines: list[Line]) -> None:
-        """Writes lines; where there is no journal it is begun first, with what is known."""
-        journal = self._journal
-        if not journal:
-            return
-        if not journal.is_open and not self._begins_again(journal):
-            return
-        if not journal.add(lines):
-            # Nothing that is known is of use to an editor any more, but from its next step on.
-            self._fronts.told = {}
-            for peer in self._peers:
-                peer.in_step_at = None
-        elif journal.is_long:
-            journal.begin(self.read().lines(self._fronts.told))
+        """Append lines, if the journal is open. If they can't be written there is no journal until the next step of an editor."""
+        if self._journal and self._journal.is_open and not self._journal.add(lines):
+            self._forget_steps()
 
-    def _begins_again(self, journal: Journal) -> bool:
-        now = self._fronts.now(self._session.site)
-        undo: Iterable[Line] = ({"of": peer.editor, "undo": peer.undoing.as_line()} for peer in self._peers if peer.editor)
-        if not journal.begin([{"front": [*now.items()]}, *undo]):
-            return False
-        self._fronts.told = now
-        return True
+    def _forget_steps(self) -> None:
+        """Have each editor's next step be noted in full, because no earlier one is in the journal."""
+        self._fronts.told = {}
+        for peer in self._peers:
+            peer.in_step_at = None
+
+    def _makes_room(self) -> bool:
+        """Begin the journal if it isn't open, and write it again if it is long; return whether it is open. All that was made is kept by
+        now, so the lines of undo that are written here need no check whether it is."""
+        journal = self._journal
+        if journal and journal.is_open and journal.is_long and (editors := self.read()).of:
+            journal.begin(editors.lines(self._fronts.told))
+        if journal and not journal.is_open:
+            self._forget_steps()
+            journal.begin({"of": peer.editor, "undo": peer.undoing.as_line()} for peer in self._peers if peer.editor)
+        return journal is not None and journal.is_open
 
     def close(self) -> None:
         """Ends; the journal stays as long as an editor may come again."""
@@ -192,6 +217,11 @@ def _last_of_each(messages: Messages) -> Iterator[tuple[int, int]]:
 def checksum(messages: Iterable[Operation]) -> int:
     """What tells messages from others of the same numbers."""
     return zlib.crc32(b"".join(spelling for one in messages for spelling in one.spellings()))
+
+
+def changes_checksum(changes: object) -> int:
+    """What tells the changes of an edit from others of the same number."""
+    return zlib.crc32(ENCODER.encode(changes).encode("utf-8", "replace"))
 
 
 def _as_made(messages: Sequence[Operation]) -> list[MadeMessages]:

@@ -1,6 +1,7 @@
 """What editors ask about the margin: what is remarked and suggested where, and what is to be written of it."""
 import gc
 from collections.abc import Callable, Iterable
+from functools import wraps
 from itertools import islice
 from weakref import WeakSet
 
@@ -13,7 +14,9 @@ from share.engine.gaps import rewrite_of
 from share.engine.history import History
 from share.engine.margin_writing import MarginWriting
 from share.engine.margins import MOST_ORDERED_AT_ONCE, FoundThread, ShownMargin, Stood
+from share.engine.places import name_before
 from share.engine.protocol import Wrong
+from share.engine.remembering import Remembering
 from share.engine.shared_text import SharedText
 from share.engine.thread_lines import MOST_PAGE, ToldTo, thread_lines
 from share.program.site import Edited, Site
@@ -46,21 +49,34 @@ class Range:
         self.begin, self.end = change.moved(self.begin), change.moved(self.end)
 
 
+Writes = Callable[["Reviewing", Peer, Line], Line]
+
+
+def _once(name: str) -> Callable[[Writes], Writes]:
+    """Answer a request whose words an engine has written already with the id of these, and don't write them twice."""
+    def around(writes: Writes) -> Writes:
+        @wraps(writes)
+        def written(reviewing: "Reviewing", peer: Peer, request: Line) -> Line:
+            number = protocol.once_of(request)
+            return {name: peer.said[number]} if number in peer.said else writes(reviewing, peer, request)
+        return written
+    return around
+
+
 class Reviewing:
     """The requests about the margin. The engine's thread alone calls it."""
 
     def __init__(self, session: Session, text: SharedText, arrivals: Arrivals, by_name: ByName, history: History,
-                 answer: Callable[[Peer, Line, Line], None]):
+                 answer: Callable[[Peer, Line, Line], None], remembering: Remembering):
         self._session, self._text, self._arrivals, self._answer = session, text, arrivals, answer
         self.shown = ShownMargin(session)
-        self._writing = MarginWriting(session, arrivals, self.shown)
+        self._writing = MarginWriting(session, arrivals, self.shown, remembering)
         self._accepting, self._history = Accepting(session, text, arrivals, by_name, self._writing), history
         # The stretches that are asked for and not answered yet; and what is done once all is looked at.
         self._ranges, self._waiting = WeakSet[Range](), list[Callable[[], None]]()
         # Whether some of what came is still to be looked at.
         self.has_more = False
-        self._of_a_thread = dict(zip(OF_A_THREAD, (
-            self._reply, *(self._state for _ in STATES), self._revise, self._withdraw, self._accept)))
+        self._of_a_thread = dict(zip(OF_A_THREAD, (self._reply, *[self._state] * len(STATES), self._revise, self._withdraw, self._accept)))
 
     def moved(self, change: Change, names: list[Names] | None) -> None:
         """Follows a change of the text."""
@@ -162,13 +178,16 @@ class Reviewing:
 
     # What is written.
 
+    @_once("thread")
     def remark(self, peer: Peer, request: Line) -> Line:
         """Does the request `remark`."""
         body = _body(request, may_be_empty=False)
         anchor = self._anchor(peer, request)
         self._arrivals.check_typing()
-        return {"thread": _id(self._writing.write(self._writing.record(MarginKind.REMARK, peer)._replace(body=body, anchor=anchor)))}
+        record = self._writing.record(MarginKind.REMARK, peer)._replace(body=body, anchor=anchor)
+        return {"thread": self._writing.write_once(peer, request, record)}
 
+    @_once("thread")
     def suggest(self, peer: Peer, request: Line) -> Line:
         """Does the request `suggest`: types the replacement inside what it would replace, hides it, and writes of it."""
         new = swapped(protocol.string(request, "new").encode())
@@ -185,7 +204,7 @@ class Reviewing:
         names = self._typed_hidden(rewrite.begin + rewrite.inside, new) if new else []
         anchor = anchored(anchor.at, anchor.behind, names, anchor.text, self._session.margin.knows())
         record = self._writing.record(MarginKind.SUGGESTION, peer)._replace(body=body, anchor=anchor, new=tuple(names))
-        return {"thread": _id(self._writing.write(record, names[0].site if names else None))}
+        return {"thread": self._writing.write_once(peer, request, record, names[0].site if names else None)}
 
     def _typed_hidden(self, place: int, data: bytes) -> list[Names]:
         """Types bytes at a place and hides them, as one edit; their names."""
@@ -207,12 +226,13 @@ class Reviewing:
         self._check()
         return self.after_look(peer, request, lambda: self._of_a_thread[request["do"]](peer, request))
 
+    @_once("record")
     def _reply(self, peer: Peer, request: Line) -> Line:
         """Does the request `reply`."""
         body = _body(request, may_be_empty=False)
         name = self._thread_name(request)
         record = self._writing.record(MarginKind.REPLY, peer)._replace(body=body, of=self._session.margin.said.ref(name))
-        return {"record": _id(self._writing.write(record))}
+        return {"record": self._writing.write_once(peer, request, record)}
 
     def _state(self, peer: Peer, request: Line) -> Line:
         """Does the requests `resolve`, `reopen` and `reject`."""
@@ -282,7 +302,7 @@ class Reviewing:
         site = self._session.site
         at = [one for stretch in seen for one in site.names(*stretch)]
         text = b"".join(self._text.measured.slice(*stretch) for stretch in seen)
-        return anchored(at, None if at else _name_before(site, begin), [], readable(swapped(text))[:MOST_SELECTED],
+        return anchored(at, None if at else name_before(site, begin), [], readable(swapped(text))[:MOST_SELECTED],
                         self._session.margin.knows())
 
     def _thread_name(self, request: Line) -> Name:
@@ -304,12 +324,6 @@ def _wanted_threads(shown: ShownMargin, found: list[FoundThread], within: Range 
         some = [one for one in shown.in_places(found) if one.spot.meets(within.begin, within.end) and is_wanted(one)]
         return some, len(some)
     return filter(is_wanted, shown.in_order()), shown.counts()[only_open]
-
-
-def _name_before(site: Site, place: int) -> Name:
-    """The character before a place, (0, 0) at the front."""
-    before = site.names(place - 1, place) if place else []
-    return (before[0].site, before[0].at) if before else (0, 0)
 
 
 def _seen_of(text: SharedText, peer: Peer, request: Line) -> list[tuple[int, int]]:
@@ -338,10 +352,6 @@ def _body(request: Line, may_be_empty: bool = True) -> str:
     if not (may_be_empty or body.strip()):
         raise Wrong("field", "body has to have words.")
     return body
-
-
-def _id(name: Name) -> str:
-    return f"{name[0]}:{name[1]}"
 
 
 def _name_in(request: Line) -> Name:

@@ -48,7 +48,7 @@ class SharedNote:
         self.history = History(session, self.text, self.authors, wake, answer)
         self.looked = PersonsLooks(name, session, clock)
         self.changes = Changes(session, self.text, self.authors, self.looked, self.history.answer_when_done)
-        self.reviewing = Reviewing(session, self.text, self.arrivals, self.by_name, self.history, answer)
+        self.reviewing = Reviewing(session, self.text, self.arrivals, self.by_name, self.history, answer, self.remembering)
 
     def take_in(self) -> None:
         """Takes in what came from others, and answers what has been done meanwhile."""

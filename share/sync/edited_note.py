@@ -98,9 +98,9 @@ class EditedNote:
         """All messages of a text that count, each after its causes."""
         return self._holdings.judge.let_through_in_order(text)
 
-    def message(self, site: int, seq: int) -> Operation:
-        """A message of the first text that counts."""
-        return self._holdings.judge.message(site, seq)
+    def message(self, site: int, seq: int, text: int = TEXT) -> Operation:
+        """A message of a text that counts; LookupError if there is none."""
+        return self._holdings.judge.message(site, seq, text)
 
     @property
     def identity(self) -> bytes:

@@ -2,7 +2,7 @@
 there. Nothing of it is read before somebody asks."""
 import contextlib
 import math
-from collections.abc import Callable, Iterator
+from collections.abc import Callable, Iterator, Sequence
 
 from share.format.history import Messages
 from share.format.operation import TEXT, Operation
@@ -21,6 +21,9 @@ from share.text.names import Name
 NO_MARGIN = "This note has no margin: bin/note renew NAME --form 2 makes one of it that has, with its history."
 NOT_HERE = "That was written under number {}, which isn't yours to write under any more, so it stays as it is. Answer it instead."
 IN_USE = "That was written under number {}, which another editor of yours has now. Quit that, or do it there."
+
+
+Notes = Callable[[Name, Sequence[Operation]], None]
 
 
 class NotOwn(Exception):
@@ -93,17 +96,17 @@ class OpenMargin:
         """Goes on under another number now where this one has no room for this many characters and what is said of them."""
         self._texts[TEXT].edits.make_room(length)
 
-    def write(self, record: MarginRecord, site: int | None = None) -> Name:
+    def write(self, record: MarginRecord, site: int | None = None, notes: Notes = lambda name, made: None) -> Name:
         """Writes a record, and what goes on with it, as one edit; under this editor's number, or under that one of this person's which is
-        given."""
+        given. `notes` is called with its name and messages before they are kept."""
         if site is None or site == self._numbers.own.site:
-            return self._written(self._texts[MARGIN].edits, record, site)
+            return self._written(self._texts[MARGIN].edits, record, site, notes)
         with self._under(site) as edits:
-            name = self._written(edits, record, site)
+            name = self._written(edits, record, site, notes)
         self._texts[MARGIN].replica.take_in(math.inf, False)
         return name
 
-    def _written(self, edits: OwnEdits, record: MarginRecord, number: int | None) -> Name:
+    def _written(self, edits: OwnEdits, record: MarginRecord, number: int | None, notes: Notes) -> Name:
         names, refused = list[Name](), list[int]()
 
         def work(site: Site) -> Edited:
@@ -118,6 +121,7 @@ class OpenMargin:
                     refused.append(edited.refused)
                     raise Refused(edited.refused)
                 made += edited.messages
+            notes(names[-1], made)
             return Edited(made)
 
         try:

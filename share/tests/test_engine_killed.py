@@ -1,9 +1,10 @@
-"""The engine of Emacs, of Emacs with Evil, and of Neovim is killed amid typing: typing goes on, and each key is kept once, in its order."""
+"""The engine of the terminal's editor, of Emacs, of Emacs with Evil, and of Neovim is killed amid typing: typing goes on, and each key is
+kept once, in its order."""
 import random
 
 from share.tests.killing import Kills, rounds_and_plants
 from share.tests.support import Case
-from share.tests.writers import Emacs, EvilEmacs, Neovim, Writer
+from share.tests.writers import Emacs, EvilEmacs, Neovim, OwnEditor, Writer
 
 ROUNDS = 3
 
@@ -23,6 +24,9 @@ class EngineKilled(Case):
         writer = kind(self, "ada", "")
         self.addCleanup(writer.close)
         self.rounds(Kills(writer, random.Random(self.seed)))
+
+    def test_in_the_terminal(self) -> None:
+        self.typed(OwnEditor)
 
     def test_in_emacs(self) -> None:
         self.typed(Emacs)

@@ -1,5 +1,6 @@
 """An editor in Python does with lines what the vectors say, in each of the units; and so does the engine with edits that cross, and with
 what it is asked about a review."""
+import hashlib
 import json
 import os
 import pathlib
@@ -11,6 +12,7 @@ from unittest import mock
 
 from share.editors.mirror import Mirror
 from share.editors.note import EngineNote
+from share.editors.saying import Saying
 from share.editors.since import NoteChanges
 from share.editors.suggesting import Gathered, Gathering, Meant
 from share.editors.threads import NoteThreads
@@ -33,6 +35,7 @@ class Placed(Mirror):
         super().__init__(opened, send, units, clock)
         self.note = EngineNote.__new__(EngineNote)
         self.note.threads, self.note.changes, self.note.gathering = NoteThreads(), NoteChanges(), Gathering()
+        self.note.saying = Saying(lambda request: request, lambda: True)
         self.note.text, self.note.cursor, self.note.top, self.note.anchor = bytearray(swapped(self.text.encode())), 0, 0, None
 
     def follow(self, begin: int, end: int, data: bytes) -> None:
@@ -87,6 +90,38 @@ class Vectors(unittest.TestCase):
             has = {"text": mirror.text, "version": mirror.version, "made": mirror.made, "types": mirror.state.get("types"),
                    "words": mirror.words, "cursor": mirror.cursor, "cursors": mirror.cursors,
                    "looks": mirror.looks, "place": mirror.place()}
+            then = step.get("then", {})
+            self.assertEqual({name: has[name] for name in then}, then, step)
+
+    def test_an_editor_opens_again_as_the_vectors_say(self) -> None:
+        cases = json.loads((VECTORS / "again.json").read_text(encoding="utf-8"))["cases"]
+        for case in cases:
+            for units in UNITS.values():
+                with self.subTest(case["name"], units=units.name):
+                    self.play_again(case, units)
+        self.assertGreater(len(cases), 15)
+
+    def play_again(self, case: Line, units: Units) -> None:
+        """Plays a case of an engine that ends."""
+        sent: list[Line] = []
+        mirror = Placed(case["open"], sent.append, units, lambda: 0.0)
+        for step in case["steps"]:
+            if "user" in step:
+                mirror.edit(step["user"])
+            elif "line" in step:
+                mirror.take(step["line"])
+            elif "away" in step:
+                mirror.left()
+            elif "opens" in step:
+                shown = hashlib.sha256(step["shows"].encode()).hexdigest()
+                self.assertEqual(mirror.again(), {**step["opens"], "hash": shown}, step)
+            else:
+                unmade = mirror.opened_again(step["opened"])
+                self.assertEqual(unmade, step.get("unmade", unmade), step)
+            if "sends" in step:
+                self.assertEqual(sent, step["sends"], step)
+                sent.clear()
+            has = {"text": mirror.text, "version": mirror.version, "made": mirror.made}
             then = step.get("then", {})
             self.assertEqual({name: has[name] for name in then}, then, step)
 

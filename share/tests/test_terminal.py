@@ -336,12 +336,11 @@ class Terminals(Case):
         one.type("def")
         one.shows("abcdef")
         wait_for(lambda: self.person("data").text("diary") == b"abcdef", "what was typed since to be kept by the next one")
-        one.press("C-z")
-        one.shows("abc")
+        # These keys are taken back together, as without the engine's end.
         one.press("C-z")
         one.shows()
         one.press("C-y")
-        one.shows("abc")
+        one.shows("abcdef")
         one.press("C-s")
         one.sees("Save as: diary.txt")
         one.press(*["BSpace"] * len("diary.txt"))
@@ -349,10 +348,10 @@ class Terminals(Case):
         one.type(str(saved))
         one.press("Enter")
         one.sees("Saved as")
-        self.assertEqual(saved.read_text(), "abc")
+        self.assertEqual(saved.read_text(), "abcdef")
         one.press("C-q")
         one.sees("status 0")
-        self.assertEqual(self.note("diary", "--print").stdout, "abc")
+        self.assertEqual(self.note("diary", "--print").stdout, "abcdef")
 
     def test_a_program_that_hangs(self) -> None:
         hangs, file = self.folder / "hangs", self.folder / "saved.txt"

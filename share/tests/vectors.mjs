@@ -1,5 +1,5 @@
-// Runs what share/engine/vectors has of an editor that counts in UTF-16 by the page's client: lines, what is remarked, and typing that
-// suggests.
+// Runs what share/engine/vectors has of an editor that counts in UTF-16 by the page's client: lines, what it says as it opens a note again,
+// what is remarked, and typing that suggests.
 import assert from "node:assert/strict";
 import { readFileSync } from "node:fs";
 import "./codemirror.mjs";
@@ -19,6 +19,7 @@ class Shown {
   cursor = null;
   cursors = [];
   looks = [];
+  unmade = [];
   words = "";
   state = {};
 
@@ -63,7 +64,7 @@ function viewOf(shown, remarks = () => undefined) {
     looks(list) { shown.looks = list; },
     state(line) { shown.state = line; },
     say(words) { shown.words = words; },
-    refused(words) { shown.words = words; },
+    refused(words, changes) { Object.assign(shown, { words, unmade: changes }); },
     remarks,
     answered() {},
   };
@@ -82,6 +83,13 @@ function does(step, client, shown) {
     assert.equal(client.waits(), step.waits);
   } else if ("patience" in step) {
     client.gaveUp();
+  } else if ("away" in step) {
+    client.away();
+  } else if ("opens" in step) {
+    assert.deepEqual([client.again(), shown.text], [step.opens, step.shows]);
+  } else if ("opened" in step) {
+    client.back(step.opened);
+    assert.deepEqual(shown.unmade, (step.unmade ?? [shown.unmade]).flat());
   } else {
     assert.fail("no such step");
   }
@@ -217,7 +225,7 @@ async function run(name, test) {
   }
 }
 
-const cases = casesOf("client").filter((one) => ["any", "utf-16"].includes(one.units));
+const cases = [...casesOf("client"), ...casesOf("again")].filter((one) => ["any", "utf-16"].includes(one.units));
 for (const one of cases) await run(one.name, () => play(one));
 const [suggesting, remarked] = [casesOf("suggesting"), casesOf("remarks")];
 for (const one of suggesting) await run(one.name, () => gathers(one));

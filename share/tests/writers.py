@@ -92,6 +92,8 @@ SELECTING = """((word) => {
 })(arguments[0])""".replace("MIRROR", MIRROR)
 DELETING = SELECTING.replace("DOES", f'{MIRROR}.execCommand("delCharAfter");')
 
+# What the terminal's editor says while its engine is away.
+IS_AWAY = "The note's engine ended."
 # With what lines of a thread that is looked at begin in the terminal, and its keys.
 OF_A_THREAD = "  | "
 THREAD_KEYS = {"reply": "r", "resolve": "d", "accept": "a", "reject": "x"}
@@ -365,7 +367,8 @@ class OwnEditor(InTerminal):
                 raise Silent(f"{path} isn't saved")
             time.sleep(0.01)
         try:
-            return State(path.read_text(encoding="utf-8"), True, True, str(self._process))
+            is_away = any(IS_AWAY in line for line in self.terminal.lines())
+            return State(path.read_text(encoding="utf-8"), not is_away, not is_away, f"{self._process} at {self._engine()}")
         finally:
             path.unlink()
 
@@ -418,9 +421,15 @@ class OwnEditor(InTerminal):
     def undo(self) -> None:
         self.press("C-z")
 
+    def _engine(self) -> int:
+        """The process of the engine; 0 if there is none, and then the terminal says so soon."""
+        with contextlib.suppress(IndexError, FileNotFoundError):
+            return engine_of(self.data)
+        return 0
+
     def goes_on(self) -> bool:
-        # Where the engine has ended it says so, and is to be left.
-        return False
+        self.terminal.press("Escape", "Escape", "Escape")
+        return alive(self._process)
 
 
 class Emacs(InTerminal):

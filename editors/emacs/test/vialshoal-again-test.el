@@ -9,6 +9,8 @@
 
 (require 'vialshoal-support)
 (require 'vialshoal-again)
+(require 'vialshoal-review)
+(require 'vialshoal-suggesting)
 
 (defmacro vialshoal-again-test-with (text &rest body)
   "Run BODY in a note of TEXT, whose engine can end."
@@ -45,7 +47,7 @@
   "Return what is sent of a step at VERSION and EDITS, TEXT, and edits MADE."
   (list :version version :edits edits
         :hash (secure-hash 'sha256 (encode-coding-string text 'utf-8-unix))
-        :made made))
+        :made (mapcar (lambda (changes) (list :changes changes)) made)))
 
 (ert-deftest vialshoal-again-test-typing-goes-on ()
   (vialshoal-again-test-with "tea\n"
@@ -133,7 +135,7 @@
     (let ((made (plist-get (plist-get (vialshoal-again-test--starts) :again)
                            :made)))
       (should (= (length made) 11))
-      (should (equal (car (last made)) '((0 0 "a") (0 0 "a")))))))
+      (should (equal (car (last made)) '(:changes ((0 0 "a") (0 0 "a"))))))))
 
 (ert-deftest vialshoal-again-test-how-edits-join-is-kept ()
   (vialshoal-again-test-with "tea\n"
@@ -147,6 +149,68 @@
                                                 (plist-get line :join)))
                            (vialshoal-support--sent))
                    '(((:join nil) nil) ((:join t) t))))))
+
+(ert-deftest vialshoal-again-test-an-opening-says-how-edits-join ()
+  (vialshoal-again-test-with "tea\n"
+    (vialshoal--ended nil)
+    (setq vialshoal--joins 'begins)
+    (vialshoal-again-test--types "a" 0)
+    (vialshoal-again-test--types "b")
+    (should (equal (plist-get (plist-get (vialshoal-again-test--starts) :again)
+                              :made)
+                   '((:changes ((0 0 "a")) :join nil)
+                     (:changes ((1 1 "b")) :join t))))))
+
+(defun vialshoal-again-test--said ()
+  "Return the requests of the margin that were sent."
+  (mapcar (lambda (line)
+            (mapcar (lambda (key) (plist-get line key))
+                    '(:do :version :begin :end :once)))
+          (cl-remove-if-not (lambda (line) (plist-member line :once))
+                            (vialshoal-support--sent))))
+
+(ert-deftest vialshoal-again-test-what-was-said-is-asked-for-again ()
+  "By the same numbers, with the places of then."
+  (vialshoal-again-test-with "tea and jam\n"
+    (let (kill-ring)
+      (vialshoal-remark 5 8 "Why?")
+      (vialshoal-suggest 9 12 "honey")
+      (vialshoal-reply '(:id "7:1") "Because.")
+      (should (equal (vialshoal-again-test--said)
+                     '(("remark" 0 4 7 1) ("suggest" 0 8 11 2)
+                       ("reply" nil nil nil 3))))
+      (vialshoal--ended nil)
+      (should-not (string-match-p "repeat it" vialshoal--words))
+      (vialshoal-again-test--types "> " 0)
+      (vialshoal-again-test--starts)
+      (vialshoal-again-test--answers :version 1 :edits 1)
+      (should (equal (vialshoal-again-test--said)
+                     '(("remark" 1 6 9 1) ("suggest" 1 10 13 2)
+                       ("reply" nil nil nil 3))))
+      (vialshoal-support--take :answer "remark" :id (- vialshoal--asked 2)
+                               :thread "7:2")
+      ;; The next engine shows another text: the words are kept.
+      (vialshoal--ended nil)
+      (vialshoal-again-test--starts)
+      (vialshoal-again-test--answers :text "> tea and jam\n!" :version 3
+                                     :edits 1)
+      (should-not (vialshoal-again-test--said))
+      (should (equal kill-ring '("honey\n\nBecause."))))))
+
+(ert-deftest vialshoal-again-test-what-is-suggested-by-typing-keeps-its-number ()
+  (vialshoal-again-test-with "tea and jam\n"
+    (let ((vialshoal-suggesting--pause 1000))
+      (vialshoal-suggesting--begin 5 8 "or")
+      (vialshoal-suggesting--finish)
+      (should (equal (vialshoal-again-test--said) '(("suggest" 0 4 7 1))))
+      (vialshoal--ended nil)
+      (vialshoal-again-test--starts)
+      (vialshoal-again-test--answers :version 1 :edits 0)
+      (vialshoal-suggesting--finish)
+      (should (equal (vialshoal-again-test--said) '(("suggest" 1 4 7 1))))
+      (vialshoal-suggesting--begin 9 12 "honey")
+      (vialshoal-suggesting--finish)
+      (should (equal (vialshoal-again-test--said) '(("suggest" 1 8 11 2)))))))
 
 (ert-deftest vialshoal-again-test-what-is-not-carried-over-is-put-back ()
   (dolist (case '((nil "one two") (1 "two") (2 nil)))
@@ -300,6 +364,43 @@
       (vialshoal-mode -1))
     (should (equal (vialshoal-support--text "*picnic as it was here*") "atea\n"))
     (kill-buffer "*picnic as it was here*")))
+
+(ert-deftest vialshoal-again-test-an-emacs-that-is-ended-leaves-the-words ()
+  "In a file that only the user reads; the next opening says where."
+  (let* ((data (make-temp-file "vialshoal" t))
+         (process-environment (cons (concat "VIALSHOAL_DATA=" data)
+                                    process-environment)))
+    (unwind-protect
+        (progn
+          (vialshoal-again-test-with "tea\n"
+            (vialshoal-again-test--types "sent " 0)
+            (vialshoal-support--take :answer "edit" :edits 1 :version 0)
+            (vialshoal--ended nil)
+            (vialshoal-again-test--types "漢🍰" 5)
+            (cl-letf (((symbol-function 'vialshoal-again--wait) #'ignore))
+              (vialshoal--close-all))
+            (kill-buffer "*picnic as it was here*"))
+          (let* ((left (expand-file-name "left" data))
+                 (files (directory-files left t "\\`picnic-.*\\.txt\\'")))
+            (should (= 1 (length files)))
+            (should (= #o600 (file-modes (car files))))
+            (should (equal "漢🍰" (with-temp-buffer
+                                  (insert-file-contents (car files))
+                                  (buffer-string))))
+            (vialshoal-again-test-with "tea\n"
+              (vialshoal--send-open nil)
+              (vialshoal-again-test--answers :text "tea\n" :version 0 :edits 0
+                                             :units "utf-32")
+              (should (string-search (car files) vialshoal--words)))
+            (delete-file (car files))
+            (vialshoal-again-test-with "tea\n"
+              (setq vialshoal--words nil)
+              (vialshoal--send-open nil)
+              (vialshoal-again-test--answers :text "tea\n" :version 0 :edits 0
+                                             :units "utf-32")
+              (should-not (and vialshoal--words
+                               (string-search "left" vialshoal--words))))))
+      (delete-directory data t))))
 
 ;;;; Edits that the note doesn't take
 

@@ -46,11 +46,11 @@
      told))
 
 (defun vialshoal-review-test--sent ()
-  "Return the only line that was sent, without its number."
+  "Return the only line that was sent, without its numbers."
   (let ((lines (vialshoal-support--sent)))
     (should (= (length lines) 1))
     (cl-loop for (key value) on (car lines) by #'cddr
-             unless (eq key :id) nconc (list key value))))
+             unless (memq key '(:id :once)) nconc (list key value))))
 
 (defun vialshoal-review-test--marks ()
   "Return where threads are shown, and by what face, in their order."

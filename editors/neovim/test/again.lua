@@ -1,6 +1,7 @@
 --- With no engine: what is sent to the next one as an engine ends, what each of its answers does, and what becomes of
 --- edits that the note doesn't take.
 local again = require('vialshoal.again')
+local review = require('vialshoal.review')
 local fake = require('test.fake')
 local support = require('test.support')
 
@@ -28,7 +29,8 @@ local function answers(note, line)
 end
 
 local function wanted(version, edits, text, made)
-  return { version = version, edits = edits, hash = vim.fn.sha256(text), made = made }
+  local given = vim.tbl_map(function(changes) return { changes = changes } end, made)
+  return { version = version, edits = edits, hash = vim.fn.sha256(text), made = given }
 end
 
 test('the hash of a text is its SHA-256', function()
@@ -129,7 +131,7 @@ test('what waits to be sent is one edit', function()
   note:engine_ended()
   local made = starts(note).made
   same(11, #made)
-  same({ { 0, 0, 'a' }, { 0, 0, 'a' } }, made[11])
+  same({ changes = { { 0, 0, 'a' }, { 0, 0, 'a' } } }, made[11])
 end)
 
 test('how edits join is kept', function()
@@ -141,6 +143,46 @@ test('how edits join is kept', function()
   puts(note, 'b', 1)
   answers(note, { version = 1, edits = 0 })
   same({ false, true }, vim.tbl_map(function(line) return line.join end, fake.sent(note)))
+end)
+
+test('an opening says how edits join', function()
+  local note = fake.with('tea\n')
+  note:engine_ended()
+  note:begin_unit()
+  puts(note, 'a', 0)
+  puts(note, 'b', 1)
+  same({ { changes = { { 0, 0, 'a' } }, join = false }, { changes = { { 1, 1, 'b' } }, join = true } }, starts(note).made)
+end)
+
+--- The requests of the margin that were sent.
+local function said(note)
+  local found = {}
+  for _, line in ipairs(fake.all_sent(note)) do
+    if line.once then
+      table.insert(found, { line['do'], line.version, line.begin or 0, line['end'] or 0, line.once })
+    end
+  end
+  return found
+end
+
+test('what was said is asked for again', function()
+  local note = fake.with('tea and jam\n')
+  review.say(note, { ['do'] = 'remark', version = 0, begin = 4, ['end'] = 7, body = 'Why?' }, 'Why?')
+  review.say(note, { ['do'] = 'suggest', version = 0, begin = 8, ['end'] = 11, new = 'honey' }, 'honey')
+  same({ { 'remark', 0, 4, 7, 1 }, { 'suggest', 0, 8, 11, 2 } }, said(note))
+  same(false, note:engine_ended())
+  review.ended(note)
+  puts(note, '> ', 0)
+  starts(note)
+  answers(note, { version = 1, edits = 1 })
+  same({ { 'remark', 1, 6, 9, 1 }, { 'suggest', 1, 10, 13, 2 } }, said(note))
+  note:take({ answer = 'remark', id = note.asked - 1, thread = '7:2' })
+  -- The next engine shows another text: the words are kept.
+  note:engine_ended()
+  starts(note)
+  answers(note, { text = '> tea and jam\n!', version = 3, edits = 1 })
+  same({}, said(note))
+  same('honey', vim.fn.getreg('"'))
 end)
 
 test('what is not carried over is put back', function()

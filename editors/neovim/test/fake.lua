@@ -36,10 +36,19 @@ function M.with(words)
 end
 
 --- What was sent since this was asked last.
-function M.sent(note)
+function M.all_sent(note)
   local sent = note.sent
   note.sent = {}
   return sent
+end
+
+--- The same without the numbers of what is said once.
+function M.sent(note)
+  return vim.tbl_map(function(line)
+    local found = vim.tbl_extend('force', {}, line)
+    found.once = nil
+    return found
+  end, M.all_sent(note))
 end
 
 --- The changes of what was sent.

@@ -70,7 +70,8 @@ export class Client {
   #busyFrom = 0;
   #notices = 0;
   #gathered = [];
-  // When this editor was last in step with the engine, and the changes of each edit since then. An editor of a note that answers here has none.
+  // When this editor was last in step with the engine, and its edits since then, as they are sent. An editor of a note that answers here has
+  // none.
   #inStep;
   #since = [];
   #isAway = false;
@@ -110,8 +111,9 @@ export class Client {
     this.made += 1;
     this.#notices = 0;
     this.#unanswered.push({ edits: this.made, changes, place: changes[0][0] });
-    if (!this.#isHere) this.#since.push(changes);
-    if (!this.#isAway) this.#send({ do: "edit", version: this.version, edits: this.made, changes, ...more });
+    const edit = { changes, ...more };
+    if (!this.#isHere) this.#since.push(edit);
+    if (!this.#isAway) this.#send({ do: "edit", version: this.version, edits: this.made, ...edit });
   }
 
   /** The text was changed: places of what isn't answered go along. */
@@ -172,7 +174,7 @@ export class Client {
     const { version, edits } = opened;
     this.#since = this.#since.slice(edits - this.#inStep.edits);
     [this.version, this.#inStep, this.#busyFrom] = [version, { version, edits }, this.#clock()];
-    this.#since.forEach((changes, at) => this.#send({ do: "edit", version, edits: edits + 1 + at, changes }));
+    this.#since.forEach((edit, at) => this.#send({ do: "edit", version, edits: edits + 1 + at, ...edit }));
     this.#answered({ edits });
     this.#flush();
   }

@@ -107,7 +107,7 @@ function M.to_carry_over(note)
   end
   local made = {}
   for _, edit in ipairs(note:edits_after(note.step.edits)) do
-    table.insert(made, edit.changes)
+    table.insert(made, { changes = edit.changes, join = edit.join })
   end
   return { version = note.step.version, edits = note.step.edits, hash = M.hash(text.join(note.lines, note.has_end)),
     -- As an empty list of Vim's, which is no object in JSON.

@@ -8,6 +8,7 @@
 local api = vim.api
 local again = require('vialshoal.again')
 local interrupt = require('vialshoal.interrupt')
+local review = require('vialshoal.review')
 local text = require('vialshoal.text')
 
 local Note = {}
@@ -20,6 +21,8 @@ local MOST_TEXT = 1000000
 local BUSY_SECONDS, PATIENCE_SECONDS = 0.5, 0.2
 -- An editor that only reads says after so many notices what it has seen.
 local SEEN = 100
+-- The requests that the user hasn't to repeat if the engine ends.
+local NOT_REPEATED = { remarks = true, remark = true, suggest = true, reply = true, revise = true }
 local CURSOR_SECONDS, LOST_SECONDS = 0.05, 0.1
 -- The modes in which a command holds places as numbers: an operator waits for its motion, a command line is typed, a
 -- prompt as that of `:s///c` waits, an insertion is completed.
@@ -37,7 +40,9 @@ function Note.new(buffer, send, clock, shows)
     -- were made since then or aren't answered, in their order: number, changes, how they join, and where the first change is.
     step = { version = 0, edits = 0 }, edits = {},
     changes = {}, state = {}, cursors = {}, waiting = {}, requests = {}, asked = 0, seen = 0, place_sent = 0,
-    review = { threads = {}, unanswered = {} },
+    review = { threads = {} },
+    -- What the user said in the margin and no engine has answered: the request, its words, and what is called with the answer.
+    unanswered = {},
     -- What of the changes is undone together, by their numbers.
     unit_of = setmetatable({}, { __mode = 'k' }),
   }, Note)
@@ -49,17 +54,19 @@ function Note:opened(line)
   self.version, self.answered, self.sent_edits = line.version, line.edits, line.edits
   self.step = { version = line.version, edits = line.edits }
   self.place, self.is_away, self.is_open = nil, false, true
-  self.told_version, self.remarks, self.review = nil, nil, { threads = {}, unanswered = {} }
+  self.told_version, self.remarks, self.review = nil, nil, { threads = {} }
   if self.suggesting then
     self.suggesting:soon()
   end
   if was_away and not line.text then
     self:carried_over()
+    review.opened_again(self)
   else
     self.made, self.changes, self.edits = line.edits, {}, {}
     self:show_opened(line.text)
     if was_away then
       again.keep(self, "The note is open again, and what you typed last couldn't be carried over.", missing)
+      review.keep_unanswered(self)
     end
   end
 end
@@ -85,11 +92,12 @@ function Note:show_opened(new)
   end
 end
 
---- Has the user type on, as the engine ended. What it was asked is dropped; whether the user asked something.
+--- Has the user type on, as the engine ended. What it was asked is dropped, except what was said in the margin; whether the user
+--- asked something that was dropped.
 function Note:engine_ended()
   local was_asked = false
   for id in pairs(self.waiting) do
-    was_asked = was_asked or self.requests[id] ~= nil and self.requests[id] ~= 'remarks'
+    was_asked = was_asked or self.requests[id] ~= nil and not NOT_REPEATED[self.requests[id]]
   end
   self.is_away, self.is_open, self.waiting, self.requests = true, false, {}, {}
   return was_asked
@@ -383,6 +391,14 @@ function Note:move_kept(change)
   end
   if self.refused then
     self.refused.place = text.moved(self.refused.place, change, false)
+  end
+  for _, one in ipairs(self.unanswered) do
+    local request = one.request
+    if request.begin then
+      local is_place = request.begin == request['end']
+      request.begin = text.moved(request.begin, change, not is_place)
+      request['end'] = math.max(request.begin, text.moved(request['end'], change, false))
+    end
   end
 end
 

@@ -131,36 +131,55 @@ function M.keep(note, why, words)
   note.shows.words(why)
 end
 
+--- Sends one of what isn't answered.
+local function ask(note, one)
+  note:ask(one.request, function(answer)
+    note.unanswered = vim.tbl_filter(function(other) return other ~= one end, note.unanswered)
+    if answer.error then
+      M.keep(note, answer.words, one.words)
+    elseif one.took then
+      one.took(answer)
+    end
+  end)
+end
+
 --- Sends a request that has words which the user wrote, and calls a function, if there is one, with its answer. What is
 --- refused isn't lost.
 function M.say(note, request, words, took)
   if not note.is_open then
     return M.keep(note, "This note isn't open.", words)
   end
-  local unanswered = note.review.unanswered
-  table.insert(unanswered, words)
-  note:ask(request, function(answer)
-    for number, one in ipairs(unanswered) do
-      if one == words then
-        table.remove(unanswered, number)
-        break
-      end
-    end
-    if answer.error then
-      M.keep(note, answer.words, words)
-    elseif took then
-      took(answer)
-    end
-  end)
+  note.once = (note.once or 0) + 1
+  request.once = note.once
+  local one = { request = request, words = words, took = took }
+  table.insert(note.unanswered, one)
+  ask(note, one)
 end
 
---- Shows no threads, as the engine has ended, and keeps what it didn't answer.
+--- Asks the next engine for what the last one didn't answer, by the same numbers.
+function M.opened_again(note)
+  for _, one in ipairs(vim.list_slice(note.unanswered)) do
+    if one.request.begin then
+      one.request.version = note.version
+    end
+    ask(note, one)
+  end
+end
+
+--- Keeps the words that no engine has answered, since nobody knows their places any more.
+function M.keep_unanswered(note)
+  local words = vim.tbl_map(function(one) return one.words end, note.unanswered)
+  note.unanswered = {}
+  if #words > 0 then
+    M.keep(note, "The engine didn't answer.", table.concat(words, '\n\n'))
+  end
+end
+
+--- Shows no threads, as the engine has ended. The next one is asked for what it didn't answer.
 function M.ended(note)
-  local unanswered = note.review.unanswered
-  note.review.unanswered = {}
   M.clear(note)
-  if #unanswered > 0 then
-    M.keep(note, "The engine didn't answer.", table.concat(unanswered, '\n\n'))
+  if not note.is_away then
+    M.keep_unanswered(note)
   end
 end
 
