@@ -17,6 +17,13 @@ export function changed(text, changes) {
   return text;
 }
 
+/** Changes as those of edits, none of which has too many. */
+function inEdits(changes) {
+  const edits = [];
+  for (let at = 0; at < changes.length; at += MOST_CHANGES) edits.push(changes.slice(at, at + MOST_CHANGES));
+  return edits;
+}
+
 /** Where a place is after changes: it stays before text that comes in at it. */
 function moved(place, changes) {
   for (const [begin, end, put] of changes) {
@@ -98,11 +105,9 @@ export class Client {
   }
 
   #flush() {
-    const changes = this.#gathered;
+    const edits = inEdits(this.#gathered);
     this.#gathered = [];
-    for (let at = 0; at < changes.length; at += MOST_CHANGES) {
-      this.#make(changes.slice(at, at + MOST_CHANGES), at ? { join: true } : {});
-    }
+    edits.forEach((changes, at) => this.#make(changes, at ? { join: true } : {}));
   }
 
   #make(changes, more) {
@@ -156,10 +161,20 @@ export class Client {
     this.#asked.clear();
   }
 
-  /** What the next engine is told of the text that is shown: when it was last in step, and the edits since then. */
+  /** Return when the text that is shown was last in step with the engine's, and the edits since then, also those that aren't sent. */
+  standing() {
+    return { ...this.#inStep, made: [...this.#since, ...inEdits(this.#gathered)] };
+  }
+
+  /** Return what the next engine is told of the text that is shown. Changes from now on are those of later edits. */
   again() {
     this.#flush();
-    return { ...this.#inStep, made: [...this.#since] };
+    return this.standing();
+  }
+
+  /** Send what is gathered. */
+  hurry() {
+    this.#flush();
   }
 
   /** The next engine has opened the note: it has all edits up to a number, and the later ones are sent; or it shows another text. */

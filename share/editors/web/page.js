@@ -17,6 +17,7 @@ import { Review } from "./review.js";
 import { say, showState } from "./said.js";
 import { Since } from "./since.js";
 import { State } from "./state.js";
+import { Unkept } from "./unkept.js";
 import { Writers } from "./writers.js";
 
 /* global CodeMirror */
@@ -39,9 +40,13 @@ export class Page {
   #cursorTimer;
   #isRenamed = false;
   #state = new State(() => this.#unanswered);
+  // What an engine of this machine hasn't on its disk; none at a relay.
+  #unkept;
+  #connects;
 
   /** `connects` gives the way to the engine, which tells what comes; `lists` shows the user's other notes, where that isn't done here. */
   constructor(connects, lists = () => this.notes.show()) {
+    this.#connects = connects;
     this.#connection = connects({
       came: (line) => this.#came(line),
       ended: (words) => this.#ended(words),
@@ -52,7 +57,7 @@ export class Page {
     this.editor = new Editor(element("text"), {
       edit: (changes) => {
         this.#client?.edit(changes);
-        this.#state.follows();
+        this.#follows();
       },
       moved: () => this.#moved(), changed: (place) => this.changes.at(place),
       takes: (change) => this.review?.suggesting.takes(change),
@@ -102,7 +107,10 @@ export class Page {
     });
     element("name").addEventListener("change", () => this.#rename());
     // What is composed is text that is shown.
-    addEventListener("pagehide", () => this.#settle());
+    addEventListener("pagehide", () => {
+      this.#settle();
+      this.#client?.hurry();
+    });
     addEventListener("beforeunload", (event) => {
       if (this.#unanswered || this.review.hasWords || this.refused.hasWords) event.preventDefault();
     });
@@ -165,6 +173,12 @@ export class Page {
     return this.#client ? this.#client.askOf(request, isQuiet) : { error: "away" };
   }
 
+  /** An edit was made, or answered. */
+  #follows() {
+    if (this.#client) this.#unkept?.keep(this.#client, this.editor.text);
+    this.#state.follows();
+  }
+
   /** How many edits of the user's aren't kept, as far as it is known. */
   get #unanswered() {
     return this.#client?.unanswered ?? 0;
@@ -192,12 +206,22 @@ export class Page {
     if (line.notice === "welcome") this.#open(line);
     else if (line.notice === "opening") showState(`reading, ${Math.floor((100 * line.done) / (line.of || 1))} %`);
     else if (line.answer === "open") this.#opened(line);
-    else if (this.#client) this.#client.take(line);
+    else if (this.#client) this.#took(line);
     else if (line.words) say(line.words);
   }
 
-  async #open({ name, missing }) {
+  /** Take in a line. A notice may be newer than what is written of edits. */
+  #took(line) {
+    this.#client.take(line);
+    if (this.#unanswered) this.#follows();
+  }
+
+  async #open({ name, missing, note }) {
     this.formatted.missing = missing;
+    if (note && !this.#unkept) {
+      this.#unkept = new Unkept(note, this.#connects, { refused: (...why) => this.refused.take(...why), say });
+      this.#unkept.begin(this.#editorName);
+    }
     element("name").value = sessionStorage.getItem("name") ?? name;
     this.#openings += 1;
     const number = this.#openings;
@@ -232,7 +256,8 @@ export class Page {
       this.editor.looks([]);
       this.#client = new Client(line, (request) => this.#send(request), this.#view(line.colours));
     }
-    this.#state.follows();
+    this.#follows();
+    this.#unkept?.looks();
     this.present.begin();
     this.review.opened();
     this.#moved();
@@ -245,6 +270,7 @@ export class Page {
     this.editor.cursors([]);
     if (this.#isRenamed) {
       [this.#isRenamed, this.#client, this.#editorName] = [false, undefined, crypto.randomUUID()];
+      this.#unkept?.begin(this.#editorName);
       return true;
     }
     showState(this.#client ? `${words} ${GO_ON}` : words, true);
@@ -281,7 +307,7 @@ export class Page {
       say,
       refused: (words, changes, place) => this.refused.take(words, changes, place),
       answered: () => {
-        this.#state.follows();
+        this.#follows();
         if (!this.#unanswered) this.keys.release();
       },
     };
