@@ -1,4 +1,4 @@
-// What the protocol of docs/ENGINE.md asks of an editor, without a page: two numbers, and what is done with which lines.
+// An editor's side of the protocol of docs/ENGINE.md, without a page.
 
 // After typing this long without all being answered, keys are kept until it is; and for how long at most.
 const BUSY_MS = 500;
@@ -17,7 +17,7 @@ export function changed(text, changes) {
   return text;
 }
 
-/** Changes as those of edits, none of which has too many. */
+/** Divide changes into edits, so that no edit has too many. */
 function inEdits(changes) {
   const edits = [];
   for (let at = 0; at < changes.length; at += MOST_CHANGES) edits.push(changes.slice(at, at + MOST_CHANGES));
@@ -32,7 +32,7 @@ function moved(place, changes) {
   return place;
 }
 
-/** Whether what comes in at a column is whole lines at a line's begin: a place there goes with that line. */
+/** Return whether an insertion at a column is whole lines at the start of a line. A cursor there moves with its line. */
 export function opensLine(column, text) {
   return column === 0 && text.endsWith("\n");
 }
@@ -40,7 +40,7 @@ export function opensLine(column, text) {
 /** Bytes in hexadecimal digits. */
 export const hex = (bytes) => [...new Uint8Array(bytes)].map((one) => one.toString(16).padStart(2, "0")).join("");
 
-/** A line that is to be sent, in pieces of bytes. */
+/** Spell a line as bytes, in pieces of at most this size. */
 export function* pieces(line, size) {
   const bytes = new TextEncoder().encode(`${JSON.stringify(line)}\n`);
   for (let at = 0; at < bytes.length; at += size) yield bytes.subarray(at, at + size);
@@ -63,15 +63,18 @@ export class Lines {
 }
 
 /**
- * An editor of a note. `view` shows what it is told: `change(changes, cursor)`, `replace(text)`, which gives the changes that it made,
- * `looks(list)`, `cursors(list)`, `state(line)`, `remarks(line)`, `say(words)`, `answered()`, and `refused(words, changes, place)`, why which
- * changes of the user's aren't in the text, and where they were.
+ * An editor of a note. It calls these functions of its `view`:
+ * - `change(changes, cursor)` shows changes of others, or of an undo.
+ * - `replace(text)` shows another text, and returns the changes that this took.
+ * - `looks(list)`, `cursors(list)`, `state(line)`, `remarks(line)`, `say(words)` show what the engine reports.
+ * - `refused(words, changes, place)` keeps changes of the user that aren't in the text; `words` say why.
+ * - `answered()` is called after each answer to an edit.
  */
 export class Client {
   #send;
   #view;
   #clock;
-  // Whether the note itself answers, in this page: what is typed is handed on at once then, and holds nobody's text back.
+  // Whether the note is in this page, without an engine. Then each edit is sent at once, and nobody's text is held back.
   #isHere;
   // From when on there has been an edit without an answer at every moment.
   #busyFrom = 0;
@@ -124,12 +127,12 @@ export class Client {
     for (const one of this.#unanswered) one.place = moved(one.place, changes);
   }
 
-  /** How many edits the user made that aren't kept, as far as it is known. */
+  /** The number of the user's edits that aren't known to be on the disk. */
   get unanswered() {
     return this.made - this.answered + (this.#gathered.length ? 1 : 0);
   }
 
-  /** Whether the next key is to be kept until the last edit is answered. */
+  /** Return whether the next key must wait until the last edit is answered. */
   waits() {
     return !this.#isHere && this.answered < this.made && this.#clock() > this.#busyFrom + BUSY_MS;
   }
@@ -154,7 +157,7 @@ export class Client {
     return this.ask({ ...request, version: this.version }, isQuiet);
   }
 
-  /** The engine has ended. What was asked isn't answered, and what is typed from now on waits for the next engine. */
+  /** The engine has ended. Its requests get no answer. Edits wait for the next engine from now on. */
   away() {
     this.#isAway = true;
     for (const { resolve } of this.#asked.values()) resolve({ error: "away" });
@@ -166,13 +169,13 @@ export class Client {
     return { ...this.#inStep, made: [...this.#since, ...inEdits(this.#gathered)] };
   }
 
-  /** Return what the next engine is told of the text that is shown. Changes from now on are those of later edits. */
+  /** Return the field `again` for the next engine, without the hash. Later changes belong to later edits. */
   again() {
     this.#flush();
     return this.standing();
   }
 
-  /** Send what is gathered. */
+  /** Send the gathered changes. */
   hurry() {
     this.#flush();
   }
@@ -235,7 +238,7 @@ export class Client {
       if (!("edits" in line) && !("id" in line)) this.#send({ do: "text", edits: this.made });
     }
     if (isOfEdit) this.#answered(line);
-    // Whoever asked goes on later, and what came meanwhile is shown by then.
+    // The caller goes on later. By then other notices may have been shown.
     const { version } = this;
     const isOld = () => version !== this.version || line.edits !== this.made || this.#gathered.length > 0;
     asked?.resolve({ ...line, isOld });

@@ -1,4 +1,4 @@
-// The page of a note: a way to the note's engine, and what is shown of it.
+// The page of a note: it connects to the note's engine and shows the note.
 import { Changes, isHeard } from "./aloud.js";
 import { Client, hex } from "./client.js";
 import { Editor, paste } from "./editor.js";
@@ -23,7 +23,7 @@ import { Writers } from "./writers.js";
 /* global CodeMirror */
 
 const CURSOR_MS = 50;
-// After how many lines that wait the engine is told what the text has.
+// Each time this many lines wait, the page sends the engine its version.
 const WAITING = 100;
 const GO_ON = "Type on: what you type is kept in this page until then.";
 
@@ -32,7 +32,7 @@ const element = (id) => document.getElementById(id);
 
 export class Page {
   #connection;
-  // Who talks to the engines; none until the first one has opened the note. By this name the next engine knows this editor.
+  // The client of the engine; none until the first engine has opened the note. The next engine knows this editor by its name.
   #client;
   #editorName = crypto.randomUUID();
   // How often the note was begun to be opened.
@@ -40,11 +40,12 @@ export class Page {
   #cursorTimer;
   #isRenamed = false;
   #state = new State(() => this.#unanswered);
-  // What an engine of this machine hasn't on its disk; none at a relay.
+  // The edits that the engine hasn't on its disk; undefined at a relay.
   #unkept;
   #connects;
 
-  /** `connects` gives the way to the engine, which tells what comes; `lists` shows the user's other notes, where that isn't done here. */
+  /** `connects` makes a connection to the engine, which calls the given functions. `lists` shows the user's other notes; this page has a
+   * list of its own. */
   constructor(connects, lists = () => this.notes.show()) {
     this.#connects = connects;
     this.#connection = connects({
@@ -106,7 +107,7 @@ export class Page {
       this.writers.toggle();
     });
     element("name").addEventListener("change", () => this.#rename());
-    // What is composed is text that is shown.
+    // Text that is being composed is shown already.
     addEventListener("pagehide", () => {
       this.#settle();
       this.#client?.hurry();
@@ -155,7 +156,7 @@ export class Page {
     this.editor.cm.execCommand(command);
   }
 
-  /** Has what is selected be bold, or of a colour. */
+  /** Make the selection bold, or give it a colour. */
   #look(looks) {
     const ranges = this.editor.selected();
     if (ranges.length) this.#client?.look(ranges, looks);
@@ -173,18 +174,18 @@ export class Page {
     return this.#client ? this.#client.askOf(request, isQuiet) : { error: "away" };
   }
 
-  /** An edit was made, or answered. */
+  /** Note that an edit was made, or answered. */
   #follows() {
     if (this.#client) this.#unkept?.keep(this.#client, this.editor.text);
     this.#state.follows();
   }
 
-  /** How many edits of the user's aren't kept, as far as it is known. */
+  /** The number of the user's edits that aren't known to be on the disk. */
   get #unanswered() {
     return this.#client?.unanswered ?? 0;
   }
 
-  /** What is printed. */
+  /** Return the view that is printed. */
   #printed() {
     if (!element("past").hidden) return this.past.cm;
     return this.formatted.isShown ? element("formatted") : this.editor.cm;
@@ -196,7 +197,7 @@ export class Page {
     this.#connection.send(line);
   }
 
-  /** Lines wait for what is composed. */
+  /** Lines wait until the user ends composing. */
   #waits(many) {
     if (many % WAITING === 0) this.#send({ do: "seen", version: this.#client?.version ?? 0 });
     this.editor.composing.hurry();
@@ -210,7 +211,7 @@ export class Page {
     else if (line.words) say(line.words);
   }
 
-  /** Take in a line. A notice may be newer than what is written of edits. */
+  /** Take in a line. After a notice the unkept edits are written again, because they count in its version. */
   #took(line) {
     this.#client.take(line);
     if (this.#unanswered) this.#follows();
@@ -231,7 +232,7 @@ export class Page {
       editor: this.#editorName, ...(again && { again }) });
   }
 
-  /** What the next engine is told of what is shown here, if something is. */
+  /** Return the field `again` for the next engine; undefined if no text is shown yet. */
   async #again() {
     if (!this.#client) return undefined;
     this.editor.tell();
@@ -277,7 +278,7 @@ export class Page {
     return false;
   }
 
-  /** Opens the note anew, under another name, as soon as all is answered. */
+  /** Close the note as soon as all is answered. It is opened again with the user's new name. */
   #rename() {
     sessionStorage.setItem("name", element("name").value);
     this.#settle();
@@ -287,7 +288,7 @@ export class Page {
     this.#ask({ do: "close" });
   }
 
-  // What is shown.
+  // The view.
 
   #view(colours) {
     return {

@@ -27,7 +27,7 @@ const inTurn = (name, signal, does) => navigator.locks.request(name, { signal },
   if (!signal.aborted) throw why;
 });
 
-/** Return the edits that are written under a name; undefined if there are none. What can't be read is set aside. */
+/** Return the edits that are written under a name; undefined if there are none. Set damaged ones aside. */
 function read(name, told) {
   const words = storage.getItem(name);
   if (words === null) return undefined;
@@ -48,13 +48,14 @@ export class Unkept {
   #told;
   #begin;
   #name = "";
-  // What is written, without the hash.
+  // The written edits, without the hash.
   #written = "";
   #ends = new AbortController();
   // The editors whose edits this tab hands on, or waits to.
   #others = new Set();
 
-  /** `connects` gives a way to the engine; `told` is told of `refused(words, changes, place)` and `say(words)`. */
+  /** `connects` makes a connection to the engine. `told.refused(words, changes, place)` keeps edits that can't be handed on, and
+   * `told.say(words)` shows words. */
   constructor(note, connects, told) {
     [this.#begin, this.#connects, this.#told] = [`${BEGIN}${encodeURIComponent(note)} `, connects, told];
   }
@@ -97,7 +98,7 @@ export class Unkept {
     }
   }
 
-  /** Open the note in the place of the editor that wrote these edits, until an engine answers what it has of them. */
+  /** Open the note again under the name of the editor that wrote these edits, so that the engine makes those that it lacks. */
   async #handsOn(name) {
     const again = read(name, this.#told);
     if (!again) return;
