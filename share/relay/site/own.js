@@ -96,10 +96,11 @@ export class Own {
 
   /** @param {import("./store.js").Note} note @param {Set<number>} taken */
   async #takeOf(note, taken) {
-    if (note.author?.site && !note.author.isLeft && await this.#holds(note.author.site)) return this.#has(note.author);
+    const site = note.author?.site && !note.author.isLeft ? await this.#takeOne(note.author) : 0;
+    if (site) return site;
     for (const one of note.numbers ?? []) {
       const isUsable = !one.isLeft && (one.isClaimed || !taken.has(one.site));
-      if (isUsable && await this.#holds(one.site)) return this.#has(one);
+      if (isUsable && await this.#takeOne(one)) return one.site;
     }
     return this.#takeSpare(taken);
   }
@@ -137,7 +138,19 @@ export class Own {
       return found ? { spare: null, numbers: [...numbers, found] } : {};
     });
     const one = /** @type {import("./store.js").Searched | null} */ (found);
-    return one && await this.#holds(one.site) ? this.#has(one) : 0;
+    return one ? this.#takeOne(one) : 0;
+  }
+
+  /** Take a number, if no other tab has it. Return it, or 0. If that fails, other tabs may have it again.
+   * @param {import("./held.js").Stored} one */
+  async #takeOne(one) {
+    const lets = await this.#holds(one.site);
+    try {
+      return lets ? await this.#has(one) : 0;
+    } catch (why) {
+      lets?.();
+      throw why;
+    }
   }
 
   /** @param {import("./held.js").Stored} one whose lock is held */
@@ -155,7 +168,7 @@ export class Own {
 
   /** @param {number} site whose lock is held */
   async #keepsUnkept(site) {
-    const isRecovered = await keepUnkept(this.#store, this.#keys, this.#id, site);
+    const isRecovered = await keepUnkept(this.#store, this.#keys, this.#id, site, this.#told.says);
     if (isRecovered) this.#told.recovered();
     return isRecovered;
   }
@@ -178,13 +191,19 @@ export class Own {
     return `vialshoal ${this.#id} ${site}`;
   }
 
-  /** Has this tab alone type under a number, if no other one does.
-   * @param {number} site @returns {Promise<boolean>} */
+  /** Have this tab be the only one that types under a number. Return a function that lets others have it; null if another tab has it.
+   * @param {number} site @returns {Promise<(() => void) | null>} */
   #holds(site) {
     return new Promise((done) => {
       void navigator.locks.request(this.#lockOf(site), { ifAvailable: true }, (lock) => {
-        done(Boolean(lock));
-        return lock && new Promise((ended) => this.#ends.signal.addEventListener("abort", ended));
+        if (!lock) {
+          done(null);
+          return undefined;
+        }
+        return new Promise((ended) => {
+          this.#ends.signal.addEventListener("abort", ended);
+          done(() => ended(undefined));
+        });
       });
     });
   }

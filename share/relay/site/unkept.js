@@ -12,9 +12,10 @@ import { sha256 } from "./keys.js";
  * @typedef {{ saying: Saying, words: Word[] }} Unkept */
 
 const BEGIN = "vialshoal unkept ";
-const storage = storageHere();
+const DAMAGED = "vialshoal damaged ";
+const UNREADABLE = "Some of what a closed tab kept of its last keys can't be read. It is set aside in this browser's storage.";
 
-/** Where it is written; a browser that allows none has nothing beside its database.
+/** Return the browser's storage. A browser that allows none keeps edits in its database only.
  * @returns {Storage | undefined} */
 function storageHere() {
   try {
@@ -28,7 +29,7 @@ function storageHere() {
  * @param {string} note @param {number} [site] */
 function namesOf(note, site) {
   const begin = `${BEGIN}${note} ${site === undefined ? "" : `${site} `}`;
-  return Object.keys(storage ?? {}).filter((name) => name.startsWith(begin));
+  return Object.keys(storageHere() ?? {}).filter((name) => name.startsWith(begin));
 }
 
 /** The numbers of which something is there.
@@ -43,7 +44,7 @@ export function writeUnkept(note, { saying, words }) {
   const spelled = { count, before: base64url(before), author: base64url(author), body: base64url(body),
     words: words.map((one) => ({ ...one, before: base64url(one.before) })) };
   try {
-    storage?.setItem(name, JSON.stringify(spelled));
+    storageHere()?.setItem(name, JSON.stringify(spelled));
   } catch {
     // Then it is in the database alone, as soon as that has it.
     return "";
@@ -53,7 +54,7 @@ export function writeUnkept(note, { saying, words }) {
 
 /** @param {string[]} names of what is beside the database, and isn't needed there any more */
 export function dropUnkept(names) {
-  for (const name of names) storage?.removeItem(name);
+  for (const name of names) storageHere()?.removeItem(name);
 }
 
 /** @param {string} note which is forgotten */
@@ -61,15 +62,39 @@ export function forgetUnkept(note) {
   dropUnkept(namesOf(note));
 }
 
-/** What is beside the database of a number, in its order.
- * @param {string} note @param {number} site @returns {Unkept[]} */
-function unkeptOf(note, site) {
-  const found = namesOf(note, site).map((name) => {
-    const [, , , , text, first] = name.split(" ").map(Number);
-    const { count, before, author, body, words } = JSON.parse(storage?.getItem(name) ?? "{}");
+/** Read an unkept saying of a name in the browser's storage; null if it can't be read.
+ * @param {string} name @returns {Unkept | null} */
+function read(name) {
+  const [, , , site, text, first] = name.split(" ").map(Number);
+  try {
+    const { count, before, author, body, words } = JSON.parse(storageHere()?.getItem(name) ?? "");
     const saying = { site, text, first, count, before: ofBase64url(before), author: ofBase64url(author), body: ofBase64url(body) };
     return { saying, words: words.map((/** @type {any} */ one) => ({ ...one, before: ofBase64url(one.before) })) };
-  });
+  } catch {
+    return null;
+  }
+}
+
+/** Give an item of the browser's storage another name, under which nobody looks for unkept sayings.
+ * @param {string} name */
+function setAside(name) {
+  storageHere()?.setItem(name.replace(BEGIN, DAMAGED), storageHere()?.getItem(name) ?? "");
+  storageHere()?.removeItem(name);
+}
+
+/** Return the unkept sayings of a number in their order. Set aside those that can't be read, and report that.
+ * @param {string} note @param {number} site @param {(words: string) => void} says @returns {Unkept[]} */
+function unkeptOf(note, site, says) {
+  const found = [];
+  for (const name of namesOf(note, site)) {
+    const one = read(name);
+    if (one) {
+      found.push(one);
+    } else {
+      setAside(name);
+      says(UNREADABLE);
+    }
+  }
   return found.sort(({ saying: one }, { saying: other }) => one.text - other.text || one.first - other.first);
 }
 
@@ -89,16 +114,18 @@ export async function keepSaid(store, keys, note, number, some, authors) {
   number.claims = null;
 }
 
-/** Keep what a closed tab said under a number of this browser's user and didn't keep. Return whether there was something. The caller holds
- * the number's lock.
- * @param {import("./store.js").Store} store @param {import("./keys.js").NoteKeys} keys @param {string} note @param {number} site */
-export async function keepUnkept(store, keys, note, site) {
-  const names = namesOf(note, site);
-  if (!names.length) return false;
+/** Keep the unkept sayings of a closed tab under a number of this browser's user. Return whether there were any. The caller holds the
+ * number's lock.
+ * @param {import("./store.js").Store} store @param {import("./keys.js").NoteKeys} keys @param {string} note @param {number} site
+ * @param {(words: string) => void} says is told what the user has to know */
+export async function keepUnkept(store, keys, note, site, says) {
+  if (!namesOf(note, site).length) return false;
   const own = ownOf(await store.note(note));
   const one = own.find((it) => it.site === site);
-  if (!one) return false;
-  await keepSaid(store, keys, note, await heldOf(keys, one), unkeptOf(note, site), await authorsOf(own));
+  const some = one ? unkeptOf(note, site, says) : [];
+  if (!one || !some.length) return false;
+  const names = namesOf(note, site);
+  await keepSaid(store, keys, note, await heldOf(keys, one), some, await authorsOf(own));
   dropUnkept(names);
   return true;
 }

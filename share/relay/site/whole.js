@@ -69,8 +69,9 @@ export class Whole {
     [this.#core, this.#store, this.#keys, this.#note, this.#ear] = [core, store, keys, note, ear];
     this.own = new Own(store, keys, note.id, {
       kept: (edits, many) => this.#kept(edits, many), failed: () => this.#failed(), recovered: () => this.#recovered(),
+      says: (words) => this.#ear.says(words),
     });
-    this.#spare = new Spare(store, keys, note.id, async () => this.facts.taken());
+    this.#spare = new Spare(store, keys, note.id, () => this.#taken());
     this.#feed = this.#newFeed();
     this.followed = new Followed(store, keys, note.url, (hasEntries) => this.#came(hasEntries), () => this.#keepSpare());
     this.#next(async () => {
@@ -394,6 +395,12 @@ export class Whole {
     this.followed.site = site;
     this.followed.isCalled();
     await this.#anew();
+  }
+
+  /** Return the numbers that somebody has, once all is read that came by now. */
+  async #taken() {
+    await this.#turn;
+    return this.facts.taken();
   }
 
   /** Has a number be there that is searched for, and be taken where this tab has none. */
