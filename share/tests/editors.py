@@ -165,7 +165,7 @@ class Editor:
                 pass
             if not is_there:
                 self.kill()
-                raise AssertionError(f"waited {PATIENCE} seconds for an editor's line to end; the last lines: {str(self.lines[-5:])[-2_000:]}")
+                raise AssertionError(f"waited {PATIENCE} seconds for a line to end; the last lines: {str(self.lines[-5:])[-2_000:]}")
         self._end()
 
     def _end(self) -> None:

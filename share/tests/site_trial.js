@@ -127,8 +127,8 @@ const does = {
     delete globalThis.localStorage;
     return { raws, found, claimed: note.numbers.filter(({ isClaimed }) => isClaimed).map(({ site }) => site), aside, told };
   },
-  /** A number whose unkept sayings can't be kept at first: what taking it comes to, the locks that are held then, and the number that is taken
-   * as it is tried again. */
+  /** Take a number whose unkept sayings can't be kept at first. Return why that fails, the locks that are held then, and the number that is
+   * taken at the second try. */
   async takenTwice({ key, number: { secret, counter, ...one } }) {
     globalThis.localStorage = new Beside();
     const [held, ofKey] = [locks(), await keys.NoteKeys.of(ofHex(key))];
@@ -141,7 +141,8 @@ const does = {
       },
     };
     const own = new Own(/** @type {any} */ (store), ofKey, 'note', { kept() {}, failed() {}, recovered() {}, says() {} });
-    const saying = { site: one.site, text: 1, first: 1, count: 1, before: new Uint8Array(32), body: new Uint8Array(2), author: new Uint8Array(32) };
+    const [before, author] = [new Uint8Array(32), new Uint8Array(32)];
+    const saying = { site: one.site, text: 1, first: 1, count: 1, before, body: new Uint8Array(2), author };
     // It is written beside the database by a tab that ends while this one takes its number.
     const request = navigator.locks.request;
     navigator.locks.request = (...words) => {
@@ -150,9 +151,11 @@ const does = {
       return request(...words);
     };
     const why = await own.take(new Set()).catch(({ message }) => message);
-    const [before, site] = [[...held], (isFull = false, await own.take(new Set()))];
+    const heldThen = [...held];
+    isFull = false;
+    const site = await own.take(new Set());
     delete globalThis.localStorage;
-    return { why, held: before, site };
+    return { why, held: heldThen, site };
   },
   async sealed({ key, kind, secret, place, body }) {
     const note = await keys.NoteKeys.of(ofHex(key));

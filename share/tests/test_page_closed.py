@@ -1,4 +1,5 @@
-"""A page of a local engine is closed, or its process ends, while the engine is held up: each key that was shown is there afterwards, once."""
+"""A page of a local engine is closed, or its process ends, while the engine is held up: each key that was shown is there afterwards,
+once."""
 import contextlib
 import hashlib
 import os

@@ -112,7 +112,8 @@ class Page:
         if note != self.note and not listing.is_listed(note):
             await socket.close(code=WSCloseCode.INTERNAL_ERROR, message=b"There is no such note here.")
             return socket
-        welcome = {"notice": "welcome", "note": note, "name": self.name, "missing": missing_package(), "secret": self.secret, "key": self.key}
+        welcome = {"notice": "welcome", "note": note, "name": self.name, "missing": missing_package(), "secret": self.secret,
+                   "key": self.key}
         await socket.send_str(serialize(welcome).decode())
         await bridged(socket, *self.commands(note))
         return socket

@@ -1,5 +1,6 @@
-// What was said and isn't in the browser's database yet, beside that: it is written before the page goes on, so it is there when the tab is
-// closed or ends. Whoever has a number's lock next has it be kept before anything else is said under that number.
+// Unkept sayings: own messages that the browser's database doesn't have yet. They are written into the browser's storage before the page
+// goes on, so they are there after the tab was closed or killed. The next tab that has the number's lock keeps them before it writes under
+// that number.
 import { hex, base64url, join, ofBase64url } from "./bytes.js";
 import { KIND, claim, sealed } from "./entry.js";
 import { authorsOf, heldOf, ownOf } from "./held.js";
@@ -8,7 +9,7 @@ import { sha256 } from "./keys.js";
 /** @typedef {import("./value.js").Saying} Saying */
 /** @typedef {import("./held.js").Held} Held */
 /** @typedef {import("./own.js").Word} Word */
-/** What was said, and what was made anew by it.
+/** A saying, and the words that others' entries were made anew.
  * @typedef {{ saying: Saying, words: Word[] }} Unkept */
 
 const BEGIN = "vialshoal unkept ";
@@ -25,18 +26,18 @@ function storageHere() {
   }
 }
 
-/** The names of what is beside the database of a note, or of one of its numbers.
+/** Return the names of the unkept sayings of a note, or of one of its numbers, in the browser's storage.
  * @param {string} note @param {number} [site] */
 function namesOf(note, site) {
   const begin = `${BEGIN}${note} ${site === undefined ? "" : `${site} `}`;
   return Object.keys(storageHere() ?? {}).filter((name) => name.startsWith(begin));
 }
 
-/** The numbers of which something is there.
+/** Return the numbers of a note that have unkept sayings.
  * @param {string} note @returns {Set<number>} */
 export const sitesUnkept = (note) => new Set(namesOf(note).map((name) => Number(name.split(" ")[3])));
 
-/** Writes what was said beside the database; its name there, none where there is no room.
+/** Write a saying into the browser's storage. Return its name there, "" if there is no room.
  * @param {string} note @param {Unkept} unkept */
 export function writeUnkept(note, { saying, words }) {
   const { site, text, first, count, before, author, body } = saying;
@@ -46,18 +47,20 @@ export function writeUnkept(note, { saying, words }) {
   try {
     storageHere()?.setItem(name, JSON.stringify(spelled));
   } catch {
-    // Then it is in the database alone, as soon as that has it.
+    // Then only the database will have it.
     return "";
   }
   return name;
 }
 
-/** @param {string[]} names of what is beside the database, and isn't needed there any more */
+/** Remove sayings that the database has.
+ * @param {string[]} names */
 export function dropUnkept(names) {
   for (const name of names) storageHere()?.removeItem(name);
 }
 
-/** @param {string} note which is forgotten */
+/** Remove the unkept sayings of a note that is forgotten.
+ * @param {string} note */
 export function forgetUnkept(note) {
   dropUnkept(namesOf(note));
 }
@@ -98,8 +101,7 @@ function unkeptOf(note, site, says) {
   return found.sort(({ saying: one }, { saying: other }) => one.text - other.text || one.first - other.first);
 }
 
-/** Seal and keep what was said under a number, with the number's claim if that isn't kept yet. Each word that something was made anew is
- * signed by its own author.
+/** Seal and keep sayings of a number, with the number's claim if that isn't kept yet. Each word has the signature of its author.
  * @param {import("./store.js").Store} store @param {import("./keys.js").NoteKeys} keys @param {string} note @param {Held} number
  * @param {Unkept[]} some @param {Map<string, import("./keys.js").Author>} authors of all numbers of this browser's user, by their names */
 export async function keepSaid(store, keys, note, number, some, authors) {
