@@ -1,7 +1,7 @@
-"""What changed of a text between two times of its history: which characters came and which went, by their names.
+"""Compare a note's text at two times of its history, by the names of its characters.
 
-The messages of the earlier time are handed to a run of the program, and then those that came since. A character that both texts
-show is the same in both, so what was cut and put elsewhere went and came.
+A run of the program takes the messages of the earlier time, and then the later ones. A character has one name in both texts. Text that
+was cut and pasted elsewhere counts as deleted and as inserted.
 """
 import re
 from array import array
@@ -19,7 +19,7 @@ from share.program.replay import Came
 from share.program.site import Site
 from share.text.names import Names
 
-# Characters one after the other that another text shows all, or none of.
+# Adjacent characters that are all in another text, or all missing there.
 ALIKE = re.compile(rb"\x00+|\x01+")
 
 
@@ -34,8 +34,9 @@ class Went(NamedTuple):
 
 
 class WhatChanged(NamedTuple):
-    """The later text, what came of it, and what went, both by who wrote them and who did that. All that went between the same two
-    characters that stay is where the first of it stood: what replaces a passage stands inside that."""
+    """The later text, its new stretches, and the deleted ones. Each stretch has one author and one person who did this. All stretches that
+    were deleted between the same two remaining characters have the place of the first one, because a replacement stands inside the
+    passage that it replaces."""
 
     text: bytes
     came: list[Came]
@@ -52,7 +53,7 @@ class _Apart(NamedTuple):
 
 @dataclass
 class _Gap:
-    """What went between two characters that stay, the place of that in the later text, and whether something came there."""
+    """The deleted stretches between two remaining characters, their place in the later text, and whether there are new characters."""
 
     gone: Sequence[_Apart]
     place: int
@@ -60,7 +61,7 @@ class _Gap:
 
 
 def changed(then: Messages, since: Messages) -> WhatChanged:
-    """What changed of the text of some messages by those that came since."""
+    """Compare the text of some messages with the text after later ones."""
     # The site's own message is none of another one's.
     with closing(Site(_free_number(then + since), then)) as site:
         before = shown_by(site)
@@ -84,7 +85,7 @@ class _Part(NamedTuple):
 
 
 class _Doers:
-    """Who hid characters, or showed them again, by some messages: the last one to do so has them be so."""
+    """The sites that deleted characters, or restored them, by some messages. The last site counts."""
 
     def __init__(self, messages: Messages):
         # By the characters' sites, a number for each of these up to the last one: that of a site among those that did something, or 0.
@@ -103,7 +104,7 @@ class _Doers:
         done[names.at:names.at + names.length] = array("I", [number]) * names.length
 
     def of(self, names: Names) -> Iterator[_Part]:
-        """A stretch in parts, by who did this; where nobody did, its author."""
+        """Divide a stretch by the site that deleted or restored it. If no site did, that is its author."""
         done = self._done.get(names.site, array("I"))[names.at:names.at + names.length]
         done.frombytes(bytes(done.itemsize * (names.length - len(done))))
         begin = 0
@@ -114,13 +115,13 @@ class _Doers:
 
 
 def _free_number(messages: Messages) -> int:
-    """A number that none of some messages is of."""
+    """Return a number under which none of these messages was written."""
     taken = sites_of(messages)
     return next(number for number in count(1) if number not in taken)
 
 
 def _apart(names: Sequence[Names], others: Sequence[Names]) -> list[_Apart]:
-    """The characters of a text, by their names, that another one doesn't show."""
+    """Return the stretches of a text that another text lacks."""
     marks, found, kept, position = _is_shown_in(others), list[_Apart](), 0, 0
     for one in names:
         of_one = marks.get(one.site, b"")[one.at:one.at + one.length].ljust(one.length, b"\0")
@@ -135,7 +136,7 @@ def _apart(names: Sequence[Names], others: Sequence[Names]) -> list[_Apart]:
 
 
 def _is_shown_in(names: Sequence[Names]) -> Mapping[int, bytes | bytearray]:
-    """A byte for each character of each site up to the last of these: 1 where it is one of them."""
+    """Return a byte for each character of each site, up to the last of these: 1 for one of these, 0 for others."""
     ends: dict[int, int] = {}
     for one in names:
         ends[one.site] = max(ends.get(one.site, 0), one.at + one.length)
@@ -146,7 +147,7 @@ def _is_shown_in(names: Sequence[Names]) -> Mapping[int, bytes | bytearray]:
 
 
 def _gaps(gone: Sequence[_Apart], came: Sequence[_Apart]) -> list[_Gap]:
-    """What went, by where; each place is directly behind the character before it that stays."""
+    """Group the deleted stretches by their place, which is directly behind the remaining character before them."""
     gaps, length, number = list[_Gap](), 0, 0
     for kept, some in groupby(gone, lambda one: one.kept):
         while number < len(came) and came[number].kept < kept:
@@ -157,7 +158,7 @@ def _gaps(gone: Sequence[_Apart], came: Sequence[_Apart]) -> list[_Gap]:
 
 
 def _look_where(gaps: Sequence[_Gap], site: Site) -> None:
-    """Looks where among what came the first character stood that went, by showing that again, which a full note refuses."""
+    """Find the place of each first deleted character among the new ones, by restoring it. A full note refuses that."""
     firsts = [gap.gone[0].names._replace(length=1) for gap in gaps]
     site.restore(firsts)
     shown = 0
@@ -168,7 +169,7 @@ def _look_where(gaps: Sequence[_Gap], site: Site) -> None:
 
 
 def _came_by_author(came: Sequence[_Apart], doers: _Doers) -> list[Came]:
-    """What came. What one has written, and one has brought, is in one where it stands one after the other."""
+    """Return the new stretches. Adjacent ones are joined if they have the same author, and the same site brought them."""
     out: list[Came] = []
     for _, position, names in came:
         for part in doers.of(names):
@@ -181,6 +182,6 @@ def _came_by_author(came: Sequence[_Apart], doers: _Doers) -> list[Came]:
 
 
 def _went_by_author(went: Sequence[Went]) -> list[Went]:
-    """The same of what went."""
+    """Return the deleted stretches. Adjacent ones are joined if they have the same author, and the same site deleted them."""
     return [Went(at, b"".join(one.data for one in some), site, by)
             for (at, site, by), some in groupby(went, lambda one: (one.at, one.site, one.by))]

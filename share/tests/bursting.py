@@ -1,8 +1,9 @@
 """Somebody types bursts of keys into a page, with looks and remarks, while another person types: what each typed stands there, once and in
 its order."""
 import random
-from collections.abc import Callable
-from typing import TYPE_CHECKING
+from collections import Counter
+from collections.abc import Callable, Sequence
+from typing import TYPE_CHECKING, NamedTuple
 
 from share.tests.waiting import wait_for
 
@@ -28,6 +29,24 @@ LETTERS = "abcdefghijklmnopqrstuvwxyz \u00e9\u00df"
 MOST_KEYS, LINES = 60, 3
 # What is planted to see that it is found: some of what was typed is taken away, is there twice, or stands in another order.
 PLANTS = "drop", "double", "swap"
+
+
+class Faults(NamedTuple):
+    """How many parts of what was typed are lost, doubled, and at another place."""
+
+    lost: int
+    doubled: int
+    swapped: int
+
+    def __str__(self) -> str:
+        return f"{self.lost} lost, {self.doubled} doubled, {self.swapped} swapped"
+
+
+def faults_of(wanted: Sequence[str], found: Sequence[str]) -> Faults:
+    """Compare the parts that were typed with those that are there."""
+    lost, doubled = Counter(wanted) - Counter(found), Counter(found) - Counter(wanted)
+    old, new = ([one for one in some if one not in lost and one not in doubled] for some in (wanted, found))
+    return Faults(lost.total(), doubled.total(), sum(one != other for one, other in zip(old, new)))
 
 
 class Bursts:
@@ -73,6 +92,11 @@ class Bursts:
         words = self.window.run("document.getElementById('words').textContent")
         assert wanted == found and not words, (f"lacks {[one for one in wanted if one not in found]}, has "
                                                f"{[one for one in found if one not in wanted]}; the page says {words!r}")
+
+    def faults(self) -> Faults:
+        """What is wrong of the signs that were typed, line by line."""
+        wanted, found = sorted([*self.lines, *self.others]), sorted(self.other.text.split("\n")[:-1])
+        return Faults(*map(sum, zip(*(faults_of(one, other) for one, other in zip(wanted, found)))))
 
     def begin_again(self) -> None:
         """Takes what is shown for what was typed."""

@@ -160,8 +160,12 @@ class Editor:
         if self.process.poll() is None and not self._pipes[0].closed:
             self._pipes[0].close()
             self.listens = False
-            while self._receive():
+            end = time.monotonic() + PATIENCE
+            while (is_there := can_read(self._out, max(0.0, end - time.monotonic()))) and self._receive():
                 pass
+            if not is_there:
+                self.kill()
+                raise AssertionError(f"waited {PATIENCE} seconds for a line to end; the last lines: {str(self.lines[-5:])[-2_000:]}")
         self._end()
 
     def _end(self) -> None:

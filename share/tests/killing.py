@@ -5,11 +5,10 @@ import random
 import signal
 from collections.abc import Iterator
 
-from share.tests.bursting import PLANTS
+from share.tests.bursting import PLANTS, Faults, faults_of
 from share.tests.editors import Editor
-from share.tests.support import engine_of
 from share.tests.waiting import wait_for
-from share.tests.writers import State, Writer
+from share.tests.writers import State, Writer, engine_here
 
 LETTERS = "abcdefghijklmnopqrstuvwxyz0123456789"
 MOST_KEYS = 30
@@ -59,12 +58,8 @@ class Kills:
 
     def _kill(self) -> None:
         """Kill the process that has the note open, as soon as there is one."""
-        def engine() -> int:
-            with contextlib.suppress(IndexError, FileNotFoundError):
-                return engine_of(self.writer.data)
-            return 0
         with contextlib.suppress(ProcessLookupError):
-            os.kill(wait_for(engine, "an engine"), signal.SIGKILL)
+            os.kill(wait_for(lambda: engine_here(self.writer.data), "an engine"), signal.SIGKILL)
         self.kills += 1
 
     def _quiet(self) -> State:
@@ -74,6 +69,10 @@ class Kills:
         """Raise AssertionError unless each key is there once, and in its order."""
         found = self._quiet().text
         assert found == self.text, f"lacks or has too much: {found!r} is there, {self.text!r} was typed"
+
+    def faults(self) -> Faults:
+        """What is wrong of the keys, as the editor shows them now."""
+        return faults_of(self.text, self.writer.seen().text)
 
     def take_back(self) -> None:
         """Take all back, step by step: each step leaves a beginning of what was typed."""

@@ -11,6 +11,7 @@ import * as link from './link.js';
 import { Marginal } from './marginal.js';
 import * as message from './message.js';
 import { Own } from './own.js';
+import { keepUnkept, sitesUnkept, writeUnkept } from './unkept.js';
 import { passagesOf } from './passages.js';
 import * as presence from './presence.js';
 import { numberOfRank, rankOf, searched } from './rank.js';
@@ -100,10 +101,8 @@ const does = {
     const note = await keys.NoteKeys.of(ofHex(key));
     return Promise.all(raws.map((raw) => orWhy(() => entry.opened(note, ofHex(raw), bits))));
   },
-  async recovered({ key, numbers, said }) {
+  async recovered({ key, numbers, said, damaged = [] }) {
     globalThis.localStorage = new Beside();
-    // The module looks for localStorage as it is loaded, so it is loaded once more.
-    const { keepUnkept, sitesUnkept, writeUnkept } = await import('./unkept.js?with-storage');
     const note = { author: null, numbers: numbers.map(({ secret, counter, ...one }) => (
       { ...one, secret: ofHex(secret), counter: BigInt(counter) })) };
     const raws = [];
@@ -119,11 +118,44 @@ const does = {
       const saying = { ...place, before: ofHex(before), body: ofHex(body), author: new Uint8Array(32) };
       writeUnkept('note', { saying, words: words.map((one) => ({ ...one, before: ofHex(one.before) })) });
     }
-    const found = [];
+    for (const name of damaged) localStorage.setItem(`vialshoal unkept note ${name}`, '{"count":');
+    const [found, told] = [[], []];
     for (const site of [...sitesUnkept('note'), ...sitesUnkept('note')]) {
-      found.push(await keepUnkept(/** @type {any} */ (store), ofKey, 'note', site));
+      found.push(await keepUnkept(/** @type {any} */ (store), ofKey, 'note', site, (words) => told.push(words)));
     }
-    return { raws, found, claimed: note.numbers.filter(({ isClaimed }) => isClaimed).map(({ site }) => site), left: sitesUnkept('note').size };
+    const aside = Object.keys(localStorage);
+    delete globalThis.localStorage;
+    return { raws, found, claimed: note.numbers.filter(({ isClaimed }) => isClaimed).map(({ site }) => site), aside, told };
+  },
+  /** Take a number whose unkept sayings can't be kept at first. Return why that fails, the locks that are held then, and the number that is
+   * taken at the second try. */
+  async takenTwice({ key, number: { secret, counter, ...one } }) {
+    globalThis.localStorage = new Beside();
+    const [held, ofKey] = [locks(), await keys.NoteKeys.of(ofHex(key))];
+    const note = { author: null, numbers: [{ ...one, isClaimed: true, secret: ofHex(secret), counter: BigInt(counter) }] };
+    let isFull = true;
+    const store = {
+      note: async () => note,
+      async keep() {
+        if (isFull) throw new Error('There is no room.');
+      },
+    };
+    const own = new Own(/** @type {any} */ (store), ofKey, 'note', { kept() {}, failed() {}, recovered() {}, says() {} });
+    const [before, author] = [new Uint8Array(32), new Uint8Array(32)];
+    const saying = { site: one.site, text: 1, first: 1, count: 1, before, body: new Uint8Array(2), author };
+    // It is written beside the database by a tab that ends while this one takes its number.
+    const request = navigator.locks.request;
+    navigator.locks.request = (...words) => {
+      writeUnkept('note', { saying, words: [] });
+      navigator.locks.request = request;
+      return request(...words);
+    };
+    const why = await own.take(new Set()).catch(({ message }) => message);
+    const heldThen = [...held];
+    isFull = false;
+    const site = await own.take(new Set());
+    delete globalThis.localStorage;
+    return { why, held: heldThen, site };
   },
   async sealed({ key, kind, secret, place, body }) {
     const note = await keys.NoteKeys.of(ofHex(key));

@@ -1,10 +1,12 @@
-"""The engine of the terminal's editor, of Emacs, of Emacs with Evil, and of Neovim is killed amid typing: typing goes on, and each key is
-kept once, in its order."""
+"""The engine of the terminal's editor, of Emacs, of Emacs with Evil, of Neovim and of a page is killed amid typing: typing goes on, and each
+key is kept once, in its order."""
 import random
+import unittest
 
 from share.tests.killing import Kills, rounds_and_plants
 from share.tests.support import Case
-from share.tests.writers import Emacs, EvilEmacs, Neovim, OwnEditor, Writer
+from share.tests.test_relay_front import IS_HERE
+from share.tests.writers import Emacs, EvilEmacs, Neovim, OwnEditor, PageInChromium, Writer
 
 ROUNDS = 3
 
@@ -36,3 +38,7 @@ class EngineKilled(Case):
 
     def test_in_neovim(self) -> None:
         self.typed(Neovim)
+
+    @unittest.skipUnless(IS_HERE, "there is no Chromium here")
+    def test_in_a_page(self) -> None:
+        self.typed(PageInChromium)

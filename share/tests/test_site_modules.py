@@ -175,8 +175,21 @@ class Vectors(Modules):
                           (None, KINDS["anew"], *by_bob)])
         self.assertEqual([one["first"] for one in opened if one["kind"] == KINDS["messages"]], [1, 2])
         # They are recovered once, and the number's claim is kept with them.
-        self.assertEqual((found["found"], found["claimed"], found["left"]),
-                         ([True, False], [one["site"] for one in numbers], 0))
+        self.assertEqual((found["found"], found["claimed"], found["aside"]), ([True, False], [one["site"] for one in numbers], []))
+
+    def test_what_a_closed_tab_kept_and_cannot_be_read_is_set_aside(self) -> None:
+        note, one = VECTORS["sealed"], {**VECTORS["claims"]["bob"], "secret": VECTORS["authors"]["bob"]["secret"], "isClaimed": True}
+        said = [{"site": one["site"], "text": 1, "first": 1, "count": 1, "before": bytes(32).hex(), "body": "0000", "words": []}]
+        found = self.asked("recovered", key=note["key"], numbers=[one], said=said, damaged=[f"{one['site']} 1 2"])
+        opened = self.asked("opened", key=note["key"], raws=found["raws"], bits=VECTORS["bits"])
+        self.assertEqual([each["first"] for each in opened if each["kind"] == KINDS["messages"]], [1])
+        self.assertEqual((found["found"], found["aside"]), ([True, False], [f"vialshoal damaged note {one['site']} 1 2"]))
+        self.assertRegex(" ".join(found["told"]), "can't be read. It is set aside")
+
+    def test_a_number_that_could_not_be_taken_is_others_again(self) -> None:
+        one = {**VECTORS["claims"]["bob"], "secret": VECTORS["authors"]["bob"]["secret"]}
+        found = self.asked("takenTwice", key=VECTORS["sealed"]["key"], number=one)
+        self.assertEqual(found, {"why": "There is no room.", "held": [], "site": one["site"]})
 
     def test_what_is_kept_as_a_page_closes_is_told_to_other_tabs(self) -> None:
         self.assertEqual(self.asked("keptAsItCloses", key=VECTORS["sealed"]["key"]), 1)

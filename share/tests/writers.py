@@ -82,8 +82,9 @@ EVIL = """(progn
     (define-key map (kbd "C-]") #'evil-normal-state)))"""
 # Has Neovim take commands. Esc with a key right after it would be Alt with that key.
 NORMAL = "C-\\", "C-n"
-# The page asks whoever leaves it where an edit is unanswered.
-PAGE = """{ text: MIRROR.getValue(), types: !MIRROR.getOption("readOnly"), session: document.title,
+# The page asks whoever leaves it where an edit is unanswered. While no engine is there its state says "Type on".
+PAGE = """{ text: MIRROR.getValue(), session: document.title,
+  types: !MIRROR.getOption("readOnly") && !document.getElementById("state").textContent.includes("Type on"),
   quiet: window.dispatchEvent(new Event("beforeunload", { cancelable: true })) }""".replace("MIRROR", MIRROR)
 SELECTING = """((word) => {
   const at = MIRROR.getValue().indexOf(word);
@@ -92,8 +93,8 @@ SELECTING = """((word) => {
 })(arguments[0])""".replace("MIRROR", MIRROR)
 DELETING = SELECTING.replace("DOES", f'{MIRROR}.execCommand("delCharAfter");')
 
-# What the terminal's editor says while its engine is away.
-IS_AWAY = "The note's engine ended."
+# What the terminal's editor says while its engine is away, and of a request whose engine has ended.
+IS_AWAY, DROPPED = "The note's engine ended.", "may not have been done"
 # With what lines of a thread that is looked at begin in the terminal, and its keys.
 OF_A_THREAD = "  | "
 THREAD_KEYS = {"reply": "r", "resolve": "d", "accept": "a", "reject": "x"}
@@ -240,6 +241,11 @@ class Writer(ABC):
             self.start()
         self._wait_until_it_types()
 
+    def opens_again(self) -> None:
+        """Wait until it has the note open again, whose engine was killed."""
+        state = self.wait_for(lambda one: one.types and one.session != self._session, "the note open again")
+        self._session = self.marked(state.session)
+
     def _wait_until_it_types(self) -> None:
         """Waits until the note is open anew."""
         def types() -> State | None:
@@ -279,11 +285,21 @@ def kill_editor(writer: Writer) -> None:
     kill([writer], writer.processes)
 
 
-def kill_engine(writers: list[Writer]) -> None:
-    """Kills the engine that these editors share."""
+def kill_engine(data: pathlib.Path, writers: Iterable[Writer]) -> None:
+    """Kill the engine that these editors of a data folder share. Their users type on."""
     for writer in writers:
         writer.grows_old()
-    kill(writers, lambda: [engine_of(writers[0].data)])
+    process = wait_for(functools.partial(engine_here, data), "an engine", PATIENCE)
+    with contextlib.suppress(ProcessLookupError):
+        os.kill(process, signal.SIGKILL)
+    wait_for(lambda: not alive(process), "an engine to end", PATIENCE)
+
+
+def engine_here(data: pathlib.Path) -> int:
+    """Return the process that has the note of a data folder open, 0 if there is none."""
+    with contextlib.suppress(IndexError, FileNotFoundError):
+        return engine_of(data)
+    return 0
 
 
 class InTerminal(Writer):
@@ -363,12 +379,12 @@ class OwnEditor(InTerminal):
         while not path.exists():
             if self.is_cut:
                 raise Cut
-            if time.monotonic() > end:
+            if time.monotonic() > end or any(DROPPED in line for line in self.terminal.lines()):
                 raise Silent(f"{path} isn't saved")
             time.sleep(0.01)
         try:
             is_away = any(IS_AWAY in line for line in self.terminal.lines())
-            return State(path.read_text(encoding="utf-8"), not is_away, not is_away, f"{self._process} at {self._engine()}")
+            return State(path.read_text(encoding="utf-8"), not is_away, not is_away, f"{self._process} at {engine_here(self.data)}")
         finally:
             path.unlink()
 
@@ -420,12 +436,6 @@ class OwnEditor(InTerminal):
 
     def undo(self) -> None:
         self.press("C-z")
-
-    def _engine(self) -> int:
-        """The process of the engine; 0 if there is none, and then the terminal says so soon."""
-        with contextlib.suppress(IndexError, FileNotFoundError):
-            return engine_of(self.data)
-        return 0
 
     def goes_on(self) -> bool:
         self.terminal.press("Escape", "Escape", "Escape")

@@ -1,4 +1,4 @@
-// What the protocol of docs/ENGINE.md asks of an editor, without a page: two numbers, and what is done with which lines.
+// An editor's side of the protocol of docs/ENGINE.md, without a page.
 
 // After typing this long without all being answered, keys are kept until it is; and for how long at most.
 const BUSY_MS = 500;
@@ -17,6 +17,13 @@ export function changed(text, changes) {
   return text;
 }
 
+/** Divide changes into edits, so that no edit has too many. */
+function inEdits(changes) {
+  const edits = [];
+  for (let at = 0; at < changes.length; at += MOST_CHANGES) edits.push(changes.slice(at, at + MOST_CHANGES));
+  return edits;
+}
+
 /** Where a place is after changes: it stays before text that comes in at it. */
 function moved(place, changes) {
   for (const [begin, end, put] of changes) {
@@ -25,7 +32,7 @@ function moved(place, changes) {
   return place;
 }
 
-/** Whether what comes in at a column is whole lines at a line's begin: a place there goes with that line. */
+/** Return whether an insertion at a column is whole lines at the start of a line. A cursor there moves with its line. */
 export function opensLine(column, text) {
   return column === 0 && text.endsWith("\n");
 }
@@ -33,7 +40,7 @@ export function opensLine(column, text) {
 /** Bytes in hexadecimal digits. */
 export const hex = (bytes) => [...new Uint8Array(bytes)].map((one) => one.toString(16).padStart(2, "0")).join("");
 
-/** A line that is to be sent, in pieces of bytes. */
+/** Spell a line as bytes, in pieces of at most this size. */
 export function* pieces(line, size) {
   const bytes = new TextEncoder().encode(`${JSON.stringify(line)}\n`);
   for (let at = 0; at < bytes.length; at += size) yield bytes.subarray(at, at + size);
@@ -56,15 +63,18 @@ export class Lines {
 }
 
 /**
- * An editor of a note. `view` shows what it is told: `change(changes, cursor)`, `replace(text)`, which gives the changes that it made,
- * `looks(list)`, `cursors(list)`, `state(line)`, `remarks(line)`, `say(words)`, `answered()`, and `refused(words, changes, place)`, why which
- * changes of the user's aren't in the text, and where they were.
+ * An editor of a note. It calls these functions of its `view`:
+ * - `change(changes, cursor)` shows changes of others, or of an undo.
+ * - `replace(text)` shows another text, and returns the changes that this took.
+ * - `looks(list)`, `cursors(list)`, `state(line)`, `remarks(line)`, `say(words)` show what the engine reports.
+ * - `refused(words, changes, place)` keeps changes of the user that aren't in the text; `words` say why.
+ * - `answered()` is called after each answer to an edit.
  */
 export class Client {
   #send;
   #view;
   #clock;
-  // Whether the note itself answers, in this page: what is typed is handed on at once then, and holds nobody's text back.
+  // Whether the note is in this page, without an engine. Then each edit is sent at once, and nobody's text is held back.
   #isHere;
   // From when on there has been an edit without an answer at every moment.
   #busyFrom = 0;
@@ -99,11 +109,9 @@ export class Client {
   }
 
   #flush() {
-    const changes = this.#gathered;
+    const edits = inEdits(this.#gathered);
     this.#gathered = [];
-    for (let at = 0; at < changes.length; at += MOST_CHANGES) {
-      this.#make(changes.slice(at, at + MOST_CHANGES), at ? { join: true } : {});
-    }
+    edits.forEach((changes, at) => this.#make(changes, at ? { join: true } : {}));
   }
 
   #make(changes, more) {
@@ -121,12 +129,12 @@ export class Client {
     for (const one of this.#unanswered) one.place = moved(one.place, changes);
   }
 
-  /** How many edits the user made that aren't kept, as far as it is known. */
+  /** The number of the user's edits that aren't known to be on the disk. */
   get unanswered() {
     return this.made - this.answered + (this.#gathered.length ? 1 : 0);
   }
 
-  /** Whether the next key is to be kept until the last edit is answered. */
+  /** Return whether the next key must wait until the last edit is answered. */
   waits() {
     return !this.#isHere && this.answered < this.made && this.#clock() > this.#busyFrom + BUSY_MS;
   }
@@ -151,17 +159,27 @@ export class Client {
     return this.ask({ ...request, version: this.version }, isQuiet);
   }
 
-  /** The engine has ended. What was asked isn't answered, and what is typed from now on waits for the next engine. */
+  /** The engine has ended. Its requests get no answer. Edits wait for the next engine from now on. */
   away() {
     this.#isAway = true;
     for (const { resolve } of this.#asked.values()) resolve({ error: "away" });
     this.#asked.clear();
   }
 
-  /** What the next engine is told of the text that is shown: when it was last in step, and the edits since then. */
+  /** Return when the text that is shown was last in step with the engine's, and the edits since then, also those that aren't sent. */
+  standing() {
+    return { ...this.#inStep, made: [...this.#since, ...inEdits(this.#gathered)] };
+  }
+
+  /** Return the field `again` for the next engine, without the hash. Later changes belong to later edits. */
   again() {
     this.#flush();
-    return { ...this.#inStep, made: [...this.#since] };
+    return this.standing();
+  }
+
+  /** Send the gathered changes. */
+  hurry() {
+    this.#flush();
   }
 
   /** The next engine has opened the note: it has all edits up to a number, and the later ones are sent; or it shows another text. */
@@ -222,7 +240,7 @@ export class Client {
       if (!("edits" in line) && !("id" in line)) this.#send({ do: "text", edits: this.made });
     }
     if (isOfEdit) this.#answered(line);
-    // Whoever asked goes on later, and what came meanwhile is shown by then.
+    // The caller goes on later. By then other notices may have been shown.
     const { version } = this;
     const isOld = () => version !== this.version || line.edits !== this.made || this.#gathered.length > 0;
     asked?.resolve({ ...line, isOld });

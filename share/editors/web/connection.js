@@ -36,6 +36,7 @@ export class Connection {
   // What came, and waits for the text to be ready for it.
   #held = [];
   #timer;
+  #isClosed = false;
 
   /** `told` is told of `came(line)`, of `ended(words)`, which says whether to connect at once, and of `waits(many)` while
    * lines wait; `isBusy()` says whether they are to, and `settles()` ends that. */
@@ -64,6 +65,12 @@ export class Connection {
   send(line) {
     if (this.#socket.readyState !== WebSocket.OPEN) return;
     for (const piece of pieces(line, PIECE)) this.#socket.send(piece);
+  }
+
+  /** End the way, after what was sent. */
+  close() {
+    this.#isClosed = true;
+    this.#socket.close();
   }
 
   #say(words) {
@@ -115,6 +122,7 @@ export class Connection {
 
   #ended(code, reason) {
     clearTimeout(this.#timer);
+    if (this.#isClosed) return;
     this.#told.settles();
     // What was answered was done.
     while (this.#held.length) this.#came(this.#held.shift());

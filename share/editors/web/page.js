@@ -1,4 +1,4 @@
-// The page of a note: a way to the note's engine, and what is shown of it.
+// The page of a note: it connects to the note's engine and shows the note.
 import { Changes, isHeard } from "./aloud.js";
 import { Client, hex } from "./client.js";
 import { Editor, paste } from "./editor.js";
@@ -17,12 +17,13 @@ import { Review } from "./review.js";
 import { say, showState } from "./said.js";
 import { Since } from "./since.js";
 import { State } from "./state.js";
+import { Unkept } from "./unkept.js";
 import { Writers } from "./writers.js";
 
 /* global CodeMirror */
 
 const CURSOR_MS = 50;
-// After how many lines that wait the engine is told what the text has.
+// Each time this many lines wait, the page sends the engine its version.
 const WAITING = 100;
 const GO_ON = "Type on: what you type is kept in this page until then.";
 
@@ -31,7 +32,7 @@ const element = (id) => document.getElementById(id);
 
 export class Page {
   #connection;
-  // Who talks to the engines; none until the first one has opened the note. By this name the next engine knows this editor.
+  // The client of the engine; none until the first engine has opened the note. The next engine knows this editor by its name.
   #client;
   #editorName = crypto.randomUUID();
   // How often the note was begun to be opened.
@@ -39,9 +40,14 @@ export class Page {
   #cursorTimer;
   #isRenamed = false;
   #state = new State(() => this.#unanswered);
+  // The edits that the engine hasn't on its disk; undefined at a relay.
+  #unkept;
+  #connects;
 
-  /** `connects` gives the way to the engine, which tells what comes; `lists` shows the user's other notes, where that isn't done here. */
+  /** `connects` makes a connection to the engine, which calls the given functions. `lists` shows the user's other notes; this page has a
+   * list of its own. */
   constructor(connects, lists = () => this.notes.show()) {
+    this.#connects = connects;
     this.#connection = connects({
       came: (line) => this.#came(line),
       ended: (words) => this.#ended(words),
@@ -52,7 +58,7 @@ export class Page {
     this.editor = new Editor(element("text"), {
       edit: (changes) => {
         this.#client?.edit(changes);
-        this.#state.follows();
+        this.#follows();
       },
       moved: () => this.#moved(), changed: (place) => this.changes.at(place),
       takes: (change) => this.review?.suggesting.takes(change),
@@ -101,8 +107,11 @@ export class Page {
       this.writers.toggle();
     });
     element("name").addEventListener("change", () => this.#rename());
-    // What is composed is text that is shown.
-    addEventListener("pagehide", () => this.#settle());
+    // Text that is being composed is shown already.
+    addEventListener("pagehide", () => {
+      this.#settle();
+      this.#client?.hurry();
+    });
     addEventListener("beforeunload", (event) => {
       if (this.#unanswered || this.review.hasWords || this.refused.hasWords) event.preventDefault();
     });
@@ -147,7 +156,7 @@ export class Page {
     this.editor.cm.execCommand(command);
   }
 
-  /** Has what is selected be bold, or of a colour. */
+  /** Make the selection bold, or give it a colour. */
   #look(looks) {
     const ranges = this.editor.selected();
     if (ranges.length) this.#client?.look(ranges, looks);
@@ -165,12 +174,18 @@ export class Page {
     return this.#client ? this.#client.askOf(request, isQuiet) : { error: "away" };
   }
 
-  /** How many edits of the user's aren't kept, as far as it is known. */
+  /** Note that an edit was made, or answered. */
+  #follows() {
+    if (this.#client) this.#unkept?.keep(this.#client, this.editor.text);
+    this.#state.follows();
+  }
+
+  /** The number of the user's edits that aren't known to be on the disk. */
   get #unanswered() {
     return this.#client?.unanswered ?? 0;
   }
 
-  /** What is printed. */
+  /** Return the view that is printed. */
   #printed() {
     if (!element("past").hidden) return this.past.cm;
     return this.formatted.isShown ? element("formatted") : this.editor.cm;
@@ -182,7 +197,7 @@ export class Page {
     this.#connection.send(line);
   }
 
-  /** Lines wait for what is composed. */
+  /** Lines wait until the user ends composing. */
   #waits(many) {
     if (many % WAITING === 0) this.#send({ do: "seen", version: this.#client?.version ?? 0 });
     this.editor.composing.hurry();
@@ -192,12 +207,22 @@ export class Page {
     if (line.notice === "welcome") this.#open(line);
     else if (line.notice === "opening") showState(`reading, ${Math.floor((100 * line.done) / (line.of || 1))} %`);
     else if (line.answer === "open") this.#opened(line);
-    else if (this.#client) this.#client.take(line);
+    else if (this.#client) this.#took(line);
     else if (line.words) say(line.words);
   }
 
-  async #open({ name, missing }) {
+  /** Take in a line. After a notice the unkept edits are written again, because they count in its version. */
+  #took(line) {
+    this.#client.take(line);
+    if (this.#unanswered) this.#follows();
+  }
+
+  async #open({ name, missing, note }) {
     this.formatted.missing = missing;
+    if (note && !this.#unkept) {
+      this.#unkept = new Unkept(note, this.#connects, { refused: (...why) => this.refused.take(...why), say });
+      this.#unkept.begin(this.#editorName);
+    }
     element("name").value = sessionStorage.getItem("name") ?? name;
     this.#openings += 1;
     const number = this.#openings;
@@ -207,7 +232,7 @@ export class Page {
       editor: this.#editorName, ...(again && { again }) });
   }
 
-  /** What the next engine is told of what is shown here, if something is. */
+  /** Return the field `again` for the next engine; undefined if no text is shown yet. */
   async #again() {
     if (!this.#client) return undefined;
     this.editor.tell();
@@ -232,7 +257,8 @@ export class Page {
       this.editor.looks([]);
       this.#client = new Client(line, (request) => this.#send(request), this.#view(line.colours));
     }
-    this.#state.follows();
+    this.#follows();
+    this.#unkept?.looks();
     this.present.begin();
     this.review.opened();
     this.#moved();
@@ -245,13 +271,14 @@ export class Page {
     this.editor.cursors([]);
     if (this.#isRenamed) {
       [this.#isRenamed, this.#client, this.#editorName] = [false, undefined, crypto.randomUUID()];
+      this.#unkept?.begin(this.#editorName);
       return true;
     }
     showState(this.#client ? `${words} ${GO_ON}` : words, true);
     return false;
   }
 
-  /** Opens the note anew, under another name, as soon as all is answered. */
+  /** Close the note as soon as all is answered. It is opened again with the user's new name. */
   #rename() {
     sessionStorage.setItem("name", element("name").value);
     this.#settle();
@@ -261,7 +288,7 @@ export class Page {
     this.#ask({ do: "close" });
   }
 
-  // What is shown.
+  // The view.
 
   #view(colours) {
     return {
@@ -281,7 +308,7 @@ export class Page {
       say,
       refused: (words, changes, place) => this.refused.take(words, changes, place),
       answered: () => {
-        this.#state.follows();
+        this.#follows();
         if (!this.#unanswered) this.keys.release();
       },
     };

@@ -1,4 +1,4 @@
-// What its user typed and the note refused: it stays beside the text until the user puts it back, or away.
+// Words that the user typed and the note refused. They stay below the text until the user puts them back, or away.
 import { say } from "./said.js";
 
 /* global CodeMirror */
@@ -6,7 +6,7 @@ import { say } from "./said.js";
 // The most characters that are shown of it.
 const MOST_SHOWN = 200;
 
-/** What changes put, as far as later ones leave it, in the order of the places; what was put at several places stands in lines. */
+/** Return the words that changes inserted and that later ones left, in the order of their places. Each place has a line. */
 export function putBy(changes) {
   let parts = [];
   for (const [begin, end, put] of changes) {
@@ -66,7 +66,7 @@ export class Refused {
     this.#place = cm.setBookmark(places.at(Math.min(place, this.#editor.text.length)));
   }
 
-  /** Types it again where it was, if anything can be typed. What is refused again is kept again. */
+  /** Type the words again at their place, if the note takes edits. If they are refused again, they are kept again. */
   #puts(words) {
     const { cm, places } = this.#editor;
     if (cm.isReadOnly()) return;

@@ -21,10 +21,11 @@ from share.text.errors import Trouble
 
 HERE = pathlib.Path(__file__).absolute().parent
 PAGE_FILES = ["secret.js", "page.js", "page.css", "text.css", "review.css", "aloud.js", "card.js", "cards.js", "client.js",
-              "composing.js", "connection.js", "drafts.js", "edited.js", "editor.js", "finding.js", "formatted.js", "forms.js",
+              "composing.js", "connection.js", "digest.js", "drafts.js", "edited.js", "editor.js", "finding.js", "formatted.js", "forms.js",
               "gathered.js", "graphemes.js", "keys.js", "links.js", "local.js", "margin.js", "markdown.js", "notes.js",
               "others.js", "past.js", "people.js", "places.js", "present.js", "printing.js", "refused.js", "review.js", "said.js",
-              "shown.js", "since.js", "state.js", "stretches.js", "suggesting.js", "threads.js", "writers.js"]
+              "shown.js", "since.js", "state.js", "stretches.js", "suggesting.js", "threads.js", "unkept.js",
+              "writers.js"]
 LIBRARY = ["lib/codemirror.js", "lib/codemirror.css", "addon/search/searchcursor.js"]
 # What one view needs alone: its address, its file, and the package of Debian's that has it.
 MARKDOWN = "/markdownit.js", pathlib.Path("/usr/share/javascript/markdown-it/markdown-it.js"), "libjs-markdown-it"
@@ -111,7 +112,8 @@ class Page:
         if note != self.note and not listing.is_listed(note):
             await socket.close(code=WSCloseCode.INTERNAL_ERROR, message=b"There is no such note here.")
             return socket
-        welcome = {"notice": "welcome", "name": self.name, "missing": missing_package(), "secret": self.secret, "key": self.key}
+        welcome = {"notice": "welcome", "note": note, "name": self.name, "missing": missing_package(), "secret": self.secret,
+                   "key": self.key}
         await socket.send_str(serialize(welcome).decode())
         await bridged(socket, *self.commands(note))
         return socket

@@ -1,15 +1,16 @@
-// What is typed in this tab: under a number that no other tab types under meanwhile, so that they never make two histories of one. An edit is
-// an entry, which is sealed and signed, and on the disk before it is answered. Until then what was said is beside the database.
+// This tab's own entries. They stand under a number that no other tab writes under meanwhile, so that a number never has two histories. An
+// edit becomes an entry, which is sealed, signed and on the disk before the edit is answered. Until then a copy of the saying is in the
+// browser's storage.
 import { Trouble, hex } from "./bytes.js";
 import { authorsOf, heldOf, ownOf } from "./held.js";
 import { dropUnkept, keepSaid, keepUnkept, sitesUnkept, writeUnkept } from "./unkept.js";
 
 /** @typedef {import("./value.js").Saying} Saying */
 /** @typedef {import("./held.js").Held} Held */
-/** That messages of an own number were made anew, up to one.
+/** A word of an author: messages of a number, up to one, were typed again.
  * @typedef {{ author: string, site: number, text: number, before: Uint8Array }} Word */
-/** What was said, under which number, up to which of the editor's edits that has all, what was made anew by it, and its name beside the
- * database, if it is there.
+/** A saying that isn't on the disk yet: its number, the last of the editor's edits in it, its words, and its name in the browser's storage,
+ * which is "" if it isn't there.
  * @typedef {{ saying: Saying, number: Held, edits: number, words: Word[], beside: string }} Said */
 
 // The most entries that are sealed and kept at once.
@@ -35,8 +36,9 @@ export class Own {
   #authors = new Map();
 
   /** @param {import("./store.js").Store} store @param {import("./keys.js").NoteKeys} keys @param {string} id
-   * @param {{ kept: (edits: number, many: number) => void, failed: () => void, recovered: () => void }} told of edits up to a number that are
-   * on the disk, in so many entries; and that something is there which a tab of before said */
+   * @param {{ kept: (edits: number, many: number) => void, failed: () => void, recovered: () => void, says: (words: string) => void }} told
+   * `kept` is called with the number of the last edit on the disk and the number of entries, `recovered` after sayings of a closed tab were
+   * kept, and `says` with words for the user */
   constructor(store, keys, id, told) {
     this.#store = store;
     this.#keys = keys;
@@ -60,24 +62,24 @@ export class Own {
     return this.#authors.has(author);
   }
 
-  /** Writes under this number no more. What was said under it is kept under it all the same, with its claim: it counts where that has the
-   * lower rank, and else everybody is shown that it is left out. Under the next number it would take the places of what is said there. */
+  /** Write under this number no more. Its sayings are kept under it all the same, with its claim. They count if this claim has the lower
+   * rank; else everybody is shown that they are left out. Under the next number they would take the places of later sayings. */
   async leave() {
     const site = this.#number?.site;
     this.#number = null;
     /** @template {{ site: number }} Of @param {Of} one */
     const left = (one) => (one.site === site ? { ...one, isLeft: true } : one);
-    // Where that can't be kept it is left once more, as the note is opened the next time.
+    // If that can't be kept, the number is left again as the note is opened the next time.
     await this.#store.keep(this.#id, [], ({ author, numbers = [] }) => (
       { author: author && left(author), numbers: numbers.map(left) })).catch(() => {});
   }
 
-  /** How many entries aren't on the disk yet. */
+  /** The number of entries that aren't on the disk yet. */
   get waiting() {
     return this.#queue.length;
   }
 
-  /** Takes a number, where one is here that no other tab has; and which it is, 0 where there is none.
+  /** Take a number that no other tab has. Return it, 0 if there is none.
    * @param {Set<number>} taken those that somebody has */
   async take(taken) {
     const note = await this.#store.note(this.#id);
@@ -96,34 +98,35 @@ export class Own {
 
   /** @param {import("./store.js").Note} note @param {Set<number>} taken */
   async #takeOf(note, taken) {
-    if (note.author?.site && !note.author.isLeft && await this.#holds(note.author.site)) return this.#has(note.author);
+    const site = note.author?.site && !note.author.isLeft ? await this.#takeOne(note.author) : 0;
+    if (site) return site;
     for (const one of note.numbers ?? []) {
       const isUsable = !one.isLeft && (one.isClaimed || !taken.has(one.site));
-      if (isUsable && await this.#holds(one.site)) return this.#has(one);
+      if (isUsable && await this.#takeOne(one)) return one.site;
     }
     return this.#takeSpare(taken);
   }
 
-  /** Has what was said be sealed and kept, after what was said before.
-   * @param {Saying} saying @param {number} edits up to which of the editor's edits this has all
-   * @param {Word[]} words what was made anew, which is kept with it or not at all */
+  /** Seal and keep a saying, after the earlier ones.
+   * @param {Saying} saying @param {number} edits the last of the editor's edits in it
+   * @param {Word[]} words are kept together with it, or not at all */
   say(saying, edits, words = []) {
     if (this.failure) return;
     const number = this.#number;
     if (number?.site !== saying.site) throw new Error(`This is said under ${saying.site}, and this tab has ${number?.site ?? "no number"}.`);
-    // Behind something that isn't beside the database nothing may be there: it builds on that.
+    // A saying builds on the one before it. If that isn't in the browser's storage, this one isn't either.
     const isAfterGap = this.#queue.length > 0 && !this.#queue[this.#queue.length - 1].beside;
     const beside = isAfterGap ? "" : writeUnkept(this.#id, { saying, words });
     this.#queue.push({ saying, number, edits, words, beside });
     if (!this.#isBusy) this.#going = this.#go();
   }
 
-  /** Ends once all that was said is kept, or can't be. */
+  /** Return a promise that ends once all sayings are kept, or can't be. */
   settled() {
     return this.#going;
   }
 
-  /** Lets others have the numbers, once all is kept that was said: whoever goes on under one has to know of that. */
+  /** Let other tabs have the numbers, once all sayings are kept: the next tab builds on them. */
   close() {
     void this.settled().then(() => this.#ends.abort());
   }
@@ -137,7 +140,19 @@ export class Own {
       return found ? { spare: null, numbers: [...numbers, found] } : {};
     });
     const one = /** @type {import("./store.js").Searched | null} */ (found);
-    return one && await this.#holds(one.site) ? this.#has(one) : 0;
+    return one ? this.#takeOne(one) : 0;
+  }
+
+  /** Take a number, if no other tab has it. Return it, or 0. If that fails, other tabs may have it again.
+   * @param {import("./held.js").Stored} one */
+  async #takeOne(one) {
+    const lets = await this.#holds(one.site);
+    try {
+      return lets ? await this.#has(one) : 0;
+    } catch (why) {
+      lets?.();
+      throw why;
+    }
   }
 
   /** @param {import("./held.js").Stored} one whose lock is held */
@@ -155,14 +170,14 @@ export class Own {
 
   /** @param {number} site whose lock is held */
   async #keepsUnkept(site) {
-    const isRecovered = await keepUnkept(this.#store, this.#keys, this.#id, site);
+    const isRecovered = await keepUnkept(this.#store, this.#keys, this.#id, site, this.#told.says);
     if (isRecovered) this.#told.recovered();
     return isRecovered;
   }
 
-  /** Has be kept what tabs that have ended said under numbers and didn't keep.
+  /** Keep the unkept sayings of tabs that have ended.
    * @param {import("./held.js").Stored[]} own
-   * @param {LockOptions} how whether a tab is waited for that has such a number, and keeps it by itself unless it ends before */
+   * @param {LockOptions} how says whether to wait for a tab that has such a number: that tab keeps its sayings itself, unless it ends */
   async #keepLeft(own, how) {
     for (const site of sitesUnkept(this.#id)) {
       if (own.some((one) => one.site === site)) {
@@ -178,13 +193,19 @@ export class Own {
     return `vialshoal ${this.#id} ${site}`;
   }
 
-  /** Has this tab alone type under a number, if no other one does.
-   * @param {number} site @returns {Promise<boolean>} */
+  /** Have this tab be the only one that types under a number. Return a function that lets others have it; null if another tab has it.
+   * @param {number} site @returns {Promise<(() => void) | null>} */
   #holds(site) {
     return new Promise((done) => {
       void navigator.locks.request(this.#lockOf(site), { ifAvailable: true }, (lock) => {
-        done(Boolean(lock));
-        return lock && new Promise((ended) => this.#ends.signal.addEventListener("abort", ended));
+        if (!lock) {
+          done(null);
+          return undefined;
+        }
+        return new Promise((ended) => {
+          this.#ends.signal.addEventListener("abort", ended);
+          done(() => ended(undefined));
+        });
       });
     });
   }
@@ -201,7 +222,7 @@ export class Own {
       }
     } catch (/** @type {any} */ why) {
       if (!(why instanceof Trouble)) reportError(why);
-      // It is taken out of the text, and the editor keeps it.
+      // The edits are taken out of the text, and the editor keeps their words.
       dropUnkept(this.#queue.map(({ beside }) => beside));
       [this.#queue, this.failure] = [[], why.message];
       this.#told.failed();
@@ -210,7 +231,7 @@ export class Own {
     }
   }
 
-  /** What is kept at once: what was said first, under one number. */
+  /** Return the first sayings, all of one number, that are kept together. */
   #first() {
     const some = this.#queue.slice(0, AT_ONCE);
     const end = some.findIndex(({ number }) => number !== some[0].number);

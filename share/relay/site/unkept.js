@@ -1,5 +1,6 @@
-// What was said and isn't in the browser's database yet, beside that: it is written before the page goes on, so it is there when the tab is
-// closed or ends. Whoever has a number's lock next has it be kept before anything else is said under that number.
+// Unkept sayings: own messages that the browser's database doesn't have yet. They are written into the browser's storage before the page
+// goes on, so they are there after the tab was closed or killed. The next tab that has the number's lock keeps them before it writes under
+// that number.
 import { hex, base64url, join, ofBase64url } from "./bytes.js";
 import { KIND, claim, sealed } from "./entry.js";
 import { authorsOf, heldOf, ownOf } from "./held.js";
@@ -8,13 +9,14 @@ import { sha256 } from "./keys.js";
 /** @typedef {import("./value.js").Saying} Saying */
 /** @typedef {import("./held.js").Held} Held */
 /** @typedef {import("./own.js").Word} Word */
-/** What was said, and what was made anew by it.
+/** A saying, and the words that others' entries were made anew.
  * @typedef {{ saying: Saying, words: Word[] }} Unkept */
 
 const BEGIN = "vialshoal unkept ";
-const storage = storageHere();
+const DAMAGED = "vialshoal damaged ";
+const UNREADABLE = "Some of what a closed tab kept of its last keys can't be read. It is set aside in this browser's storage.";
 
-/** Where it is written; a browser that allows none has nothing beside its database.
+/** Return the browser's storage. A browser that allows none keeps edits in its database only.
  * @returns {Storage | undefined} */
 function storageHere() {
   try {
@@ -24,18 +26,18 @@ function storageHere() {
   }
 }
 
-/** The names of what is beside the database of a note, or of one of its numbers.
+/** Return the names of the unkept sayings of a note, or of one of its numbers, in the browser's storage.
  * @param {string} note @param {number} [site] */
 function namesOf(note, site) {
   const begin = `${BEGIN}${note} ${site === undefined ? "" : `${site} `}`;
-  return Object.keys(storage ?? {}).filter((name) => name.startsWith(begin));
+  return Object.keys(storageHere() ?? {}).filter((name) => name.startsWith(begin));
 }
 
-/** The numbers of which something is there.
+/** Return the numbers of a note that have unkept sayings.
  * @param {string} note @returns {Set<number>} */
 export const sitesUnkept = (note) => new Set(namesOf(note).map((name) => Number(name.split(" ")[3])));
 
-/** Writes what was said beside the database; its name there, none where there is no room.
+/** Write a saying into the browser's storage. Return its name there, "" if there is no room.
  * @param {string} note @param {Unkept} unkept */
 export function writeUnkept(note, { saying, words }) {
   const { site, text, first, count, before, author, body } = saying;
@@ -43,38 +45,63 @@ export function writeUnkept(note, { saying, words }) {
   const spelled = { count, before: base64url(before), author: base64url(author), body: base64url(body),
     words: words.map((one) => ({ ...one, before: base64url(one.before) })) };
   try {
-    storage?.setItem(name, JSON.stringify(spelled));
+    storageHere()?.setItem(name, JSON.stringify(spelled));
   } catch {
-    // Then it is in the database alone, as soon as that has it.
+    // Then only the database will have it.
     return "";
   }
   return name;
 }
 
-/** @param {string[]} names of what is beside the database, and isn't needed there any more */
+/** Remove sayings that the database has.
+ * @param {string[]} names */
 export function dropUnkept(names) {
-  for (const name of names) storage?.removeItem(name);
+  for (const name of names) storageHere()?.removeItem(name);
 }
 
-/** @param {string} note which is forgotten */
+/** Remove the unkept sayings of a note that is forgotten.
+ * @param {string} note */
 export function forgetUnkept(note) {
   dropUnkept(namesOf(note));
 }
 
-/** What is beside the database of a number, in its order.
- * @param {string} note @param {number} site @returns {Unkept[]} */
-function unkeptOf(note, site) {
-  const found = namesOf(note, site).map((name) => {
-    const [, , , , text, first] = name.split(" ").map(Number);
-    const { count, before, author, body, words } = JSON.parse(storage?.getItem(name) ?? "{}");
+/** Read an unkept saying of a name in the browser's storage; null if it can't be read.
+ * @param {string} name @returns {Unkept | null} */
+function read(name) {
+  const [, , , site, text, first] = name.split(" ").map(Number);
+  try {
+    const { count, before, author, body, words } = JSON.parse(storageHere()?.getItem(name) ?? "");
     const saying = { site, text, first, count, before: ofBase64url(before), author: ofBase64url(author), body: ofBase64url(body) };
     return { saying, words: words.map((/** @type {any} */ one) => ({ ...one, before: ofBase64url(one.before) })) };
-  });
+  } catch {
+    return null;
+  }
+}
+
+/** Give an item of the browser's storage another name, under which nobody looks for unkept sayings.
+ * @param {string} name */
+function setAside(name) {
+  storageHere()?.setItem(name.replace(BEGIN, DAMAGED), storageHere()?.getItem(name) ?? "");
+  storageHere()?.removeItem(name);
+}
+
+/** Return the unkept sayings of a number in their order. Set aside those that can't be read, and report that.
+ * @param {string} note @param {number} site @param {(words: string) => void} says @returns {Unkept[]} */
+function unkeptOf(note, site, says) {
+  const found = [];
+  for (const name of namesOf(note, site)) {
+    const one = read(name);
+    if (one) {
+      found.push(one);
+    } else {
+      setAside(name);
+      says(UNREADABLE);
+    }
+  }
   return found.sort(({ saying: one }, { saying: other }) => one.text - other.text || one.first - other.first);
 }
 
-/** Seal and keep what was said under a number, with the number's claim if that isn't kept yet. Each word that something was made anew is
- * signed by its own author.
+/** Seal and keep sayings of a number, with the number's claim if that isn't kept yet. Each word has the signature of its author.
  * @param {import("./store.js").Store} store @param {import("./keys.js").NoteKeys} keys @param {string} note @param {Held} number
  * @param {Unkept[]} some @param {Map<string, import("./keys.js").Author>} authors of all numbers of this browser's user, by their names */
 export async function keepSaid(store, keys, note, number, some, authors) {
@@ -89,16 +116,18 @@ export async function keepSaid(store, keys, note, number, some, authors) {
   number.claims = null;
 }
 
-/** Keep what a closed tab said under a number of this browser's user and didn't keep. Return whether there was something. The caller holds
- * the number's lock.
- * @param {import("./store.js").Store} store @param {import("./keys.js").NoteKeys} keys @param {string} note @param {number} site */
-export async function keepUnkept(store, keys, note, site) {
-  const names = namesOf(note, site);
-  if (!names.length) return false;
+/** Keep the unkept sayings of a closed tab under a number of this browser's user. Return whether there were any. The caller holds the
+ * number's lock.
+ * @param {import("./store.js").Store} store @param {import("./keys.js").NoteKeys} keys @param {string} note @param {number} site
+ * @param {(words: string) => void} says is told what the user has to know */
+export async function keepUnkept(store, keys, note, site, says) {
+  if (!namesOf(note, site).length) return false;
   const own = ownOf(await store.note(note));
   const one = own.find((it) => it.site === site);
-  if (!one) return false;
-  await keepSaid(store, keys, note, await heldOf(keys, one), unkeptOf(note, site), await authorsOf(own));
+  const some = one ? unkeptOf(note, site, says) : [];
+  if (!one || !some.length) return false;
+  const names = namesOf(note, site);
+  await keepSaid(store, keys, note, await heldOf(keys, one), some, await authorsOf(own));
   dropUnkept(names);
   return true;
 }

@@ -1,5 +1,5 @@
-// A note that is open in this tab as a whole site: what others' entries bring is shown, and what is typed here becomes entries, under a
-// number that this tab alone has meanwhile.
+// A note that is open in this tab as a whole site. It shows the text of others' entries, and makes entries of this user's edits, under a
+// number that no other tab has meanwhile.
 import { Trouble, hex } from "./bytes.js";
 import { writtenBeside } from "./beside.js";
 import { Feed } from "./feed.js";
@@ -12,21 +12,25 @@ import { SharedText, TEXT, Wrong } from "./shared.js";
 import { Spare } from "./spare.js";
 
 /** @typedef {import("./shared.js").Change} Change */
-/** Who shows the note. `isBusy` says whether others' text has to wait. `changed` is told what others changed, or nothing where the text was
- * begun anew, `unkept` why what was typed is taken out, `kept` up to which edit all is on the disk, `reads` how much is read, `stands` that
- * something else changed, and `says` words.
+/** The view of the note.
+ * - `isBusy` returns whether others' text must wait.
+ * - `changed` is called with others' changes, or with null after the text was read from scratch.
+ * - `unkept` is called with the reason why edits are taken out again.
+ * - `kept` is called with the number of the last edit on the disk.
+ * - `reads` is called with the part of the log that is read.
+ * - `stands` is called after other changes of the state, and `says` with words for the user.
  * @typedef {{ isBusy: () => boolean, changed: (changes: Change[] | null) => void, unkept: (words: string) => void,
  *   kept: (edits: number) => void, reads: (done: number, of: number) => void, stands: () => void, says: (words: string) => void }} Ear */
 
 export const NO_NUMBER = "Nothing can be typed yet: a number is searched for.";
 const NOTHING_LOST = "Nothing that you typed is left out.";
-// How soon it is seen again whether others' text may be shown.
+// Milliseconds until the page tries again to show others' text.
 const AGAIN_MS = 20;
 
 export class Whole {
   /** @type {SharedText | null} */
   text = null;
-  /** What doesn't count for good.
+  /** The text that is left out for good.
    * @type {import("./lost.js").LeftOut[]} */
   leftOut = [];
   own;
@@ -36,7 +40,7 @@ export class Whole {
   #store;
   #keys;
   #note;
-  // From where entries come; and from where they came that the text has, until the text is begun anew.
+  // The feed of entries, and the feed of the shown text. They differ while the text is read from scratch.
   #feed;
   /** @type {Feed | null} */
   #shown = null;
@@ -47,8 +51,8 @@ export class Whole {
   #isUnsaid = false;
   /** @type {{ done: () => void, failed: (why: Error) => void }[]} */
   #waiters = [];
-  // What doesn't count for good, and what of that this browser's user has typed anew, until that is said; and whether others' entries are
-  // shown since it was seen.
+  // The messages that are left out for good; the words that this user typed them again, until these are said; and whether others' entries
+  // were shown since the page looked for such messages.
   /** @type {import("./sayings.js").LeftOut[]} */
   #lost = [];
   /** @type {import("./own.js").Word[]} */
@@ -69,8 +73,9 @@ export class Whole {
     [this.#core, this.#store, this.#keys, this.#note, this.#ear] = [core, store, keys, note, ear];
     this.own = new Own(store, keys, note.id, {
       kept: (edits, many) => this.#kept(edits, many), failed: () => this.#failed(), recovered: () => this.#recovered(),
+      says: (words) => this.#ear.says(words),
     });
-    this.#spare = new Spare(store, keys, note.id, async () => this.facts.taken());
+    this.#spare = new Spare(store, keys, note.id, () => this.#taken());
     this.#feed = this.#newFeed();
     this.followed = new Followed(store, keys, note.url, (hasEntries) => this.#came(hasEntries), () => this.#keepSpare());
     this.#next(async () => {
@@ -79,12 +84,12 @@ export class Whole {
     });
   }
 
-  /** What is known without the text. */
+  /** The facts of the note that need no text. */
   get facts() {
     return this.#feed.facts;
   }
 
-  /** What counts of what is shown: all that is said, and how much of that in the margin and in the text.
+  /** All sayings that are shown, and how many of them count in the margin and in the text.
    * @returns {import("./notemargin.js").Counting | null} */
   get counting() {
     const { value, sayings } = this.#shown ?? {};
@@ -101,7 +106,7 @@ export class Whole {
     return this.#spare.isSearching && !this.own.number;
   }
 
-  /** Says what an edit did, or an undo, or looks, which the text shows already. Others' text is shown after what is being kept.
+  /** Note an edit, an undo or looks, which the text shows already. Others' text is shown once the earlier sayings are kept.
    * @param {number} edits */
   made(edits) {
     [this.#edits, this.#isUnsaid] = [edits, true];
@@ -135,7 +140,7 @@ export class Whole {
     return id;
   }
 
-  /** Writes a line into the margin, by this tab's number; the id of what it says.
+  /** Write a line into the margin, under this tab's number. Return the id of its record.
    * @param {Uint8Array} line */
   writeLine(line) {
     const value = /** @type {import("./value.js").Value} */ (this.#shown?.value);
@@ -152,7 +157,7 @@ export class Whole {
     return new Promise((done, failed) => { this.#waiters.push({ done, failed }); });
   }
 
-  /** Has what is left out of this browser's user's text be typed again, by `types`, and says that it was; what that is.
+  /** Type this user's left-out text again, by `types`, and write entries that say so. Return the left-out text.
    * @param {(passages: import("./passages.js").Passage[]) => void} types */
   async recover(types) {
     const { sayings } = this.#shown ?? {};
@@ -179,7 +184,7 @@ export class Whole {
   /** Ends once all is kept; edits are counted from 0 then. */
   async settled() {
     await this.own.settled();
-    // What was done while that was being kept.
+    // There may be edits since.
     if (this.#isUnsaid) this.#show();
     await this.own.settled();
     this.#edits = 0;
@@ -233,7 +238,7 @@ export class Whole {
     await this.#fed(await this.#feed.next((done, of) => this.#ear.reads(done, of)));
   }
 
-  /** Shows what was read, if there is more; and takes another number, where this one is somebody else's.
+  /** Show the entries that were read, if there are more. Take another number if this one is somebody else's.
    * @param {boolean} hasMore */
   async #fed(hasMore) {
     const leaves = this.#isTaken() ? this.#leave() : null;
@@ -248,7 +253,7 @@ export class Whole {
     return this.own.leave();
   }
 
-  /** Takes another number; the text is begun anew from what is kept.
+  /** Take another number, and read the text from scratch.
    * @param {Promise<void>} leaves */
   async #takeNext(leaves) {
     await leaves;
@@ -256,7 +261,7 @@ export class Whole {
     await this.#takeNumber();
   }
 
-  /** Sees what doesn't count for good. What would be typed under a number of which something doesn't could be lost, too. */
+  /** Look for messages that are left out for good. If some are of this tab's number, leave it: later edits under it could be lost, too. */
   async #seesLost() {
     const { value, sayings } = this.#shown ?? {};
     if (!value || !sayings) return;
@@ -278,7 +283,7 @@ export class Whole {
     if (this.#lostOfOwn > before) this.#ear.says(leftOutInWords(this.#lostOfOwn));
   }
 
-  /** How many characters of this browser's user are left out. */
+  /** The number of this user's characters that are left out. */
   get #lostOfOwn() {
     return this.leftOut.reduce((sum, { own, characters }) => sum + (own ? characters : 0), 0);
   }
@@ -317,14 +322,15 @@ export class Whole {
     this.#looksForLost();
   }
 
-  /** Has be seen what doesn't count for good, where others' entries are shown: once the log was read, since what comes may yet make it count. */
+  /** Look for messages that are left out for good, if others' entries were shown since. While the log is read, later entries may make them
+   * count. */
   #looksForLost() {
     if (!this.#hasNews || this.followed.isReading) return;
     this.#hasNews = false;
     this.#next(() => this.#seesLost());
   }
 
-  /** The text is begun anew, from what came by now. */
+  /** Show the text of the new feed from now on. */
   #begins() {
     this.#shown?.close();
     [this.#shown, this.text, this.own.failure, this.#words] = [this.#feed, null, "", []];
@@ -350,15 +356,15 @@ export class Whole {
     this.#ear.stands();
   }
 
-  /** What a tab of before said is on the disk. */
+  /** Note that sayings of a closed tab are on the disk. */
   #recovered() {
     this.followed.kept();
     this.#came(true);
-    // The number is free now under which that was said.
+    // Their number is free now.
     this.#next(() => this.#takeNumber());
   }
 
-  /** What was typed can't be kept: it is taken out. */
+  /** Take out the edits that can't be kept. */
   #failed() {
     this.#ear.unkept(this.own.failure);
     this.#isUnsaid = false;
@@ -366,7 +372,7 @@ export class Whole {
     this.#next(() => this.#anew());
   }
 
-  /** Has the note be shown anew from what is kept. What is shown until then stays, and takes no edits. */
+  /** Read the note from scratch. Until then the old text is shown, and takes no edits. */
   async #anew() {
     const feed = this.#newFeed();
     await feed.next((done, of) => this.#ear.reads(done, of));
@@ -383,7 +389,7 @@ export class Whole {
 
   // The number.
 
-  /** Takes a number, for which the text begins anew: so not while it is being read. */
+  /** Take a number, for which the text is read from scratch. While the log is read this waits. */
   async #takeNumber() {
     if (this.own.number || this.followed.isReading) return;
     const site = await this.own.take(this.facts.taken());
@@ -394,6 +400,12 @@ export class Whole {
     this.followed.site = site;
     this.followed.isCalled();
     await this.#anew();
+  }
+
+  /** Return the numbers that somebody has, once this moment's entries are read. */
+  async #taken() {
+    await this.#turn;
+    return this.facts.taken();
   }
 
   /** Has a number be there that is searched for, and be taken where this tab has none. */

@@ -1,25 +1,32 @@
 """A terminal, Emacs with and without Evil, Neovim and a page of Chromium are at one note. In each somebody types, deletes, rewrites and
 takes back at random, by commands that ask, too, and in Neovim and Evil in blocks, while the log is stopped and started, and editors and
 engines are killed: each word that nobody deleted or rewrote stands in one text, which all have, as often as it was typed and where it was.
+In each round an engine is killed, and its editors' users type on. What is planted is found in its round.
 In a note of the second form words are remarked on, others suggested for them, and these answered, accepted and rejected, by the same
 editors and by scripts: then all have the same threads at the same places, those that the plain program finds.
 
     SHARE_SECONDS=300 VIALSHOAL_SEED=7 share/tests/run test_all_editors
+    SHARE_ROUNDS=100 VIALSHOAL_SEED=7 python3 -B -m share.tests.long.test_all_editors --plant drop
 """
 import contextlib
 import os
 import random
 import re
 import subprocess
+import sys
 import threading
 import time
+import unittest
 from collections import Counter
-from collections.abc import Callable
+from collections.abc import Callable, Iterator
 from concurrent.futures import ThreadPoolExecutor
 from dataclasses import dataclass
 from functools import partial
 
+from share.tests.bursting import Faults, faults_of
+from share.tests.editors import Editor
 from share.tests.forms import is_second_form
+from share.tests.long.ending import print_end, take_plant
 from share.tests.relays import RelayProcess
 from share.tests.said import STATES, Said, Sayings, Told, alike, as_plain, plainly
 from share.tests.servers import FileLog, RedisServer
@@ -27,13 +34,14 @@ from share.tests.support import NOTE, Case, wait_for, written
 from share.tests.writers import PATIENCE, Cut, Emacs, EvilEmacs, Neovim, OwnEditor, PageInChromium, State, Writer, kill_editor, kill_engine
 from share.text.line import Line
 
-SECONDS = float(os.environ.get("SHARE_SECONDS", "0"))
+SECONDS, ROUNDS = float(os.environ.get("SHARE_SECONDS", "0")), int(os.environ.get("SHARE_ROUNDS", "0"))
 SEED = int(os.environ.get("VIALSHOAL_SEED", "1"))
+PLANT = ""
 # The fewest and the most things that each does before all meet.
-ROUND = (5, 25) if SECONDS else (3, 4)
+ROUND = (5, 25) if SECONDS else (3, 12) if ROUNDS else (3, 4)
 EDITORS: list[type[Writer]] = [OwnEditor, Emacs, EvilEmacs, Neovim, PageInChromium]
 # Of so many things that each does one is said of the text.
-ONE_SAID_OF = 3 if SECONDS else 5
+ONE_SAID_OF = 3 if SECONDS or ROUNDS else 5
 WORD = re.compile(r"[tevnpqf]\d{4}[abc]*\.|begin\.")
 
 
@@ -78,31 +86,53 @@ class Author:
         self.steps: list[Step] = []
         self._typed = self._acts = 0
         self.did = Counter[str]()
+        # Whoever holds this lets no engine be killed, because a request that is under way then is dropped.
+        self.asking = threading.RLock()
+        # Whether the engine was killed since the editor was known to have the note open.
+        self.has_lost_engine = False
 
     def write(self, many: int, done: "Done") -> None:
         """Does some things, one after the other."""
-        for _ in range(many):
-            try:
-                self._act()
-            except Cut:
-                self.recover()
-            done.more()
-            time.sleep(self._chance.random() * 0.1)
+        with done.or_failed():
+            for _ in range(many):
+                try:
+                    self._act()
+                except Cut:
+                    self.recover()
+                done.more()
+                time.sleep(self._chance.random() * 0.1)
 
     def recover(self) -> None:
         """Opens the note again. Nothing can be taken back then that was done before."""
         self.did["killed"] += 1
         self.steps.clear()
-        self.writer.recover()
+        with self.asking:
+            self.has_lost_engine = False
+            self.writer.recover()
+
+    @contextlib.contextmanager
+    def _with_engine(self) -> Iterator[None]:
+        """Ask an engine meanwhile, which nobody kills."""
+        with self.asking:
+            self.has_engine()
+            yield
+
+    def has_engine(self) -> None:
+        """Wait until the editor has the note open, if its engine was killed."""
+        if self.has_lost_engine:
+            self.writer.opens_again()
+            self.has_lost_engine = False
 
     def _act(self) -> None:
         self._acts += 1
         if self._sayings and self._told and self._acts % ONE_SAID_OF == 0:
-            self.say(self._sayings, self._told)
+            with self._with_engine():
+                self.say(self._sayings, self._told)
             return
         what = self._chance.random()
         if what < 0.15 and self.steps:
-            self.undo()
+            with self._with_engine():
+                self.undo()
         elif what < 0.3 and (word := self._chosen()):
             self.delete(word)
         elif what < 0.5 and (word := self._chosen()):
@@ -299,6 +329,18 @@ class Done:
 
     def __init__(self) -> None:
         self._many, self._changed = 0, threading.Condition()
+        self._has_failed = False
+
+    @contextlib.contextmanager
+    def or_failed(self) -> Iterator[None]:
+        """Have nobody wait any more if something goes wrong meanwhile."""
+        try:
+            yield
+        except BaseException:
+            with self._changed:
+                self._has_failed = True
+                self._changed.notify_all()
+            raise
 
     def more(self) -> None:
         """One more is done."""
@@ -311,7 +353,7 @@ class Done:
         with self._changed:
             while (before := self._many) < many:
                 self._changed.wait(PATIENCE)
-                assert self._many > before, f"{before} of {many} things are done"
+                assert self._many > before and not self._has_failed, f"{before} of {many} things are done"
         time.sleep(moment)
 
 
@@ -334,6 +376,10 @@ class AllEditors(Case):
         self.words: list[Word] = []
         # The words that were being typed as something was killed: parts of them may be there.
         self.broken: set[str] = set()
+        # The words of the text in their order, as all met the last time.
+        self.order: list[str] = []
+        self.rounds = self.kills = 0
+        self.faults = Faults(0, 0, 0)
         self.deciding = threading.Lock()
 
         def opened(kind: type[Writer], person: str) -> Writer:
@@ -362,19 +408,18 @@ class AllEditors(Case):
         return Author(writer, self.words, self.deciding, random.Random(self.chance.random()), self.sayings, self.told[writer.person])
 
     def test_what_nobody_deleted_stands_once(self) -> None:
-        began, rounds, turns = time.monotonic(), 0, self.turns()
+        began, turns = time.monotonic(), self.turns()
         kinds: list[Author | None] = []
-        while rounds < len(turns) or time.monotonic() < began + SECONDS:
-            if not kinds:
-                kinds = self.chance.sample(turns, len(turns))
-            self.round(kinds.pop())
-            rounds += 1
-            self.meet()
-            self.take_back_what_another_deleted()
-            text = self.meet()
-        for author in self.authors:
-            print(author.writer.tag, author.writer.person, dict(author.did))
-        print(f"{rounds} rounds in {time.monotonic() - began:.0f} s, {len(self.words)} words, {len(text)} bytes")
+        try:
+            while self.rounds < max(ROUNDS, len(turns)) or time.monotonic() < began + SECONDS:
+                if not kinds:
+                    kinds = self.chance.sample(turns, len(turns))
+                self.rounds += 1
+                text = self.round_and_meet(kinds.pop())
+        finally:
+            for author in self.authors:
+                print(author.writer.tag, author.writer.person, dict(author.did))
+            print_end(type(self).__name__, SEED, self.rounds, self.kills, len(self.words), self.faults)
         threads = self.told["ada"].threads() if self.sayings else []
         for told in self.told.values():
             told.close()
@@ -386,18 +431,39 @@ class AllEditors(Case):
                 plain = plainly(self.opened(self.person(person)).session)
                 self.assertEqual(as_plain(threads, plain), plain)
 
+    def round_and_meet(self, killed: Author | None) -> str:
+        """Do a round, after which all show the same; return that."""
+        self.round(killed)
+        self.meet()
+        self.take_back_what_another_deleted()
+        text = self.meet()
+        if PLANT:
+            self.plant(text)
+            text = self.meet()
+        return text
+
+    def plant(self, text: str) -> None:
+        """Do to words of a text what may not come of anything, by another editor of ada's."""
+        one, two = sorted(text.index(word.text) for word in self.words if word.is_there and word.times == 1)[:2]
+        first, second = (WORD.findall(text[at:])[0] for at in (one, two))
+        other = Editor(self.folder / "ada")
+        changes = {"drop": [(one, one + len(first), "")], "double": [(one, one, f"{first}\n")],
+                   "swap": [(two, two + len(second), first), (one, one + len(first), second)]}
+        other.edit(*changes[PLANT])
+        other.settle()
+        other.close()
+
     def turns(self) -> list[Author | None]:
-        """Whose editor is killed in a round, and in the next ones; in one of them somebody's engine."""
+        """Whose editor is killed in a round, and in the next ones; in one of them nobody's."""
         return [*self.authors, None]
 
     def round(self, killed: Author | None) -> None:
-        """Has all write, while an author's editor is killed, or somebody's engine; and the log is away, perhaps."""
+        """Has all write, while somebody's engine is killed, and an author's editor, perhaps; and the log is away, perhaps."""
         many, done = self.chance.randint(*ROUND), Done()
-        first, last, when = (partial(done.wait_for, number, self.chance.random() * 0.2)
-                             for number in (*sorted(self.chance.choices(range(many * len(self.authors)), k=2)),
-                                            self.chance.randrange(many * len(self.authors))))
+        first, last, when, then = (partial(done.wait_for, number, self.chance.random() * 0.2)
+                                   for _ in range(2) for number in sorted(self.chance.choices(range(many * len(self.authors)), k=2)))
         works: list[Callable[[], None]] = [*(partial(author.write, many, done) for author in self.authors),
-                                           partial(self.kill, killed, when)]
+                                           partial(self.kill, killed, when, then)]
         if self.chance.random() < 0.6:
             works.append(partial(self.away, first, last))
         with ThreadPoolExecutor(len(works)) as threads:
@@ -406,15 +472,24 @@ class AllEditors(Case):
         for author in self.authors:
             if author.writer.is_cut:
                 author.recover()
+            author.has_engine()
 
-    def kill(self, killed: Author | None, when: Callable[[], None]) -> None:
-        """Kills an author's editor, or somebody's engine, at a moment of a round."""
+    def kill(self, killed: Author | None, when: Callable[[], None], then: Callable[[], None]) -> None:
+        """Kills an author's editor, if one is named, at a moment of a round, and somebody's engine at a later one."""
         when()
         if killed:
             kill_editor(killed.writer)
-        else:
-            person = self.chance.choice(["ada", "bo"])
-            kill_engine([author.writer for author in self.authors if author.writer.person == person])
+            self.kills += 1
+        then()
+        person = self.chance.choice(["ada", "bo"])
+        some = [author for author in self.authors if author.writer.person == person]
+        with contextlib.ExitStack() as stack:
+            for author in some:
+                stack.enter_context(author.asking)
+            kill_engine(self.folder / person, [author.writer for author in some if not author.writer.is_cut])
+            self.kills += 1
+            for author in some:
+                author.has_lost_engine = not author.writer.is_cut
 
     def away(self, begin: Callable[[], None], end: Callable[[], None]) -> None:
         """Takes the log away from a moment of a round to another one, and a while longer, so that it is missed."""
@@ -466,8 +541,8 @@ class AllEditors(Case):
         sayings.settled(threads)
 
     def check(self, text: str) -> None:
-        """That a text has each word that nobody deleted, as often as it was typed and at its line's end, and what was broken off; and
-        that each editor may change again what is its."""
+        """That a text has each word that nobody deleted, as often as it was typed, in its order and at its line's end, and what was broken
+        off; and that each editor may change again what is its."""
         found = Counter(WORD.findall(text))
         for word in self.words:
             if word.is_there is None:
@@ -475,7 +550,9 @@ class AllEditors(Case):
                 # Its line end may not have been typed.
                 word.is_there, word.times, word.ends_line = word.text in found, found[word.text] or 1, False
         wanted = Counter({word.text: word.times for word in self.words if word.is_there}) + Counter(["begin."])
+        self.faults = self.faults_of(found, wanted, WORD.findall(text))
         self.assertEqual((wanted - found, found - wanted), (Counter(), Counter()), f"what is missing, and what is too much, of {text}")
+        self.assertEqual(self.faults, Faults(0, 0, 0), f"words stand in another order in {text}")
         glued = [word.text for word in self.words if word.is_there and word.ends_line and f"{word.text}\n" not in text]
         self.assertEqual(glued, [], f"words that don't end their lines of {text}")
         for part in WORD.sub(" ", text).split():
@@ -485,6 +562,13 @@ class AllEditors(Case):
             if word.is_there and not any(word is one for step in word.holder.steps for one, _ in step.words()):
                 word.holder = author
             word.is_fresh = True
+
+    def faults_of(self, found: Counter[str], wanted: Counter[str], now: list[str]) -> Faults:
+        """Count the words that are missing or too many. Of the words that are there once, and were there once when all met the last time,
+        count those that stand at another place among each other."""
+        before, self.order = self.order, now
+        old, new = ([word for word in order if found[word] == before.count(word) == 1] for order in (before, now))
+        return Faults((wanted - found).total(), (found - wanted).total(), faults_of(old, new).swapped)
 
     def is_broken(self, part: str) -> bool:
         """Whether something is the begin of words that were being typed as something was killed."""
@@ -497,3 +581,8 @@ class AllEditors(Case):
                               env={**os.environ, "VIALSHOAL_DATA": str(self.folder / person)})
         self.assertEqual((done.returncode, done.stderr), (0, b""))
         return done.stdout.decode()
+
+
+if __name__ == "__main__":
+    PLANT = take_plant(sys.argv)
+    unittest.main()

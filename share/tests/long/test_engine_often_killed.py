@@ -3,15 +3,12 @@
     SHARE_KILLS=200 VIALSHOAL_SEED=7 python3 -B -m share.tests.long.test_engine_often_killed --plant drop
 """
 import os
-import subprocess
 import sys
-import time
 import unittest
 
 from share.tests import test_engine_killed
-from share.tests.bursting import PLANTS
 from share.tests.killing import Kills
-from share.tests.support import TOP
+from share.tests.long.ending import print_end, take_plant
 
 KILLS = int(os.environ.get("SHARE_KILLS", "200"))
 SEED = int(os.environ.get("VIALSHOAL_SEED", "1"))
@@ -24,17 +21,11 @@ class OftenKilled(test_engine_killed.EngineKilled):
     seed = SEED
 
     def rounds(self, kills: Kills) -> None:
-        began, lost = time.monotonic(), 0
         try:
             while kills.kills < KILLS:
-                lost = 1
                 kills.round(PLANT)
-                lost = 0
         finally:
-            commit = subprocess.run(["git", "rev-parse", "--short", "HEAD"], cwd=TOP, capture_output=True, text=True, check=False).stdout
-            print(f"{type(kills.writer).__name__}: commit {commit.strip()}, seed {SEED}, {kills.lines} rounds, {kills.kills} kills, "
-                  f"{kills.keys} keys typed, {lost} rounds in which some were lost, doubled or swapped, "
-                  f"{time.monotonic() - began:.0f} s", flush=True)
+            print_end(type(kills.writer).__name__, SEED, kills.lines, kills.kills, kills.keys, kills.faults(), unit="keys")
         kills.take_back()
 
 
@@ -44,9 +35,5 @@ def load_tests(loader: unittest.TestLoader, _: unittest.TestSuite, __: str | Non
 
 
 if __name__ == "__main__":
-    if "--plant" in sys.argv:
-        at = sys.argv.index("--plant")
-        PLANT = sys.argv[at + 1]
-        assert PLANT in PLANTS, PLANTS
-        del sys.argv[at:at + 2]
+    PLANT = take_plant(sys.argv)
     unittest.main()

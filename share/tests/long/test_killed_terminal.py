@@ -5,12 +5,12 @@ is found.
 """
 import os
 import random
-import subprocess
 import sys
 import unittest
 
-from share.tests.bursting import PLANTS
-from share.tests.support import TOP, Case
+from share.tests.bursting import faults_of
+from share.tests.long.ending import print_end, take_plant
+from share.tests.support import Case
 from share.tests.typed_terminal import TypedTerminal
 
 KILLS = int(os.environ.get("VIALSHOAL_KILLS", "200"))
@@ -27,17 +27,10 @@ class KilledWhileTyping(Case):
         terminal.type_and_kill(KILLS, PLANT)
         found = terminal.quit()
         wanted, there = terminal.typed.split(), found.split()
-        lost, doubled = len({*wanted} - {*there}), len(there) - len({*there})
-        commit = subprocess.run(["git", "rev-parse", "--short", "HEAD"], cwd=TOP, capture_output=True, text=True, check=False).stdout
-        print(f"terminal: commit {commit.strip()}, seed {SEED}, 1 round, {terminal.kills} kills, {len(wanted)} words typed, "
-              f"{lost} lost, {doubled} doubled", flush=True)
+        print_end("terminal", SEED, 1, terminal.kills, len(wanted), faults_of(wanted, there))
         self.assertEqual(found, terminal.typed)
 
 
 if __name__ == "__main__":
-    if "--plant" in sys.argv:
-        at = sys.argv.index("--plant")
-        PLANT = sys.argv[at + 1]
-        assert PLANT in PLANTS, PLANTS
-        del sys.argv[at:at + 2]
+    PLANT = take_plant(sys.argv)
     unittest.main()
