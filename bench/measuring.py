@@ -96,7 +96,7 @@ def ordinary() -> list[str] | None:
 
 @functools.cache
 def by_library(module: str) -> list[str]:
-    """What answers scripts by the library as ordinary Rust, which cargo builds: the module of this folder."""
+    """Return the command that plays a script through the library by a module of this folder. Cargo builds the library as ordinary Rust."""
     workspace = TOP / "rust"
     subprocess.run(["cargo", "build", "--quiet", "--release", "--offline", "--locked", "-p", "vialshoal_c"], cwd=workspace, check=True)
     library = workspace / "target" / "release" / "libvialshoal_c.so"

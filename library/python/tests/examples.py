@@ -5,10 +5,10 @@ import os
 
 from hypothesis import settings
 
-# If this is set, tests try so many times more examples, and other ones at each run.
+# The factor by which a test tries more examples than usual. If it is set, each run tries other examples.
 TIMES = int(os.environ.get("VIALSHOAL_EXAMPLES", "0"))
 
 
 def tries(count: int) -> settings:
-    """Return the settings with which a test tries so many examples: the same ones at each run, unless VIALSHOAL_EXAMPLES asks for more."""
+    """Return the settings with which a test tries `count` examples. Without VIALSHOAL_EXAMPLES each run tries the same ones."""
     return settings(max_examples=count * max(TIMES, 1), derandomize=not TIMES, database=None, deadline=None)

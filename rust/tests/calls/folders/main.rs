@@ -35,8 +35,8 @@ fn folder(dice: Dice) -> Moment {
     Moment::of(files)
 }
 
-// Whether at a moment of a writing the name's file has the mode that it had, what is no plain file stays, and the new file allows others no
-// more than the old one.
+// Says whether three things hold at a moment of a writing: the name's file has its old mode; what is no plain file is still there; the new
+// file allows others no more than the old file does.
 fn is_kept(name: &str, old: &Moment, now: &Moment) -> bool {
     let mut new = now.names.keys().filter(|each| each.starts_with(BESIDE) && !old.names.contains_key(*each));
     let stays = old.seen(name) != Some(&Content::Special) || now.seen(name) == Some(&Content::Special);
