@@ -31,6 +31,14 @@ since_call step Each Last each last (Some old) (Some new) goes = record {
   last = last old.now new.now goes.next;
 }
 
+-- what two clauses say of one call
+pub goes_both : (A B Both : Moment → Moment → Type 0) → ((m n : Moment) → A m n → B m n → Both m n)
+    → (old new : Option History) → Goes A old new → Goes B old new → Goes Both old new
+goes_both A B Both both None None a b = tt
+goes_both A B Both both None (Some new) a b = absurd a
+goes_both A B Both both (Some old) None a b = absurd a
+goes_both A B Both both (Some old) (Some new) a b = record { past = a.past; next = both old.now new.now a.next b.next }
+
 -- what is said less
 pub since_weaker : (E L Each Last : Moment → Moment → Type 0)
     → ((a s : Moment) → E a s → Each a s) → ((a s : Moment) → L a s → Last a s)

@@ -9,7 +9,7 @@ use Rattle.looks.specs.declared.refusal.Refusal.{Refusal}
 use Rattle.looks.specs.declared.refusal.Refusal.TheVariants.{OutOfMemory as Refused}
 use Rattle.folder_shelf.specs.Calls.{Fails, MakesFile, NoFault, Perhaps, Removes, Same, SyncsFolder, Well}
 use Rattle.folder_shelf.specs.Moments.{Among, Anything, Content, CrashLeaves, File, Goes, History, Moment, Names, Plain, Since, Special, Survives, lasting, mode_of, seen}
-use Rattle.folder_shelf.specs.Whole.{BeforeOrAfter, GivenUp, IsBeside, IsHindered, IsPlacedWhole, MakesBeside, Placing, Replaced}
+use Rattle.folder_shelf.specs.Whole.{BeforeOrAfter, GivenUp, IsBeside, IsHindered, IsPlacedWhole, MakesBeside, MakesFor, Placing, Replaced}
 use Rattle.folder_shelf.proofs.Leading.{since_call, since_since, since_weaker}
 use Rattle.folder_shelf.proofs.Reading.{fails_after}
 use Rattle.folder_shelf.proofs.Replacing.{PlacingFails, before_or_after_made, before_or_after_placing, content_other, made_mode, made_seen, placing_removes, placing_same, placing_synced, survives_other}
@@ -92,17 +92,17 @@ module _ (beside : List ℕ) (file : ℕ) (name bytes : List ℕ) (is_beside : I
   -- a file was made, and then this was so
   pub record AfterMaking (Last : Moment → Moment → Type 0) (a z : Moment) : Type 0 where
     pub mid : Moment
-    pub makes : MakesFile beside file a mid
+    pub made : MakesFor name beside file a mid
     pub no_fault : NoFault a mid
     pub last : Last mid z
 
-  pub made_and : (Last : Moment → Moment → Type 0) (h0 h1 h2 : Option History) → Since MakesBeside (Well (MakesFile beside file)) h0 h1
+  pub made_and : (Last : Moment → Moment → Type 0) (h0 h1 h2 : Option History) → Since (MakesBeside name) (Well (MakesFor name beside file)) h0 h1
       → Since (Placing file beside name bytes) Last h1 h2 → Since (BeforeOrAfter name bytes) (AfterMaking Last) h0 h2
   made_and Last h0 h1 h2 x y =
-      since_since MakesBeside (Well (MakesFile beside file)) (Placing file beside name bytes) Last (BeforeOrAfter name bytes) (AfterMaking Last)
+      since_since (MakesBeside name) (Well (MakesFor name beside file)) (Placing file beside name bytes) Last (BeforeOrAfter name bytes) (AfterMaking Last)
       (λ a n made. before_or_after_made name bytes a n not_beside made)
       (λ a m n made placing. before_or_after_placing beside file name bytes a m n is_beside not_beside made.0 placing)
-      (λ a m n made last. record { mid = m; makes = made.0; no_fault = made.1; last = last })
+      (λ a m n made last. record { mid = m; made = made.0; no_fault = made.1; last = last })
       h0 h1 h2 x y
 
   placing_perhaps : (m z n : Moment) → Placing file beside name bytes m z → Same z n ⊎ SyncsFolder z n → Placing file beside name bytes m n
@@ -114,9 +114,9 @@ module _ (beside : List ℕ) (file : ℕ) (name bytes : List ℕ) (is_beside : I
   folder_synced h0 h2 h3 x y =
       since_since (BeforeOrAfter name bytes) (AfterMaking (IsPlacedWhole file beside name bytes)) SyncsFolder (Well SyncsFolder) (BeforeOrAfter name bytes) (Replaced name bytes)
       (λ a n p. p)
-      (λ a z n put syncs. before_or_after_placing beside file name bytes a put.mid n is_beside not_beside put.makes
+      (λ a z n put syncs. before_or_after_placing beside file name bytes a put.mid n is_beside not_beside put.made
       (placing_synced file beside name bytes put.mid z n put.last.placing syncs))
-      (λ a z n put syncs. is_replaced a put.mid z n put.makes put.last syncs.0 put.no_fault syncs.1)
+      (λ a z n put syncs. is_replaced a put.mid z n put.made.makes put.last syncs.0 put.no_fault syncs.1)
       h0 h2 h3 x (since_call (Well SyncsFolder) SyncsFolder (Well SyncsFolder) (λ m n s. s.0) (λ m n s. s) h2 h3 y)
 
   fails_given_up : (error : Error) (a n : Moment) → Fails error a n → GivenUp error a n
@@ -132,7 +132,7 @@ module _ (beside : List ℕ) (file : ℕ) (name bytes : List ℕ) (is_beside : I
   folder_not_synced error h0 h2 h3 x y =
       since_since (BeforeOrAfter name bytes) (AfterMaking (IsPlacedWhole file beside name bytes)) Same (Perhaps error Same) (BeforeOrAfter name bytes) (GivenUp error)
       (λ a n p. p)
-      (λ a z n put same. before_or_after_placing beside file name bytes a put.mid n is_beside not_beside put.makes
+      (λ a z n put same. before_or_after_placing beside file name bytes a put.mid n is_beside not_beside put.made
       (placing_same file beside name bytes put.mid z n put.last.placing same))
       (λ a z n put fails. fails_given_up error a n (fails_after error a z n (put.last.no_fault ∙ put.no_fault) fails.1))
       h0 h2 h3 x (since_call (Perhaps error Same) Same (Perhaps error Same) (λ m n s. either_same m n s.0) (λ m n s. s) h2 h3 y)
@@ -155,7 +155,7 @@ module _ (beside : List ℕ) (file : ℕ) (name bytes : List ℕ) (is_beside : I
   cleared error h0 h2 h3 x y =
       since_since (BeforeOrAfter name bytes) (AfterMaking (PlacingFails file beside name bytes error)) Removal Removal (BeforeOrAfter name bytes) (GivenUp error)
       (λ a n p. p)
-      (λ a z n put removal. before_or_after_placing beside file name bytes a put.mid n is_beside not_beside put.makes
+      (λ a z n put removal. before_or_after_placing beside file name bytes a put.mid n is_beside not_beside put.made
       (placing_removal put.mid z n put.last.0 removal.what))
       (λ a z n put removal. given_up_still error a put.mid z n put.no_fault removal.later put.last.1)
       h0 h2 h3 x y
@@ -201,9 +201,9 @@ pub at_last : (name bytes : List ℕ) (Last : Moment → Moment → Type 0) (h0 
 at_last name bytes Last = since_weaker (BeforeOrAfter name bytes) Last Anything Last (λ a n p. tt) (λ a n l. l)
 
 pub not_begun : (name bytes : List ℕ) (error : Error) (h0 h1 : Option History) → (¬ IsBeside name)
-    → Since MakesBeside (GivenUp error) h0 h1 → Since (BeforeOrAfter name bytes) (GivenUp error) h0 h1
+    → Since (MakesBeside name) (GivenUp error) h0 h1 → Since (BeforeOrAfter name bytes) (GivenUp error) h0 h1
 not_begun name bytes error h0 h1 not_beside =
-    since_weaker MakesBeside (GivenUp error) (BeforeOrAfter name bytes) (GivenUp error)
+    since_weaker (MakesBeside name) (GivenUp error) (BeforeOrAfter name bytes) (GivenUp error)
     (λ a n made. before_or_after_made name bytes a n not_beside made) (λ a n l. l) h0 h1
 
 -- however a call ended

@@ -3,9 +3,10 @@ use Rattle.std.proofs.Common.{◌≡◌, ◌≢◌, ◌⊎◌, inl, inr, ℕ, tr
 use Rattle.std.specs.Prelude.{Option, Some, None}
 use Rattle.std.specs.Option.{option_map}
 use Rattle.std.specs.declared.io.Error.{Error}
-use Rattle.folder_shelf.specs.Calls.{AppendsToFile, Fails, MakesFile, Moves, NoFault, Perhaps, Removes, Same, Syncs, SyncsFolder, TakesMode, Touches, Well}
+use Rattle.folder_shelf.specs.Calls.{AppendsToFile, Fails, MakesFile, Moves, NoFault, Perhaps, Removes, Same, Syncs, SyncsFolder, TakesMode, Touches, TouchesContent, TouchesMode, Well}
 use Rattle.folder_shelf.specs.Moments.{Among, Content, CrashLeaves, File, Goes, History, Moment, Names, Plain, Since, Special, Survives, lasting, mode_of, seen}
-use Rattle.folder_shelf.specs.Whole.{BeforeOrAfter, IsBeside, IsPlacedWhole, IsWhole, MakesBeside, Placing}
+use Rattle.folder_shelf.specs.Whole.{BeforeOrAfter, IsBeside, IsPlacedWhole, IsWhole, MakesBeside, MakesFor, Placing}
+use Rattle.folder_shelf.specs.declared.folder.TheConstants.{PRIVATE}
 use Rattle.folder_shelf.proofs.Leading.{since_call, since_since}
 use Rattle.folder_shelf.proofs.Reading.{fails_after}
 
@@ -18,7 +19,7 @@ seen_same old now n same =
     ap (λ (names : Names). option_map (λ k. (now.files k).content) (names n)) same.names
     ∙ ap (λ (files : ℕ → File). option_map (λ k. (files k).content) (old.names n)) same.files
 
-mode_same : (old now : Moment) (n : List ℕ) → Same old now → mode_of now n ≡ mode_of old n
+pub mode_same : (old now : Moment) (n : List ℕ) → Same old now → mode_of now n ≡ mode_of old n
 mode_same old now n same =
     ap (λ (names : Names). option_map (λ k. (now.files k).mode) (names n)) same.names
     ∙ ap (λ (files : ℕ → File). option_map (λ k. (files k).mode) (old.names n)) same.files
@@ -51,6 +52,16 @@ mode_other : (old now : ℕ → File) (left : Option ℕ)
     → ((k : ℕ) → left ≡ Some k → now k ≡ old k) → option_map (λ k. (now k).mode) left ≡ option_map (λ k. (old k).mode) left
 mode_other old now None same = refl
 mode_other old now (Some k) same = ap (λ (f : File). Some f.mode) (same k refl)
+
+-- a name has one mode, or none
+one_mode : (found : Option ℕ) (a b : ℕ) → found ≡ Some a → found ≡ Some b → a ≡ b
+one_mode found a b is also = cc
+
+no_mode : (found : Option ℕ) (a : ℕ) → found ≡ None → found ≡ Some a → ⊥
+no_mode found a none is = cc
+
+lacks_mode : (m : Moment) (n : List ℕ) (a : ℕ) → m.names n ≡ None → mode_of m n ≡ Some a → ⊥
+lacks_mode m n a none is = no_mode (mode_of m n) a (ap (λ (left : Option ℕ). option_map (λ k. (m.files k).mode) left) none) is
 
 -- the making of a file leaves the files of other names
 module _ (beside : List ℕ) (file : ℕ) (old mid : Moment) (makes : MakesFile beside file old mid) (n : List ℕ) (differs : n ≡ beside → ⊥) where
@@ -87,6 +98,8 @@ pub record Under (beside : List ℕ) (file : ℕ) (name bytes : List ℕ) (old n
   pub files : (k : ℕ) → k ≢ file → now.files k ≡ old.files k
   pub absent : old.names beside ≡ None
   pub fresh : (n : List ℕ) → ¬ Among (lasting old) n (Some file)
+  pub here : (now.names beside ≡ Some file) ⊎ (now.names beside ≡ None)
+  pub mode : (before : ℕ) → mode_of old name ≡ Some before → ((now.files file).mode ≡ PRIVATE) ⊎ ((now.files file).mode ≡ before)
 
 module _ (beside : List ℕ) (file : ℕ) (name bytes : List ℕ) (old now : Moment) (under : Under beside file name bytes old now) where
   -- the files that a name may have had before are as they were
@@ -143,6 +156,26 @@ module _ (beside : List ℕ) (file : ℕ) (name bytes : List ℕ) (old now : Mom
       | inr (inr w) ↦ absurd (w.3.plain is)
     ]
 
+    mode_beside : (before mode : ℕ) → mode_of old name ≡ Some before → mode_of now beside ≡ Some mode → (mode ≡ PRIVATE) ⊎ (mode ≡ before)
+    mode_beside before mode was is = elim under.here [
+      | inl e ↦
+          let same : (now.files file).mode ≡ mode =
+          one_mode (mode_of now beside) (now.files file).mode mode (ap (λ (left : Option ℕ). option_map (λ k. (now.files k).mode) left) e) is in
+          elim (under.mode before was) [
+            | inl private ↦ inl (sym same ∙ private)
+            | inr taken ↦ inr (sym same ∙ taken)
+          ]
+      | inr e ↦ absurd (lacks_mode now beside mode e is)
+    ]
+
+    is_private : (before : ℕ) → mode_of old name ≡ Some before → (other : List ℕ) → IsBeside other → old.names other ≡ None
+        → (mode : ℕ) → mode_of now other ≡ Some mode → (mode ≡ PRIVATE) ⊎ (mode ≡ before)
+    is_private before was other other_beside absent mode is = elim (under.names other) [
+      | inl e ↦ absurd (lacks_mode now other mode (e ∙ absent) is)
+      | inr (inl e) ↦ mode_beside before mode was (subst (λ (n : List ℕ). mode_of now n ≡ Some mode) e is)
+      | inr (inr w) ↦ absurd (not_beside (subst (λ (n : List ℕ). IsBeside n) w.0 other_beside))
+    ]
+
     pub under_before_or_after : BeforeOrAfter name bytes old now
     under_before_or_after = record {
       shows = elim (seen_under name) [
@@ -157,6 +190,7 @@ module _ (beside : List ℕ) (file : ℕ) (name bytes : List ℕ) (old now : Mom
       ];
       mode = has_mode;
       special = stays_special;
+      private = is_private;
       others_show = λ other differs. elim (seen_under other) [
         | inl before ↦ inl before
         | inr (inl e) ↦ inr (is_new other e)
@@ -171,50 +205,68 @@ module _ (beside : List ℕ) (file : ℕ) (name bytes : List ℕ) (old now : Mom
 
 -- a file that was made, and the writing to it and the naming since
 pub under_made : (beside : List ℕ) (file : ℕ) (name bytes : List ℕ) (old mid now : Moment) → (name ≡ beside → ⊥)
-    → MakesFile beside file old mid → Placing file beside name bytes mid now → Under beside file name bytes old now
-under_made beside file name bytes old mid now differs makes placing = record {
+    → MakesFor name beside file old mid → Placing file beside name bytes mid now → Under beside file name bytes old now
+under_made beside file name bytes old mid now differs made placing = record {
   names = λ n. elim (placing.names n) [
-    | inl e ↦ elim (makes.others n) [
+    | inl e ↦ elim (made.makes.others n) [
       | inl b ↦ inr (inl b)
       | inr same ↦ inl (e ∙ same)
     ]
     | inr (inl b) ↦ inr (inl b)
-    | inr (inr w) ↦ inr (inr (w.0, w.1 ∙ makes.here, w.2.content makes.content, takes w.2))
+    | inr (inr w) ↦ inr (inr (w.0, w.1 ∙ made.makes.here, w.2.content made.makes.content, takes w.2))
   ];
   kept = λ n left among. elim (placing.kept n left among) [
     | inl before ↦ made_kept n left before
     | inr (inl b) ↦ inr (inl b)
-    | inr (inr w) ↦ inr (inr (w.0, w.1 ∙ makes.here, w.2.content makes.content, w.2.synced))
+    | inr (inr w) ↦ inr (inr (w.0, w.1 ∙ made.makes.here, w.2.content made.makes.content, w.2.synced))
   ];
-  files = λ k differs. placing.files k differs ∙ makes.files k differs;
-  absent = makes.absent;
-  fresh = makes.fresh;
+  files = λ k differs. placing.files k differs ∙ made.makes.files k differs;
+  absent = made.makes.absent;
+  fresh = made.makes.fresh;
+  here = elim (placing.here (λ e. differs (sym e))) [
+    | inl e ↦ inl (e ∙ made.makes.here)
+    | inr e ↦ inr e
+  ];
+  mode = λ before is. elim (placing.mode before (mode_then ∙ is)) [
+    | inl same ↦ inl (same ∙ made.is_for.private (λ none. no_mode (mode_of old name) before none is))
+    | inr taken ↦ inr taken
+  ];
 }
   where
+    mode_then : mode_of mid name ≡ mode_of old name
+    mode_then = made_mode beside file old mid made.makes name differs
+
     takes : IsWhole file name bytes mid now → Takes file name old now
     takes whole = record {
-      mode = λ before is. whole.mode before (made_mode beside file old mid makes name differs ∙ is);
-      plain = λ is. whole.plain (made_seen beside file old mid makes name differs ∙ is);
+      mode = λ before is. whole.mode before (mode_then ∙ is);
+      plain = λ is. whole.plain (made_seen beside file old mid made.makes name differs ∙ is);
     }
 
     made_kept : (n : List ℕ) (left : Option ℕ) → Among (lasting mid) n left → Among (lasting old) n left ⊎ (n ≡ beside)
         ⊎ ((n ≡ name) × (left ≡ Some file) × ((now.files file).content ≡ Plain bytes) × ((now.files file).synced ≡ true))
-    made_kept n left (inl is) = elim (makes.others n) [
+    made_kept n left (inl is) = elim (made.makes.others n) [
       | inl b ↦ inr (inl b)
       | inr same ↦ inl (inl (is ∙ same))
     ]
-    made_kept n left (inr among) = inl (subst (λ (l : List Names). Among l n left) makes.kept among)
+    made_kept n left (inr among) = inl (subst (λ (l : List Names). Among l n left) made.makes.kept among)
 
 -- nothing was written or named yet
 placing_start : (file : ℕ) (beside name bytes : List ℕ) (m : Moment) → Placing file beside name bytes m m
-placing_start file beside name bytes m = record { names = λ n. inl refl; kept = λ n left among. inl among; files = λ k differs. refl }
+placing_start file beside name bytes m = record {
+  names = λ n. inl refl;
+  kept = λ n left among. inl among;
+  files = λ k differs. refl;
+  here = λ differs. inl refl;
+  mode = λ before is. inl refl;
+}
 
-pub before_or_after_made : (name bytes : List ℕ) (old now : Moment) → (¬ IsBeside name) → MakesBeside old now → BeforeOrAfter name bytes old now
+pub before_or_after_made : (name bytes : List ℕ) (old now : Moment) → (¬ IsBeside name) → MakesBeside name old now → BeforeOrAfter name bytes old now
 before_or_after_made name bytes old now not_beside (inl same) = record {
   shows = inl (seen_same old now name same);
   leaves = λ found left. inl (leaves_same old now same name found left);
   mode = λ before is. mode_same old now name same ∙ is;
   special = λ is. seen_same old now name same ∙ is;
+  private = λ before was other other_beside absent mode is. absurd (lacks_mode old other mode absent (sym (mode_same old now other same) ∙ is));
   others_show = λ other differs. inl (seen_same old now other same);
   others_leave = λ other differs found left. inl (leaves_same old now same other found left);
 }
@@ -222,7 +274,7 @@ before_or_after_made name bytes old now not_beside (inr m) =
     under_before_or_after m.0 m.1 name bytes old now (under_made m.0 m.1 name bytes old now now (λ e. not_beside (subst (λ (n : List ℕ). IsBeside n) (sym e) m.2)) m.3 (placing_start m.1 m.0 name bytes now)) m.2 not_beside
 
 pub before_or_after_placing : (beside : List ℕ) (file : ℕ) (name bytes : List ℕ) (old mid now : Moment) → IsBeside beside → (¬ IsBeside name)
-    → MakesFile beside file old mid → Placing file beside name bytes mid now → BeforeOrAfter name bytes old now
+    → MakesFor name beside file old mid → Placing file beside name bytes mid now → BeforeOrAfter name bytes old now
 before_or_after_placing beside file name bytes old mid now is_beside not_beside makes placing =
     under_before_or_after beside file name bytes old now
     (under_made beside file name bytes old mid now (λ e. not_beside (subst (λ (n : List ℕ). IsBeside n) (sym e) is_beside)) makes placing)
@@ -255,11 +307,26 @@ module _ (file : ℕ) (beside name bytes : List ℕ) (old mid now : Moment) (pla
     | inr (inr w) ↦ inr (inr (w.0, w.1, whole_then files w.2))
   ]
 
+  mode_then : now.files ≡ mid.files → (before : ℕ) → mode_of old name ≡ Some before
+      → ((now.files file).mode ≡ (old.files file).mode) ⊎ ((now.files file).mode ≡ before)
+  mode_then files before is = elim (placing.mode before is) [
+    | inl same ↦ inl (ap (λ (fs : ℕ → File). (fs file).mode) files ∙ same)
+    | inr taken ↦ inr (ap (λ (fs : ℕ → File). (fs file).mode) files ∙ taken)
+  ]
+
+  here_then : now.names ≡ mid.names → beside ≢ name → (now.names beside ≡ old.names beside) ⊎ (now.names beside ≡ None)
+  here_then names differs = elim (placing.here differs) [
+    | inl same ↦ inl (ap (λ (ns : Names). ns beside) names ∙ same)
+    | inr gone ↦ inr (ap (λ (ns : Names). ns beside) names ∙ gone)
+  ]
+
   pub placing_same : Same mid now → Placing file beside name bytes old now
   placing_same same = record {
     names = λ n. names_then same.files n (ap (λ (names : Names). names n) same.names);
     kept = λ n left among. kept_then same.files n left (lasting_same mid now same.names same.kept n left among);
     files = λ k differs. ap (λ (fs : ℕ → File). fs k) same.files ∙ placing.files k differs;
+    here = here_then same.names;
+    mode = mode_then same.files;
   }
 
   removes_kept : Removes beside mid now → (n : List ℕ) (left : Option ℕ) → Among (lasting now) n left
@@ -279,6 +346,8 @@ module _ (file : ℕ) (beside name bytes : List ℕ) (old mid now : Moment) (pla
     ];
     kept = removes_kept removes;
     files = λ k differs. ap (λ (fs : ℕ → File). fs k) removes.files ∙ placing.files k differs;
+    here = λ differs. inr removes.here;
+    mode = mode_then removes.files;
   }
 
   pub placing_synced : SyncsFolder mid now → Placing file beside name bytes old now
@@ -289,6 +358,8 @@ module _ (file : ℕ) (beside name bytes : List ℕ) (old mid now : Moment) (pla
       | inr among ↦ absurd (subst (λ (l : List Names). Among l n left) syncs.kept among)
     ];
     files = λ k differs. ap (λ (fs : ℕ → File). fs k) syncs.files ∙ placing.files k differs;
+    here = here_then syncs.names;
+    mode = mode_then syncs.files;
   }
 
 -- The writing to a new file and its naming, call by call.
@@ -316,16 +387,32 @@ module _ (file : ℕ) (beside name bytes : List ℕ) where
     files = λ k differs. b.files k differs ∙ a.files k differs;
   }
 
-  placing_touches : (old now : Moment) → Touches file old now → Placing file beside name bytes old now
-  placing_touches old now touches = record {
-    names = λ n. inl (ap (λ (names : Names). names n) touches.names);
-    kept = λ n left among. inl (lasting_same old now touches.names touches.kept n left among);
-    files = touches.files;
+  placing_touches : (old now : Moment) → TouchesMode file name old now → Placing file beside name bytes old now
+  placing_touches old now t = record {
+    names = λ n. inl (ap (λ (names : Names). names n) t.touches.names);
+    kept = λ n left among. inl (lasting_same old now t.touches.names t.touches.kept n left among);
+    files = t.touches.files;
+    here = λ differs. inl (ap (λ (names : Names). names beside) t.touches.names);
+    mode = t.mode;
   }
 
-  touches_perhaps : (old now : Moment) → Same old now ⊎ Touches file old now → Touches file old now
-  touches_perhaps old now (inl same) = touches_same old now same
-  touches_perhaps old now (inr touches) = touches
+  mode_perhaps : (old now : Moment) → Same old now ⊎ TouchesMode file name old now → TouchesMode file name old now
+  mode_perhaps old now (inl same) =
+      record { touches = touches_same old now same; mode = λ before is. inl (ap (λ (fs : ℕ → File). (fs file).mode) same.files) }
+  mode_perhaps old now (inr touches) = touches
+
+  content_perhaps : (old now : Moment) → Same old now ⊎ TouchesContent file old now → TouchesContent file old now
+  content_perhaps old now (inl same) =
+      record { touches = touches_same old now same; mode = ap (λ (fs : ℕ → File). (fs file).mode) same.files }
+  content_perhaps old now (inr touches) = touches
+
+  -- the file had its mode before
+  mode_then_content : (old mid now : Moment) → Touches file old mid → Takes file name old mid → TouchesContent file mid now
+      → TouchesMode file name old now
+  mode_then_content old mid now touches takes content = record {
+    touches = touches_touches old mid now touches content.touches;
+    mode = λ before is. inr (content.mode ∙ takes.mode before is);
+  }
 
   whole_moved : (old mid now : Moment) → now.files ≡ mid.files → IsWhole file name bytes old mid → IsWhole file name bytes old now
   whole_moved old mid now files w = record {
@@ -357,6 +444,8 @@ module _ (file : ℕ) (beside name bytes : List ℕ) where
         ];
         kept = moved_kept old mid now written.touches whole moves;
         files = λ k differs. ap (λ (fs : ℕ → File). fs k) moves.files ∙ written.touches.files k differs;
+        here = λ differs. inr (moves.gone differs);
+        mode = λ before is. inr (whole.mode before is);
       }
 
   placed_moves : (old mid now : Moment) → Written old mid → Moves beside name mid now → NoFault mid now → IsPlacedWhole file beside name bytes old now
@@ -380,13 +469,14 @@ module _ (file : ℕ) (beside name bytes : List ℕ) where
     takes : Takes file name old now
     no_fault : NoFault old now
 
-  pub put_mode_fails : (error : Error) (h0 h1 : Option History) → Goes (Perhaps error (Touches file)) h0 h1 → Since IsPlaced (PlacingFails error) h0 h1
-  put_mode_fails error = since_call (Perhaps error (Touches file)) IsPlaced (PlacingFails error)
-      (λ m n step. placing_touches m n (touches_perhaps m n step.0))
-      (λ m n step. (placing_touches m n (touches_perhaps m n step.0), step.1))
+  pub put_mode_fails : (error : Error) (h0 h1 : Option History) → Goes (Perhaps error (TouchesMode file name)) h0 h1 → Since IsPlaced (PlacingFails error) h0 h1
+  put_mode_fails error = since_call (Perhaps error (TouchesMode file name)) IsPlaced (PlacingFails error)
+      (λ m n step. placing_touches m n (mode_perhaps m n step.0))
+      (λ m n step. (placing_touches m n (mode_perhaps m n step.0), step.1))
 
   moded : (h0 h1 : Option History) → Goes (Well (TakesMode file name)) h0 h1 → Since IsPlaced (Filled []) h0 h1
-  moded = since_call (Well (TakesMode file name)) IsPlaced (Filled []) (λ m n step. placing_touches m n step.0.touches)
+  moded = since_call (Well (TakesMode file name)) IsPlaced (Filled [])
+      (λ m n step. placing_touches m n (record { touches = step.0.touches; mode = λ before is. inr (step.0.mode before is) }))
       (λ m n step. record {
         touches = step.0.touches;
         content = λ empty. step.0.content ∙ empty;
@@ -395,18 +485,18 @@ module _ (file : ℕ) (beside name bytes : List ℕ) where
       })
 
   filled_fails : (filled : List ℕ) (error : Error) (k : ℕ) → k ≡ file → (h0 h1 h2 : Option History) → Since IsPlaced (Filled filled) h0 h1
-      → Goes (Perhaps error (Touches k)) h1 h2 → Since IsPlaced (PlacingFails error) h0 h2
+      → Goes (Perhaps error (TouchesContent k)) h1 h2 → Since IsPlaced (PlacingFails error) h0 h2
   filled_fails filled error k is h0 h1 h2 a b =
-      let step : Goes (Perhaps error (Touches file)) h1 h2 = subst (λ (j : ℕ). Goes (Perhaps error (Touches j)) h1 h2) is b in
-      since_since IsPlaced (Filled filled) (Touches file) (Perhaps error (Touches file)) IsPlaced (PlacingFails error)
+      let step : Goes (Perhaps error (TouchesContent file)) h1 h2 = subst (λ (j : ℕ). Goes (Perhaps error (TouchesContent j)) h1 h2) is b in
+      since_since IsPlaced (Filled filled) (TouchesContent file) (Perhaps error (TouchesContent file)) IsPlaced (PlacingFails error)
       (λ m n p. p)
-      (λ l m n x y. placing_touches l n (touches_touches l m n x.touches y))
-      (λ l m n x y. (placing_touches l n (touches_touches l m n x.touches (touches_perhaps m n y.0)), fails_after error l m n x.no_fault y.1))
+      (λ l m n x y. placing_touches l n (mode_then_content l m n x.touches x.takes y))
+      (λ l m n x y. (placing_touches l n (mode_then_content l m n x.touches x.takes (content_perhaps m n y.0)), fails_after error l m n x.no_fault y.1))
       h0 h1 h2 a
-      (since_call (Perhaps error (Touches file)) (Touches file) (Perhaps error (Touches file)) (λ m n s. touches_perhaps m n s.0) (λ m n s. s) h1 h2 step)
+      (since_call (Perhaps error (TouchesContent file)) (TouchesContent file) (Perhaps error (TouchesContent file)) (λ m n s. content_perhaps m n s.0) (λ m n s. s) h1 h2 step)
 
   pub put_append_fails : (error : Error) (h0 h1 h2 : Option History) → Goes (Well (TakesMode file name)) h0 h1
-      → Goes (Perhaps error (Touches file)) h1 h2 → Since IsPlaced (PlacingFails error) h0 h2
+      → Goes (Perhaps error (TouchesContent file)) h1 h2 → Since IsPlaced (PlacingFails error) h0 h2
   put_append_fails error h0 h1 h2 a b = filled_fails [] error file refl h0 h1 h2 (moded h0 h1 a) b
 
   filled_then : (l m n : Moment) → Filled [] l m → Well (AppendsToFile file bytes) m n → Filled bytes l n
@@ -420,24 +510,24 @@ module _ (file : ℕ) (beside name bytes : List ℕ) where
   appended : (h0 h1 h2 : Option History) → Goes (Well (TakesMode file name)) h0 h1 → Goes (Well (AppendsToFile file bytes)) h1 h2
       → Since IsPlaced (Filled bytes) h0 h2
   appended h0 h1 h2 a b =
-      since_since IsPlaced (Filled []) (Touches file) (Well (AppendsToFile file bytes)) IsPlaced (Filled bytes)
+      since_since IsPlaced (Filled []) (TouchesContent file) (Well (AppendsToFile file bytes)) IsPlaced (Filled bytes)
       (λ m n p. p)
-      (λ l m n x y. placing_touches l n (touches_touches l m n x.touches y))
+      (λ l m n x y. placing_touches l n (mode_then_content l m n x.touches x.takes y))
       filled_then
       h0 h1 h2 (moded h0 h1 a)
-      (since_call (Well (AppendsToFile file bytes)) (Touches file) (Well (AppendsToFile file bytes)) (λ m n s. s.0.touches) (λ m n s. s) h1 h2 b)
+      (since_call (Well (AppendsToFile file bytes)) (TouchesContent file) (Well (AppendsToFile file bytes)) (λ m n s. record { touches = s.0.touches; mode = s.0.mode }) (λ m n s. s) h1 h2 b)
 
   pub put_sync_fails : (error : Error) (k : ℕ) → k ≡ file → (h0 h1 h2 h3 : Option History) → Goes (Well (TakesMode file name)) h0 h1
-      → Goes (Well (AppendsToFile file bytes)) h1 h2 → Goes (Perhaps error (Touches k)) h2 h3 → Since IsPlaced (PlacingFails error) h0 h3
+      → Goes (Well (AppendsToFile file bytes)) h1 h2 → Goes (Perhaps error (TouchesContent k)) h2 h3 → Since IsPlaced (PlacingFails error) h0 h3
   put_sync_fails error k is h0 h1 h2 h3 a b d = filled_fails bytes error k is h0 h2 h3 (appended h0 h1 h2 a b) d
 
   written : (k : ℕ) → k ≡ file → (h0 h1 h2 h3 : Option History) → Goes (Well (TakesMode file name)) h0 h1
       → Goes (Well (AppendsToFile file bytes)) h1 h2 → Goes (Well (Syncs k)) h2 h3 → Since IsPlaced Written h0 h3
   written k is h0 h1 h2 h3 a b d =
       let step : Goes (Well (Syncs file)) h2 h3 = subst (λ (j : ℕ). Goes (Well (Syncs j)) h2 h3) is d in
-      since_since IsPlaced (Filled bytes) (Touches file) (Well (Syncs file)) IsPlaced Written
+      since_since IsPlaced (Filled bytes) (TouchesContent file) (Well (Syncs file)) IsPlaced Written
       (λ m n p. p)
-      (λ l m n x y. placing_touches l n (touches_touches l m n x.touches y))
+      (λ l m n x y. placing_touches l n (mode_then_content l m n x.touches x.takes y))
       (λ l m n x y. record {
         touches = touches_touches l m n x.touches y.0.touches;
         whole = record {
@@ -449,13 +539,16 @@ module _ (file : ℕ) (beside name bytes : List ℕ) where
         no_fault = y.1 ∙ x.no_fault;
       })
       h0 h2 h3 (appended h0 h1 h2 a b)
-      (since_call (Well (Syncs file)) (Touches file) (Well (Syncs file)) (λ m n s. s.0.touches) (λ m n s. s) h2 h3 step)
+      (since_call (Well (Syncs file)) (TouchesContent file) (Well (Syncs file)) (λ m n s. record { touches = s.0.touches; mode = s.0.mode }) (λ m n s. s) h2 h3 step)
 
   abbrev IsMoved : Moment → Moment → Type 0
   IsMoved mid now = Same mid now ⊎ Moves beside name mid now
 
   placing_moved : (old mid now : Moment) → Written old mid → IsMoved mid now → Placing file beside name bytes old now
-  placing_moved old mid now w (inl same) = placing_touches old now (touches_touches old mid now w.touches (touches_same mid now same))
+  placing_moved old mid now w (inl same) = placing_touches old now (record {
+    touches = touches_touches old mid now w.touches (touches_same mid now same);
+    mode = λ before is. inr (ap (λ (fs : ℕ → File). (fs file).mode) same.files ∙ w.whole.mode before is);
+  })
   placing_moved old mid now w (inr moves) = placing_moves old mid now w moves
 
   pub put_placed : (k : ℕ) → k ≡ file → (h0 h1 h2 h3 h4 : Option History) → Goes (Well (TakesMode file name)) h0 h1

@@ -40,16 +40,28 @@ pub record IsMadeFor (target : List ℕ) (file : ℕ) (old new : Moment) : Type 
   pub plain : seen old target ≢ Some Special
 
 -- A making that failed: the name has a file, and nothing has changed; or otherwise, and then a file may have been made.
-abbrev pub MakesNot : Error → (name : List ℕ) → (old new : Moment) → Type 0
-MakesNot error name old new =
+abbrev pub MakesNot : Error → (name target : List ℕ) → (old new : Moment) → Type 0
+MakesNot error name target old new =
     ((error_kind error ≡ AlreadyExists) × (old.names name ≢ None) × Same old new × NoFault old new)
-    ⊎ ((error_kind error ≢ AlreadyExists) × (Same old new ⊎ ((file : ℕ) × MakesFile name file old new)) × Fails error old new)
+    ⊎ ((error_kind error ≢ AlreadyExists)
+    × (Same old new ⊎ ((file : ℕ) × MakesFile name file old new × IsMadeFor target file old new)) × Fails error old new)
 
 -- one file changes at most, and a crash may make anything of it
 pub record Touches (file : ℕ) (old new : Moment) : Type 0 where
   pub names : new.names ≡ old.names
   pub kept : new.kept ≡ old.kept
   pub files : (other : ℕ) → other ≢ file → new.files other ≡ old.files other
+
+-- so, and the file keeps its mode
+pub record TouchesContent (file : ℕ) (old new : Moment) : Type 0 where
+  pub touches : Touches file old new
+  pub mode : (new.files file).mode ≡ (old.files file).mode
+
+-- so, and the file keeps its mode or has that of a name's file, if there is one
+pub record TouchesMode (file : ℕ) (name : List ℕ) (old new : Moment) : Type 0 where
+  pub touches : Touches file old new
+  pub mode : (before : ℕ) → mode_of old name ≡ Some before
+      → ((new.files file).mode ≡ (old.files file).mode) ⊎ ((new.files file).mode ≡ before)
 
 -- bytes come to a file's end
 pub record AppendsToFile (file : ℕ) (bytes : List ℕ) (old new : Moment) : Type 0 where

@@ -3,8 +3,9 @@ use Rattle.std.specs.Prelude.{◌≡◌, ◌≢◌, ◌⊎◌, ◌<◌, ℕ, tru
 use Rattle.std.specs.IoError.{error_kind}
 use Rattle.std.specs.declared.io.Error.{Error}
 use Rattle.std.specs.declared.io.ErrorKind.TheVariants.{AlreadyExists, OutOfMemory}
-use Rattle.folder_shelf.specs.Calls.{CallFailed, MakesFile, NoFault, Same}
+use Rattle.folder_shelf.specs.Calls.{CallFailed, IsMadeFor, MakesFile, NoFault, Same}
 use Rattle.folder_shelf.specs.Moments.{Among, Content, CrashLeaves, Moment, Plain, Special, lasting, mode_of, seen}
+use Rattle.folder_shelf.specs.declared.folder.TheConstants.{PRIVATE}
 use Rattle.folder_shelf.specs.declared.whole_files.TheConstants.{BESIDE, MAX_FILE_LEN}
 
 -- the name of a file that isn't whole yet
@@ -13,12 +14,15 @@ IsBeside name = (number : List ℕ) × (name ≡ BESIDE.now ++ number)
 
 -- At a moment of the replacing of a file: the name shows what it did before, or the new bytes, whole, and a crash leaves
 -- under it what it could before, or the new bytes, whole; so does another name, but for a new file beside. The name's file has
--- the mode that it had before, and what is no plain file stays.
+-- the mode that it had before, and what is no plain file stays. If the name had a file, nobody can open the new one who couldn't open
+-- that: the new file is its owner's alone, or has the same mode.
 pub record BeforeOrAfter (name bytes : List ℕ) (old now : Moment) : Type 0 where
   pub shows : (seen now name ≡ seen old name) ⊎ (seen now name ≡ Some (Plain bytes))
   pub leaves : (found : Option Content) → CrashLeaves now name found → CrashLeaves old name found ⊎ (found ≡ Some (Plain bytes))
   pub mode : (before : ℕ) → mode_of old name ≡ Some before → mode_of now name ≡ Some before
   pub special : seen old name ≡ Some Special → seen now name ≡ Some Special
+  pub private : (before : ℕ) → mode_of old name ≡ Some before → (beside : List ℕ) → IsBeside beside → old.names beside ≡ None
+      → (mode : ℕ) → mode_of now beside ≡ Some mode → (mode ≡ PRIVATE) ⊎ (mode ≡ before)
   pub others_show : (other : List ℕ) → other ≢ name → (seen now other ≡ seen old other) ⊎ (IsBeside other × (old.names other ≡ None))
   pub others_leave : (other : List ℕ) → other ≢ name → (found : Option Content) → CrashLeaves now other found
       → CrashLeaves old other found ⊎ (IsBeside other × (old.names other ≡ None))
@@ -44,9 +48,14 @@ GivenUp error old now =
     CallFailed old now ⊎ (error_kind error ≡ OutOfMemory)
     ⊎ ((error_kind error ≡ AlreadyExists) × (other : List ℕ) × IsBeside other × (old.names other ≢ None))
 
+-- a new file was made under this name, to take the place of the target's
+pub record MakesFor (target name : List ℕ) (file : ℕ) (old now : Moment) : Type 0 where
+  pub makes : MakesFile name file old now
+  pub is_for : IsMadeFor target file old now
+
 -- nothing has changed, or a new file was made beside
-abbrev pub MakesBeside : (old now : Moment) → Type 0
-MakesBeside old now = Same old now ⊎ ((beside : List ℕ) × (file : ℕ) × IsBeside beside × MakesFile beside file old now)
+abbrev pub MakesBeside : (target : List ℕ) → (old now : Moment) → Type 0
+MakesBeside target old now = Same old now ⊎ ((beside : List ℕ) × (file : ℕ) × IsBeside beside × MakesFor target beside file old now)
 
 -- a file that was new, and so empty, has these bytes, and they are on the disk; it has the mode of the name's file, if there is
 -- one, which is plain
@@ -57,13 +66,17 @@ pub record IsWhole (file : ℕ) (name bytes : List ℕ) (old now : Moment) : Typ
   pub plain : seen old name ≢ Some Special
 
 -- While bytes are written to a new file beside, which then takes a name: no other name and no other file changes, and the
--- name has another file, or may have it after a crash, only when that file is whole.
+-- name has another file, or may have it after a crash, only when that file is whole. The new file keeps its mode, or has that of the
+-- name's.
 pub record Placing (file : ℕ) (beside name bytes : List ℕ) (old now : Moment) : Type 0 where
   pub names : (other : List ℕ) → (now.names other ≡ old.names other) ⊎ (other ≡ beside)
       ⊎ ((other ≡ name) × (now.names other ≡ old.names beside) × IsWhole file name bytes old now)
   pub kept : (other : List ℕ) (left : Option ℕ) → Among (lasting now) other left → Among (lasting old) other left ⊎ (other ≡ beside)
       ⊎ ((other ≡ name) × (left ≡ old.names beside) × IsWhole file name bytes old now)
   pub files : (other : ℕ) → other ≢ file → now.files other ≡ old.files other
+  pub here : beside ≢ name → (now.names beside ≡ old.names beside) ⊎ (now.names beside ≡ None)
+  pub mode : (before : ℕ) → mode_of old name ≡ Some before
+      → ((now.files file).mode ≡ (old.files file).mode) ⊎ ((now.files file).mode ≡ before)
 
 -- the name has the file, which is whole
 pub record IsPlacedWhole (file : ℕ) (beside name bytes : List ℕ) (old now : Moment) : Type 0 where

@@ -1,5 +1,5 @@
 ghost use Rattle.std.specs.Prelude.{◌≡◌, ◌+◌, IfErr, IfOk, OnOk, length};
-ghost use Rattle.folder_shelf.specs.Calls.{AnswersLength, AppendsToFile, GivesPiece, IsMadeFor, MakesFile, MakesNot, Moves, Perhaps, Removes, Same, Syncs, SyncsFolder, TakesMode, Touches, Well};
+ghost use Rattle.folder_shelf.specs.Calls.{AnswersLength, AppendsToFile, GivesPiece, IsMadeFor, MakesFile, MakesNot, Moves, Perhaps, Removes, Same, Syncs, SyncsFolder, TakesMode, TouchesContent, TouchesMode, Well};
 ghost use Rattle.folder_shelf.specs.Moments.{Goes};
 
 use std::io;
@@ -32,23 +32,23 @@ pub trait Folder {
     fn make_new(&mut self, name: &str, target: &str) -> io::Result<Self::File>
         ensures ok { IfOk result (λ file. Goes (Well (MakesFile name.now (number file))) (history self.old) (history self.new)) }
         ensures target { IfOk result (λ file. Goes (IsMadeFor target.now (number file)) (history self.old) (history self.new)) }
-        ensures err { IfErr result (λ error. Goes (MakesNot error name.now) (history self.old) (history self.new)) };
+        ensures err { IfErr result (λ error. Goes (MakesNot error name.now target.now) (history self.old) (history self.new)) };
 
     /// Gives a file the mode of a name's plain file, if it has one. It fails if the name has something else.
     fn take_mode(&mut self, file: &Self::File, name: &str) -> io::Result<()>
         ensures ok { OnOk result (Goes (Well (TakesMode (number file.now) name.now)) (history self.old) (history self.new)) }
-        ensures err { IfErr result (λ error. Goes (Perhaps error (Touches (number file.now))) (history self.old) (history self.new)) };
+        ensures err { IfErr result (λ error. Goes (Perhaps error (TouchesMode (number file.now) name.now)) (history self.old) (history self.new)) };
 
     /// Writes these bytes at a file's end.
     fn append(&mut self, file: &mut Self::File, bytes: &[u8]) -> io::Result<()>
         ensures ok { OnOk result (Goes (Well (AppendsToFile (number file.old) bytes.now)) (history self.old) (history self.new)) }
-        ensures err { IfErr result (λ error. Goes (Perhaps error (Touches (number file.old))) (history self.old) (history self.new)) }
+        ensures err { IfErr result (λ error. Goes (Perhaps error (TouchesContent (number file.old))) (history self.old) (history self.new)) }
         ensures file { number file.new ≡ number file.old };
 
     /// Waits until the disk has what was written to a file.
     fn sync(&mut self, file: &Self::File) -> io::Result<()>
         ensures ok { OnOk result (Goes (Well (Syncs (number file.now))) (history self.old) (history self.new)) }
-        ensures err { IfErr result (λ error. Goes (Perhaps error (Touches (number file.now))) (history self.old) (history self.new)) };
+        ensures err { IfErr result (λ error. Goes (Perhaps error (TouchesContent (number file.now))) (history self.old) (history self.new)) };
 
     /// Gives a name the file of another, in place of its own.
     fn rename(&mut self, from: &str, to: &str) -> io::Result<()>

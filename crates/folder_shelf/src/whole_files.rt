@@ -2,9 +2,9 @@
 ghost use Rattle.std.specs.Prelude.{◌≡◌, ◌≤◌, ◌⊎◌, IfErr, IfOk, IsErrOf, IsFalse, IsTrue, OnOk, length, string_bytes};
 ghost use Rattle.std.specs.IoError.{error_kind};
 ghost use Rattle.shelf.specs.Names.{is_file_name};
-ghost use Rattle.folder_shelf.specs.Calls.{CallFailed, Fails, MakesFile, NoFault, Same, Well};
+ghost use Rattle.folder_shelf.specs.Calls.{CallFailed, Fails, NoFault, Same, Well};
 ghost use Rattle.folder_shelf.specs.Moments.{Anything, Since};
-ghost use Rattle.folder_shelf.specs.Whole.{BeforeOrAfter, GivenUp, HasNoPlain, IsBeside, IsFileTooLong, IsPlacedWhole, IsRead, MakesBeside, Opened, Placing, ReadAll, RefusesCall, Replaced};
+ghost use Rattle.folder_shelf.specs.Whole.{BeforeOrAfter, GivenUp, HasNoPlain, IsBeside, IsFileTooLong, IsPlacedWhole, IsRead, MakesBeside, MakesFor, Opened, Placing, ReadAll, RefusesCall, Replaced};
 ghost use Rattle.folder_shelf.specs.declared.whole_files.TheConstants.{MAX_FILE_LEN};
 
 use crate::folder::{Folder, MAX_PIECE};
@@ -117,9 +117,9 @@ fn new_beside<F: Folder>(
 ) -> io::Result<(F::File, String)>
     ensures beside { IfOk result (λ made. IsBeside (string_bytes made.1)) }
     ensures no_file { IfOk result (λ made. IsFalse (is_file_name (string_bytes made.1))) }
-    ensures ok { IfOk result (λ made. Since MakesBeside (Well (MakesFile (string_bytes made.1) (F.number made.0)))
+    ensures ok { IfOk result (λ made. Since (MakesBeside target.now) (Well (MakesFor target.now (string_bytes made.1) (F.number made.0)))
         (F.history folder.old) (F.history folder.new)) }
-    ensures err { IfErr result (λ error. Since MakesBeside (GivenUp error) (F.history folder.old) (F.history folder.new)) }
+    ensures err { IfErr result (λ error. Since (MakesBeside target.now) (GivenUp error) (F.history folder.old) (F.history folder.new)) }
 {
     for number in 0..MAX_BESIDE {
         let name = name_beside(alloc, number)?;

@@ -57,16 +57,34 @@ fn is_made_for(target: &str, file: usize, old: &Moment, new: &Moment) -> bool {
         && (!old.names.contains_key(target) || new.files[file].mode == PRIVATE)
 }
 
-fn makes_not(why: &io::Error, name: &str, old: &Moment, new: &Moment) -> bool {
+fn makes_not(why: &io::Error, name: &str, target: &str, old: &Moment, new: &Moment) -> bool {
     if why.kind() == ErrorKind::AlreadyExists {
         return old.names.contains_key(name) && same(old, new) && no_fault(old, new);
     }
-    let made = || new.names.get(name).is_some_and(|file| makes(name, *file, old, new));
+    let made = || {
+        let file = new.names.get(name);
+        file.is_some_and(|file| makes(name, *file, old, new) && is_made_for(target, *file, old, new))
+    };
     (same(old, new) || made()) && fails(why, old, new)
 }
 
 fn touches(file: usize, old: &Moment, new: &Moment) -> bool {
     old.names == new.names && old.kept == new.kept && other_files_stay(file, old, new)
+}
+
+fn keeps_mode(file: usize, old: &Moment, new: &Moment) -> bool {
+    new.files[file].mode == old.files[file].mode
+}
+
+// Whether a file is touched, and keeps its mode.
+fn touches_content(file: usize, old: &Moment, new: &Moment) -> bool {
+    touches(file, old, new) && keeps_mode(file, old, new)
+}
+
+// Whether a file is touched, and keeps its mode or has that of a name's file, if there is one.
+fn touches_mode(file: usize, name: &str, old: &Moment, new: &Moment) -> bool {
+    let taken = old.mode(name).is_none_or(|mode| new.files[file].mode == mode);
+    touches(file, old, new) && (taken || keeps_mode(file, old, new))
 }
 
 fn takes_mode(file: usize, name: &str, old: &Moment, new: &Moment) -> bool {
@@ -82,13 +100,13 @@ fn appends(file: usize, bytes: &[u8], old: &Moment, new: &Moment) -> bool {
     };
     touches(file, old, new)
         && new.files[file].content == Content::Plain([before, bytes].concat())
-        && new.files[file].mode == old.files[file].mode
+        && keeps_mode(file, old, new)
 }
 
 fn syncs(file: usize, old: &Moment, new: &Moment) -> bool {
     touches(file, old, new)
         && new.files[file].content == old.files[file].content
-        && new.files[file].mode == old.files[file].mode
+        && keeps_mode(file, old, new)
         && new.files[file].synced
 }
 
@@ -171,7 +189,7 @@ impl Folder for Judged {
             "make_new",
             |folder| folder.make_new(name, target),
             well,
-            |why, old, new| makes_not(why, name, old, new),
+            |why, old, new| makes_not(why, name, target, old, new),
         )
     }
 
@@ -181,7 +199,7 @@ impl Folder for Judged {
             "take_mode",
             |folder| folder.take_mode(file, name),
             well,
-            perhaps(|old, new| touches(file.number, old, new)),
+            perhaps(|old, new| touches_mode(file.number, name, old, new)),
         )
     }
 
@@ -192,7 +210,7 @@ impl Folder for Judged {
             "append",
             |folder| folder.append(file, bytes),
             well,
-            perhaps(|old, new| touches(number, old, new)),
+            perhaps(|old, new| touches_content(number, old, new)),
         )
     }
 
@@ -202,7 +220,7 @@ impl Folder for Judged {
             "sync",
             |folder| folder.sync(file),
             well,
-            perhaps(|old, new| touches(file.number, old, new)),
+            perhaps(|old, new| touches_content(file.number, old, new)),
         )
     }
 
