@@ -42,7 +42,7 @@ ABOVE_1 = re.compile(r"\b(?![01]\b)\d\w*|'(?:\\[^'\n]+|[^'\\\n])'")
 # Each word that gives refused memory, and the files that may write it beside looks.
 GIVEN = {
     r"\bErrorKind::OutOfMemory\b": {"script_rows/src/playing.rt"},
-    r"\bOUT_OF_MEMORY\b": {"script_runs/src/answers.rt", "vialshoal_c/src/feeding.rt"},
+    r"\bOUT_OF_MEMORY\b": {"script_sites/src/answers.rt", "vialshoal_c/src/feeding.rt"},
     r"\bof_error\b": {"script_io/src/input.rt", "folder_shelf/src/whole_files.rt", "folder_shelf/src/folder_shelf.rt"},
 }
 
@@ -69,8 +69,8 @@ ASKED = {
     "rank_index/src/chunk.rt": {"alloc, MOST"},
     "rank_index/src/index.rt": {"wanted; wanted = ((self.homes.len() + n) / HALF).min(self.chunks.len() + n)"},
     "script_io/src/input.rt": {"alloc, HELD, reader"},
-    "script_runs/src/desks.rt": {"alloc, MAX_LINE"},
     "script_runs/src/running.rt": {"alloc, MAX_LINE"},
+    "script_sites/src/desks.rt": {"alloc, MAX_LINE"},
     "site_cli/src/main.rt": {"alloc, KEPT_BACK, io::writer(&rt); alloc = rt.alloc()"},
     "text_frames/src/frame.rt": {"alloc, MAX_ROWS"},
     "vialshoal_c/src/note_session.rt": {"alloc, TEXTS as usize"},

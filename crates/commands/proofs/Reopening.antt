@@ -23,10 +23,12 @@ use Rattle.machine_laws.specs.Growing.{Grows}
 use Rattle.commands.proofs.Following.{is_new}
 use Rattle.commands.proofs.Lifting.{HasText}
 use Rattle.commands.proofs.Shelves.{files_of, files_read, files_same, files_there, refused_over, same_of}
-use Rattle.commands.specs.Filing.{BeginsSo, ReadsNot}
+use Rattle.shelved_texts.specs.Filing.{ReadsNot}
+use Rattle.commands.specs.Filing.{BeginsSo}
 use Rattle.commands.specs.declared.answer.Answer.{Answer}
 use Rattle.commands.specs.declared.answer.Answer.TheVariants.{Done}
-use Rattle.commands.specs.Steps.{AreTold, DeskSeen, IsShelfStep, ShelfSeen, StandsIn, with_desk}
+use Rattle.shelved_texts.specs.Filing.{ShelfSeen}
+use Rattle.commands.specs.Steps.{AreTold, DeskSeen, IsShelfStep, StandsIn, with_desk}
 
 -- a text in which nothing was done yet has no operations
 pub none_taken : (ops waiting : List Operation) → nat_lt 0 (length ops + length waiting) ≡ false → ops ≡ []

@@ -25,10 +25,11 @@ use Rattle.machine.specs.Tasks.{DoesTask, FileBecomes, ShortTask, Writes}
 use Rattle.machine.specs.Windows.{Caret, Screened, Window, window_of}
 use Rattle.machine_laws.proofs.OneOfTexts.{one_element}
 use Rattle.commands.proofs.Steps.{run_stays}
-use Rattle.commands.specs.Filing.{ReadsText, WritesFile, WritesNot, WritesSite, WritesText}
+use Rattle.shelved_texts.specs.Filing.{ReadsText, WritesFile, WritesNot, WritesSite, WritesText}
 use Rattle.commands.specs.declared.answer.Answer.{Answer}
 use Rattle.commands.specs.declared.answer.Answer.TheVariants.{Done}
-use Rattle.commands.specs.Steps.{AreFilesOf, Counted, CountsSent, DeskSeen, IsEditStep, IsShelfStep, IsTaskStep, ShelfSeen, StandsIn, answer_reply, sent_answer}
+use Rattle.shelved_texts.specs.Filing.{ShelfSeen}
+use Rattle.commands.specs.Steps.{AreFilesOf, Counted, CountsSent, DeskSeen, IsEditStep, IsShelfStep, IsTaskStep, StandsIn, answer_reply, sent_answer}
 use Rattle.commands.specs.Steps.{with_desk, written_answer}
 
 -- some files that a shelf tells

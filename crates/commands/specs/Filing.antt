@@ -1,62 +1,18 @@
--- What is read of a shelf and written to it.
-use Rattle.std.specs.Prelude.{◌≡◌, ◌≢◌, ◌⊎◌, ◌==◌, ◌&&◌, ℕ, ◌<◌, ◌≤◌, List, length, MatchBool, Option, Result, Ok, Err}
-use Rattle.looks.specs.declared.refusal.Refusal.{Refusal}
-use Rattle.looks.specs.declared.refusal.Refusal.TheVariants.{BadFile, OutOfMemory, ReadFault, WriteFault, WrongText}
-use Rattle.char_files.specs.Stretch.{Item}
-use Rattle.text_file.specs.Files.{IsFileOf, IsNoFile, formatted}
-use Rattle.text_file.specs.declared.TheConstants.{MAX_STORED}
-use Rattle.shelf.specs.Files.{Counts, HasFile, IsThere, OthersStay, Write, with_write}
-use Rattle.texts.specs.Taking.{HasTakenAll}
-use Rattle.texts.specs.TextState.{TextState, all_told, empty_text, shown_items}
-use Rattle.kept_file.specs.KeptFiles.{IsKeptFileOf, IsNoKeptFile, kept_bytes, most_kept}
+-- What a file makes of a desk's text, and how often the shelf is asked to write one.
+use Rattle.std.specs.Prelude.{◌≡◌, ◌⊎◌, ◌==◌, ◌&&◌, ℕ, List, MatchBool, Option, Result, Ok, Err}
+use Rattle.looks.specs.declared.refusal.Refusal.TheVariants.{WriteFault, WrongText}
+use Rattle.shelf.specs.Files.{Write, with_write}
+use Rattle.shelved_texts.specs.Filing.{WritesOnce}
+use Rattle.texts.specs.TextState.{TextState, all_told, shown_items}
+use Rattle.text_file.specs.Files.{formatted}
+use Rattle.kept_file.specs.KeptFiles.{kept_bytes}
 use Rattle.kept_file.specs.declared.form.KeptForm.{KeptForm}
 use Rattle.texts.specs.declared.edit_refusal.EditRefusal.{EditRefusal}
 use Rattle.texts.specs.declared.edit_refusal.EditRefusal.TheVariants.{Whole}
 use Rattle.machine.specs.SiteTexts.{IsTextOf, with_text}
-use Rattle.commands.specs.Steps.{DeskSeen, ShelfSeen}
+use Rattle.commands.specs.Steps.{DeskSeen}
 use Rattle.commands.specs.declared.answer.Answer.{Answer}
 use Rattle.commands.specs.declared.answer.Answer.TheVariants.{Done}
-
--- why what a file is to tell wasn't read: the shelf failed; or memory was short, of a file that is there; or the file tells
--- no such thing
-abbrev pub ReadsNot : (IsNone : List ℕ → Type 0) → (reported reported' : ShelfSeen) → (name : List ℕ) → Refusal → Type 0
-ReadsNot IsNone reported reported' name why =
-    ((why ≡ ReadFault) × Counts reported.faults reported'.faults)
-    ⊎ ((why ≡ OutOfMemory) × IsThere reported.files name × (reported'.faults ≡ reported.faults))
-    ⊎ ((why ≡ BadFile) × (reported'.faults ≡ reported.faults) × ((file : List ℕ) × HasFile reported.files name file × IsNone file))
-
--- the text of a file was read, or not
-abbrev pub ReadsText : (reported reported' : ShelfSeen) → (name : List ℕ) → Result (List Item) Refusal → Type 0
-ReadsText reported reported' name (Ok items) =
-    (file : List ℕ) × HasFile reported.files name file × IsFileOf items file × (reported'.faults ≡ reported.faults)
-ReadsText reported reported' name (Err why) = ReadsNot IsNoFile reported reported' name why
-
--- a text was read from its site's file, with nothing else done to it; or not
-abbrev pub ReadsSite : (reported reported' : ShelfSeen) → (name : List ℕ) → Result TextState Refusal → Type 0
-ReadsSite reported reported' name (Ok t) = (file : List ℕ) × HasFile reported.files name file × IsKeptFileOf t.text t.site t.operations file
-    × HasTakenAll (empty_text t.text t.site) t.operations t × (reported'.faults ≡ reported.faults)
-ReadsSite reported reported' name (Err why) = ReadsNot IsNoKeptFile reported reported' name why
-
--- why a file wasn't written: there is too much for one, and memory may be short, and no file changed; or the shelf failed
-abbrev pub WritesNot : (much most : ℕ) → (name : List ℕ) → (reported reported' : ShelfSeen) → Refusal → Type 0
-WritesNot much most name reported reported' why =
-    ((why ≡ BadFile) × (most < much) × (reported' ≡ reported)) ⊎ ((why ≡ OutOfMemory) × (much ≤ most) × (reported' ≡ reported))
-    ⊎ ((why ≡ WriteFault) × (much ≤ most) × OthersStay reported.files reported'.files name × Counts reported.faults reported'.faults)
-
--- a file was written, and no other file changed; or not
-abbrev pub WritesFile : (much most : ℕ) → (name file : List ℕ) → (reported reported' : ShelfSeen) → Result (Unit {0}) Refusal
-    → Type 0
-WritesFile much most name file reported reported' (Ok _) =
-    (much ≤ most) × HasFile reported'.files name file × OthersStay reported.files reported'.files name × (reported'.faults ≡ reported.faults)
-WritesFile much most name file reported reported' (Err why) = WritesNot much most name reported reported' why
-
--- what a text shows was written as a formatted file
-abbrev pub WritesText : TextState → (name : List ℕ) → (reported reported' : ShelfSeen) → Result (Unit {0}) Refusal → Type 0
-WritesText t name = WritesFile (length (shown_items t)) MAX_STORED name (formatted (shown_items t))
-
--- all that a text has taken in was written as its site's file in this form
-abbrev pub WritesSite : KeptForm → TextState → (name : List ℕ) → (reported reported' : ShelfSeen) → Result (Unit {0}) Refusal → Type 0
-WritesSite form t name = WritesFile (length t.operations) (most_kept form) name (kept_bytes form t.text t.site t.operations)
 
 -- a text begins as it was kept, and has told its changes; or that is another text's, or another site's
 abbrev pub BeginsSo : DeskSeen → (text : ℕ) → (kept : TextState) → Result Answer EditRefusal → DeskSeen → Type 0
@@ -66,14 +22,7 @@ BeginsSo d text kept result new =
     ((result ≡ Ok Done) × (new ≡ record d { texts = with_text d.texts text (all_told kept) }))
     ((result ≡ Err (Whole WrongText)) × (new ≡ d))
 
--- The shelf was asked for one write, of this file under this name; or for none, where the file was refused before. What is
--- answered where the shelf fails is answered after the write alone, and nothing else is refused then.
-abbrev pub WritesOnce : {X E : Type 0} → (fault : E) → (name file : List ℕ) → (was now : Option (List Write)) → Result X E → Type 0
-WritesOnce fault name file was now (Ok _) = now ≡ with_write name file was
-WritesOnce fault name file was now (Err why) =
-    ((now ≡ was) × (why ≢ fault)) ⊎ ((now ≡ with_write name file was) × (why ≡ fault))
-
--- the same of what a text shows, and of all that a text has taken in
+-- the shelf was asked for one write of what a text shows, or of all that it has taken in; or for none
 abbrev pub StoresOnce : TextState → (name : List ℕ) → (was now : Option (List Write)) → Result Answer EditRefusal → Type 0
 StoresOnce t name = WritesOnce (Whole WriteFault) name (formatted (shown_items t))
 

@@ -5,6 +5,7 @@ use Rattle.looks.specs.declared.refusal.Refusal.TheVariants.{ReadFault, WriteFau
 use Rattle.reader_scanner.specs.declared.token.TokenValue.{TokenValue}
 use Rattle.command_words.specs.declared.command.Command.{Command}
 use Rattle.shelf.specs.Files.{Counts, Files}
+use Rattle.shelved_texts.specs.Filing.{ShelfSeen}
 use Rattle.texts.specs.TextState.{TextState, noting}
 use Rattle.texts.specs.declared.edit_refusal.EditRefusal.{EditRefusal}
 use Rattle.texts.specs.declared.edit_refusal.EditRefusal.TheVariants.{Whole}
@@ -64,14 +65,6 @@ IsTakeStep d text message result new = (s : State) (i : ℕ) (delivery : Deliver
 abbrev pub IsMergeStep : DeskSeen → (text : ℕ) → (other : DeskSeen) → Result ℕ MergeRefusal → DeskSeen → Type 0
 IsMergeStep d text other result new = (s : State) (i j : ℕ) → StandsIn s i d → StandsIn s j other
     → Replies s (merge i text j) untouched (merge_reply result) (with_desk s i new s.sent)
-
--- what a shelf tells before a call, or after it: its files, if it tells them, and how many calls have failed
-pub record ShelfSeen : Type 0 where
-  pub files : Option Files
-  pub faults : ℕ
-
-abbrev pub shelf_seen : Option Files → ℕ → ShelfSeen
-shelf_seen files faults = record { files = files; faults = faults }
 
 -- in a call in which the files failed a failure was counted, and in no other
 abbrev pub Counted : Part → (faults faults' : ℕ) → Type 0

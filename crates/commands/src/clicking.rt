@@ -14,7 +14,8 @@ ghost use Rattle.machine.specs.Windows.{Window, bytes_shown, marked, window_of};
 ghost use Rattle.machine.specs.declared.TheConstants.{MAX_TEXT};
 ghost use Rattle.desk_windows.specs.Pointing.{IsClick};
 ghost use Rattle.commands.specs.Filing.{WritesOnceAtMost};
-ghost use Rattle.commands.specs.Steps.{IsFault, IsShelfStep, shelf_seen, task_told};
+ghost use Rattle.shelved_texts.specs.Filing.{shelf_seen};
+ghost use Rattle.commands.specs.Steps.{IsFault, IsShelfStep, task_told};
 
 use crate::answer::Answer;
 use crate::desk::Desk;

@@ -1,54 +1,26 @@
 //! Commands that read or write a file: a load at the caret, and a store of a text.
 
-ghost use Rattle.std.specs.Prelude.{◌≡◌, ◌≤◌, ℕ, List, IfSome, IsErrOf, None as Nothing};
+ghost use Rattle.std.specs.Prelude.{◌≡◌, ◌≤◌, ℕ, List, IfSome, None as Nothing};
 ghost use Rattle.std.specs.Option.{option_copied};
-ghost use Rattle.shelf.specs.Files.{Counts, SameFiles};
-ghost use Rattle.text_file.specs.Files.{formatted};
-ghost use Rattle.texts.specs.TextState.{TextState, shown_items};
+ghost use Rattle.shelf.specs.Files.{Counts};
+ghost use Rattle.shelved_texts.specs.Filing.{shelf_seen};
+ghost use Rattle.texts.specs.TextState.{TextState};
 ghost use Rattle.machine.specs.SiteTexts.{IsTextOf};
 ghost use Rattle.machine.specs.Commands.{task_with_value};
 ghost use Rattle.machine.specs.Events.{ask, load, store};
 ghost use Rattle.machine.specs.declared.TheConstants.{MAX_TEXT};
-ghost use Rattle.commands.specs.Filing.{ReadsText, StoresOnce, WritesOnce, WritesText};
-ghost use Rattle.commands.specs.Steps.{IsFault, IsShelfStep, shelf_seen};
+ghost use Rattle.commands.specs.Filing.{StoresOnce};
+ghost use Rattle.commands.specs.Steps.{IsFault, IsShelfStep};
 
 use crate::answer::Answer;
 use crate::desk::Desk;
 use crate::executing::{sent, written};
 use crate::inserting::Insertion;
-use char_files::{Buffer, TextNo};
+use char_files::TextNo;
 use looks::Refusal;
 use shelf::Shelf;
-use std::alloc::Global;
-use texts::{EditRefusal, Outbox, Replica};
-
-// The characters of a file.
-fn read_text<S: Shelf>(alloc: Global, name: &str, shelf: &mut S) -> Result<Buffer, Refusal>
-    ensures reads { ReadsText (shelf_seen (S.files shelf.old) (S.faults shelf.old)) (shelf_seen (S.files shelf.new) (S.faults shelf.new)) name.now result }
-    ensures files { SameFiles (S.files shelf.old) (S.files shelf.new) }
-    ensures fault { IsErrOf result Refusal.ReadFault → Counts (S.faults shelf.old) (S.faults shelf.new) }
-    ensures writes { S.writes shelf.new ≡ S.writes shelf.old }
-{
-    let file = shelf.read(alloc, name)?;
-    text_file::load(alloc, file.as_slice())
-}
-
-// Writes what a text shows.
-fn write_text<S: Shelf>(
-    alloc: Global,
-    replica: &Replica,
-    name: &str,
-    shelf: &mut S,
-) -> Result<(), Refusal>
-    ensures writes { WritesText replica.now name.now (shelf_seen (S.files shelf.old) (S.faults shelf.old)) (shelf_seen (S.files shelf.new) (S.faults shelf.new)) result }
-    ensures once { WritesOnce Refusal.WriteFault name.now (formatted (shown_items replica.now))
-        (S.writes shelf.old) (S.writes shelf.new) result }
-    ensures fault { IsErrOf result Refusal.WriteFault → Counts (S.faults shelf.old) (S.faults shelf.new) }
-{
-    let mut file = Vec::new(alloc);
-    text_file::store(replica, &mut file)?;
-    shelf.write(name, file.as_slice())
-}
+use shelved_texts::{read_text, write_text};
+use texts::{EditRefusal, Outbox};
 
 impl Desk {
     // Puts the text of the file that was told in at the caret. Nothing is read where there is none.

@@ -1,26 +1,26 @@
 //! A text kept in its site's file, and begun anew as that tells.
 
-ghost use Rattle.std.specs.Prelude.{◌≡◌, ◌≤◌, ◌==◌, ◌&&◌, ℕ, List, IsErrOf, IsFalse};
-ghost use Rattle.shelf.specs.Files.{Counts, SameFiles};
+ghost use Rattle.std.specs.Prelude.{◌≡◌, ◌≤◌, ◌==◌, ◌&&◌, ℕ, List, IsFalse};
+ghost use Rattle.shelf.specs.Files.{Counts};
+ghost use Rattle.shelved_texts.specs.Filing.{shelf_seen};
 ghost use Rattle.texts.specs.Taking.{HasTakenAll};
 ghost use Rattle.texts.specs.TextState.{TextState, empty_text};
-ghost use Rattle.kept_file.specs.KeptFiles.{kept_bytes};
 ghost use Rattle.machine.specs.SiteTexts.{IsTextOf};
 ghost use Rattle.machine.specs.Events.{ask, keep, reopen};
 ghost use Rattle.machine.specs.Tasks.{text_has_begun};
 ghost use Rattle.machine.specs.declared.TheConstants.{MAX_TEXT};
-ghost use Rattle.commands.specs.Filing.{BeginsSo, KeepsOnce, ReadsSite, WritesOnce, WritesSite};
-ghost use Rattle.commands.specs.Steps.{IsFault, IsShelfStep, shelf_seen};
+ghost use Rattle.commands.specs.Filing.{BeginsSo, KeepsOnce};
+ghost use Rattle.commands.specs.Steps.{IsFault, IsShelfStep};
 
 use crate::answer::Answer;
 use crate::desk::Desk;
 use crate::executing::written;
 use crate::telling::tell;
 use char_files::TextNo;
-use kept_file::{KeptForm, load_kept, store_kept};
+use kept_file::KeptForm;
 use looks::Refusal;
 use shelf::Shelf;
-use std::alloc::Global;
+use shelved_texts::{read_site, write_site};
 use texts::{EditRefusal, Replica};
 
 // Whether a text has taken something in, or something waits for it.
@@ -35,35 +35,6 @@ fn is_same_copy(kept: &Replica, replica: &Replica) -> bool
     ensures { result ≡ (kept.now.text == replica.now.text && kept.now.site == replica.now.site) }
 {
     kept.text() == replica.text() && kept.site() == replica.site()
-}
-
-// The text of a site's file.
-fn read_site<S: Shelf>(alloc: Global, name: &str, shelf: &mut S) -> Result<Replica, Refusal>
-    ensures reads { ReadsSite (shelf_seen (S.files shelf.old) (S.faults shelf.old)) (shelf_seen (S.files shelf.new) (S.faults shelf.new)) name.now result }
-    ensures files { SameFiles (S.files shelf.old) (S.files shelf.new) }
-    ensures fault { IsErrOf result Refusal.ReadFault → Counts (S.faults shelf.old) (S.faults shelf.new) }
-    ensures writes { S.writes shelf.new ≡ S.writes shelf.old }
-{
-    let file = shelf.read(alloc, name)?;
-    load_kept(alloc, file.as_slice())
-}
-
-// Writes all that a text has taken in, in this form.
-fn write_site<S: Shelf>(
-    alloc: Global,
-    form: KeptForm,
-    replica: &Replica,
-    name: &str,
-    shelf: &mut S,
-) -> Result<(), Refusal>
-    ensures writes { WritesSite form replica.now name.now (shelf_seen (S.files shelf.old) (S.faults shelf.old)) (shelf_seen (S.files shelf.new) (S.faults shelf.new)) result }
-    ensures once { WritesOnce Refusal.WriteFault name.now
-        (kept_bytes form replica.now.text replica.now.site replica.now.operations) (S.writes shelf.old) (S.writes shelf.new) result }
-    ensures fault { IsErrOf result Refusal.WriteFault → Counts (S.faults shelf.old) (S.faults shelf.new) }
-{
-    let mut file = Vec::new(alloc);
-    store_kept(form, replica, &mut file)?;
-    shelf.write(name, file.as_slice())
 }
 
 impl Desk {

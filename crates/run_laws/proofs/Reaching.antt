@@ -17,8 +17,8 @@ use Rattle.machine.specs.declared.asked.View.{View}
 use Rattle.machine_laws.proofs.OneOfTexts.{one_element, lemma_one_text}
 use Rattle.machine_laws.specs.Laws.{AnswerTheSame, HoldTheSame, IsSoundState, Reached, WhatARunReachesIsSound, begins, goes_on, others_write}
 use Rattle.script_io.specs.Lines.{without_return}
-use Rattle.script_runs.specs.Trace.{Run, Step, Trace, is_silent, over_shelf}
-use Rattle.script_runs.specs.Trace.{begins as starts, goes_on as follows}
+use Rattle.script_sites.specs.Trace.{Run, Step, Trace, is_silent, over_shelf}
+use Rattle.script_sites.specs.Trace.{begins as starts, goes_on as follows}
 use Rattle.run_laws.specs.Laws.{AnswersQuery, AnswersView, AreAnsweredTheSame, EachTraceIsReached, HaveTakenTheSame}
 use Rattle.run_laws.specs.Laws.{IsAfterLines, Start}
 

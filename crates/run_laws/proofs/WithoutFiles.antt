@@ -6,7 +6,7 @@ use Rattle.machine.specs.Machine.{Replies}
 use Rattle.machine_laws.proofs.AnyFiles.{asks_for_none}
 use Rattle.machine_laws.specs.Laws.{AsksForNoFile, TheSameOverAnyFiles}
 use Rattle.script_io.specs.Lines.{without_return}
-use Rattle.script_runs.specs.Trace.{Run, Shelved, Step, begins, goes_on, is_silent, over_shelf, shelved}
+use Rattle.script_sites.specs.Trace.{Run, Shelved, Step, begins, goes_on, is_silent, over_shelf, shelved}
 use Rattle.run_laws.specs.Laws.{WithoutFilesAllIsAnswered}
 
 module _ (same : TheSameOverAnyFiles) (has : Shelved) where

@@ -16,7 +16,7 @@ use Rattle.machine.specs.Printing.{waiting_line}
 use Rattle.machine_laws.specs.Laws.{AsksForNoFile, IsOfTheSet, Reached}
 use Rattle.script_io.specs.Lines.{without_return}
 use Rattle.script_events.specs.Script.{event_in}
-use Rattle.script_runs.specs.Trace.{Run, Trace, begins, goes_on}
+use Rattle.script_sites.specs.Trace.{Run, Trace, begins, goes_on}
 
 -- how a run begins: the number of its first site, how many sites there are, the size of their screens, and the files
 pub record Start : Type 0 where

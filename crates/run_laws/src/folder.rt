@@ -1,12 +1,13 @@
 ghost use Rattle.std.specs.Prelude.{IfSome, false};
 ghost use Rattle.shelf.specs.Files.{Files};
 ghost use Rattle.script_runs.specs.Ends.{Ends};
-ghost use Rattle.script_runs.specs.Trace.{begun_run};
+ghost use Rattle.script_sites.specs.Trace.{begun_run};
 
 use folder_shelf::HostShelf;
 use looks::Refusal;
 use script_io::{Input, Output};
-use script_runs::{Settings, run};
+use script_runs::run;
+use script_sites::Settings;
 use std::alloc::Global;
 use std::fs;
 use std::io::{Read, Write};

@@ -6,7 +6,7 @@ mod rows;
 
 use playing::{ByteByByte, Played, play};
 use rows::{row_in, spelled};
-use script_runs::Settings;
+use script_sites::Settings;
 use std::alloc::Global;
 use std::io::{self, BufWriter, Write};
 

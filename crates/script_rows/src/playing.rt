@@ -1,6 +1,7 @@
 use looks::Refusal;
 use script_io::{Input, Output};
-use script_runs::{Settings, run};
+use script_runs::run;
+use script_sites::Settings;
 use shelf::MemoryShelf;
 use std::alloc::Global;
 use std::io::{self, Read};

@@ -1,4 +1,4 @@
-use script_runs::{MAX_FIRST, MAX_HEIGHT, MAX_SITES, MAX_WIDTH, MIN_HEIGHT, MIN_WIDTH, Settings};
+use script_sites::{MAX_FIRST, MAX_HEIGHT, MAX_SITES, MAX_WIDTH, MIN_HEIGHT, MIN_WIDTH, Settings};
 use std::alloc::{AllocError, Global};
 
 // A number and a blank, and what follows.

@@ -1,11 +1,1 @@
-pub mod Answering
-pub mod Before
-pub mod Filing
-pub mod Keeping
-pub mod Merging
-pub mod Printing
-pub mod Replying
-pub mod Sending
-pub mod Standing
 pub mod Traces
-pub mod WriteLemmas

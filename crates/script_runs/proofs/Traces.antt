@@ -5,14 +5,14 @@ use Rattle.std.specs.Io.KnownBytes.{Appends, Consumes, Keeps, IsAtEnd}
 use Rattle.std.proofs.KnownBytes.{Consumes-nil, Consumes-trans, Appends-nil, Appends-trans, Appends-kept}
 use Rattle.looks.specs.declared.refusal.Refusal.{Refusal}
 use Rattle.looks.specs.declared.refusal.Refusal.TheVariants.{OutOfMemory, ReadFault, WriteFault}
-use Rattle.script_runs.specs.Answers.{refused_line}
+use Rattle.script_sites.specs.Answers.{refused_line}
 use Rattle.script_runs.specs.Ends.{Breaks, IsAnswered, IsBrokenOff, AreDue, Ends}
 use Rattle.script_io.specs.Lines.{IsRaw, without_return, TakesLine}
 use Rattle.script_runs.specs.Parts.{BreaksOff}
-use Rattle.script_runs.specs.Seen.{SitesSeen, run_seen}
-use Rattle.script_runs.specs.Trace.{Answers, AnswersNext, Run, Shelved, Trace, begins, goes_on, shelved}
-use Rattle.script_runs.specs.Writing.{AppendsPrefix, WritesBytes}
-use Rattle.script_runs.proofs.WriteLemmas.{prefix_after, prefix_of_all, writes_after, writes_kept}
+use Rattle.script_sites.specs.Seen.{SitesSeen, run_seen}
+use Rattle.script_sites.specs.Trace.{Answers, AnswersNext, Run, Shelved, Trace, begins, goes_on, shelved}
+use Rattle.script_sites.specs.Writing.{AppendsPrefix, WritesBytes}
+use Rattle.script_sites.proofs.WriteLemmas.{prefix_after, prefix_of_all, writes_after, writes_kept}
 use Rattle.script_io.specs.declared.lines.NextLine.{NextLine}
 use Rattle.script_io.specs.declared.lines.NextLine.TheVariants.{Line, Last, End}
 use Rattle.script_runs.specs.declared.running.TheConstants.{MAX_LINES}

@@ -5,10 +5,10 @@ use Rattle.std.specs.Prelude.{Err}
 use Rattle.std.specs.Io.KnownBytes.{Appends, Consumes, Keeps}
 use Rattle.looks.specs.declared.refusal.Refusal.{Refusal}
 use Rattle.looks.specs.declared.refusal.Refusal.TheVariants.{ReadFault, WriteFault, OutOfMemory}
-use Rattle.script_runs.specs.Answers.{refused_line}
+use Rattle.script_sites.specs.Answers.{refused_line}
 use Rattle.script_io.specs.Lines.{BreaksLine, IsRaw}
-use Rattle.script_runs.specs.Trace.{AnswersNext, Run, Shelved, Trace, shelved}
-use Rattle.script_runs.specs.Writing.{AppendsPrefix}
+use Rattle.script_sites.specs.Trace.{AnswersNext, Run, Shelved, Trace, shelved}
+use Rattle.script_sites.specs.Writing.{AppendsPrefix}
 use Rattle.script_runs.specs.declared.running.TheConstants.{MAX_LINES}
 
 -- the answers to a whole script, after which the shelf has this: to its lines, not too many, the last of which may lack its

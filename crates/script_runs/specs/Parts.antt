@@ -3,8 +3,8 @@ use Rattle.std.specs.Prelude.{◌≡◌, ℕ, ◌⊎◌, List, Bool, IsTrue, Opt
 use Rattle.std.specs.Io.KnownBytes.{Appends}
 use Rattle.looks.specs.declared.refusal.Refusal.{Refusal}
 use Rattle.looks.specs.declared.refusal.Refusal.TheVariants.{ReadFault, WriteFault}
-use Rattle.script_runs.specs.Answers.{refused_line}
-use Rattle.script_runs.specs.Writing.{AppendsPrefix}
+use Rattle.script_sites.specs.Answers.{refused_line}
+use Rattle.script_sites.specs.Writing.{AppendsPrefix}
 
 -- breaking off writes the refusal and answers it; or the writer failed, and a prefix of the refusal was
 -- written

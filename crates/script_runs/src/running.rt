@@ -1,18 +1,16 @@
 ghost use Rattle.std.specs.Prelude.{◌≡◌, ◌≤◌, ◌⊎◌, ℕ, List, Contains, IsTrue, OnErr, OnOk, length, vec_capacity, is_ok};
 ghost use Rattle.std.specs.Prelude.{if◌then◌else◌, Err, IfSome, IfErr, is_some};
 ghost use Rattle.std.specs.Io.KnownBytes.{Keeps};
-ghost use Rattle.commands.specs.Steps.{shelf_seen};
+ghost use Rattle.shelved_texts.specs.Filing.{shelf_seen};
 ghost use Rattle.script_runs.specs.Ends.{Ends, IsEnd};
 ghost use Rattle.script_runs.specs.Parts.{BreaksOff};
-ghost use Rattle.script_runs.specs.Seen.{OverFiles, run_seen};
-ghost use Rattle.script_runs.specs.Trace.{Answers, begun_run};
-ghost use Rattle.script_runs.specs.Writing.{PutsToOutput};
+ghost use Rattle.script_sites.specs.Seen.{OverFiles, run_seen};
+ghost use Rattle.script_sites.specs.Trace.{Answers, begun_run};
+ghost use Rattle.script_sites.specs.Writing.{PutsToOutput};
 
-use crate::answers::put_refused;
-use crate::settings::Settings;
-use crate::sites::Sites;
 use looks::Refusal;
 use script_io::{Input, MAX_LINE, NextLine, Output, next_line};
+use script_sites::{Settings, Sites, put_refused};
 use shelf::Shelf;
 use std::alloc::Global;
 use std::io::{Read, Write};

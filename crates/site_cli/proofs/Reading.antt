@@ -8,8 +8,8 @@ use Rattle.clap.specs.declared.error.kind.ErrorKind.TheVariants.{ValueValidation
 use Rattle.clap.specs.declared.parser.matches.ArgMatches.{ArgMatches}
 use Rattle.clap.proofs.OnLiterals.{clap_on_literals}
 use Rattle.clap.proofs.WalkLemmas.{first_value-rows}
-use Rattle.script_runs.specs.declared.settings.Settings.{Settings}
-use Rattle.script_runs.specs.declared.settings.TheConstants.{MAX_FIRST, MAX_SITES, MIN_WIDTH, MAX_WIDTH, MIN_HEIGHT, MAX_HEIGHT}
+use Rattle.script_sites.specs.declared.settings.Settings.{Settings}
+use Rattle.script_sites.specs.declared.settings.TheConstants.{MAX_FIRST, MAX_SITES, MIN_WIDTH, MAX_WIDTH, MIN_HEIGHT, MAX_HEIGHT}
 use Rattle.site_cli.specs.Numbers.{number_found}
 use Rattle.site_cli.specs.Finding.{FindsSettings, are_found, are_some, count_found, height_found, width_found}
 use Rattle.site_cli.specs.CommandLine.{Gives, are_numbers, count_in, faults_in, first_in, program, width_in}

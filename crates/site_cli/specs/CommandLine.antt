@@ -4,9 +4,9 @@ use Rattle.clap.specs.Words.{App, Kinds, Rule, fault_of, first_of, matches_of, n
 use Rattle.clap.specs.Kinds.{or_else}
 use Rattle.clap.specs.declared.error.kind.ErrorKind.{ErrorKind}
 use Rattle.clap.specs.declared.error.kind.ErrorKind.TheVariants.{DisplayHelp, ValueValidation}
-use Rattle.script_runs.specs.declared.settings.Settings.{Settings}
-use Rattle.script_runs.specs.declared.settings.TheConstants.{MAX_FIRST, MAX_SITES, MIN_WIDTH, MAX_WIDTH}
-use Rattle.script_runs.specs.declared.settings.TheConstants.{MIN_HEIGHT, MAX_HEIGHT}
+use Rattle.script_sites.specs.declared.settings.Settings.{Settings}
+use Rattle.script_sites.specs.declared.settings.TheConstants.{MAX_FIRST, MAX_SITES, MIN_WIDTH, MAX_WIDTH}
+use Rattle.script_sites.specs.declared.settings.TheConstants.{MIN_HEIGHT, MAX_HEIGHT}
 use Rattle.site_cli.specs.Numbers.{number_found}
 use Rattle.site_cli.specs.Finding.{are_some}
 

@@ -2,9 +2,9 @@
 use Rattle.std.specs.Prelude.{◌≡◌, ℕ, Bool, ◌&&◌, Option, Some, is_some, codes}
 use Rattle.clap.specs.Words.{first_value}
 use Rattle.clap.specs.declared.parser.matches.Found.{Found}
-use Rattle.script_runs.specs.declared.settings.Settings.{Settings}
-use Rattle.script_runs.specs.declared.settings.TheConstants.{MAX_FIRST, MAX_SITES, MIN_WIDTH, MAX_WIDTH}
-use Rattle.script_runs.specs.declared.settings.TheConstants.{MIN_HEIGHT, MAX_HEIGHT}
+use Rattle.script_sites.specs.declared.settings.Settings.{Settings}
+use Rattle.script_sites.specs.declared.settings.TheConstants.{MAX_FIRST, MAX_SITES, MIN_WIDTH, MAX_WIDTH}
+use Rattle.script_sites.specs.declared.settings.TheConstants.{MIN_HEIGHT, MAX_HEIGHT}
 use Rattle.site_cli.specs.Numbers.{number_found}
 
 -- there are four numbers

@@ -6,7 +6,7 @@ ghost use Rattle.site_cli.specs.Finding.{FindsSettings, are_found};
 use crate::numbers::number_of;
 use clap::error::ErrorKind;
 use clap::{Arg, ArgMatches, Command, Error};
-use script_runs::{MAX_FIRST, MAX_HEIGHT, MAX_SITES, MAX_WIDTH, MIN_HEIGHT, MIN_WIDTH, Settings};
+use script_sites::{MAX_FIRST, MAX_HEIGHT, MAX_SITES, MAX_WIDTH, MIN_HEIGHT, MIN_WIDTH, Settings};
 use std::alloc::{AllocError, Global};
 use std::convert::AsStr;
 

@@ -5,29 +5,11 @@ use crate::answer::Answer;
 use crate::desk::Desk;
 use crate::executing::{sent, written};
 use crate::inserting::Insertion;
-use char_files::{Buffer, TextNo};
-use fallible::{Global, Vec};
+use char_files::TextNo;
 use looks::Refusal;
 use shelf::Shelf;
-use texts::{EditRefusal, Outbox, Replica};
-
-// The characters of a file.
-fn read_text<S: Shelf>(alloc: Global, name: &str, shelf: &mut S) -> Result<Buffer, Refusal> {
-    let file = shelf.read(alloc, name)?;
-    text_file::load(alloc, file.as_slice())
-}
-
-// Writes what a text shows.
-fn write_text<S: Shelf>(
-    alloc: Global,
-    replica: &Replica,
-    name: &str,
-    shelf: &mut S,
-) -> Result<(), Refusal> {
-    let mut file = Vec::new(alloc);
-    text_file::store(replica, &mut file)?;
-    shelf.write(name, file.as_slice())
-}
+use shelved_texts::{read_text, write_text};
+use texts::{EditRefusal, Outbox};
 
 impl Desk {
     // Puts the text of the file that was told in at the caret. Nothing is read where there is none.

@@ -6,10 +6,10 @@ use crate::desk::Desk;
 use crate::executing::written;
 use crate::telling::tell;
 use char_files::TextNo;
-use fallible::{Global, Vec};
-use kept_file::{KeptForm, load_kept, store_kept};
+use kept_file::KeptForm;
 use looks::Refusal;
 use shelf::Shelf;
+use shelved_texts::{read_site, write_site};
 use texts::{EditRefusal, Replica};
 
 // Whether a text has taken something in, or something waits for it.
@@ -20,25 +20,6 @@ fn has_begun(replica: &Replica) -> bool {
 // Whether both are copies of one site, of one text.
 fn is_same_copy(kept: &Replica, replica: &Replica) -> bool {
     kept.text() == replica.text() && kept.site() == replica.site()
-}
-
-// The text of a site's file.
-fn read_site<S: Shelf>(alloc: Global, name: &str, shelf: &mut S) -> Result<Replica, Refusal> {
-    let file = shelf.read(alloc, name)?;
-    load_kept(alloc, file.as_slice())
-}
-
-// Writes all that a text has taken in, in this form.
-fn write_site<S: Shelf>(
-    alloc: Global,
-    form: KeptForm,
-    replica: &Replica,
-    name: &str,
-    shelf: &mut S,
-) -> Result<(), Refusal> {
-    let mut file = Vec::new(alloc);
-    store_kept(form, replica, &mut file)?;
-    shelf.write(name, file.as_slice())
 }
 
 impl Desk {

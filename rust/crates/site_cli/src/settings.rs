@@ -3,7 +3,7 @@ use crate::numbers::number_of;
 use clap::error::ErrorKind;
 use clap::{Arg, ArgMatches, Command, Error};
 use fallible::{AllocError, AsStr, Global};
-use script_runs::{MAX_FIRST, MAX_HEIGHT, MAX_SITES, MAX_WIDTH, MIN_HEIGHT, MIN_WIDTH, Settings};
+use script_sites::{MAX_FIRST, MAX_HEIGHT, MAX_SITES, MAX_WIDTH, MIN_HEIGHT, MIN_WIDTH, Settings};
 
 // An option that takes one number.
 fn number_option<'a>(alloc: Global, name: &'a str, default: &'a str, help: &'a str) -> Arg<'a> {

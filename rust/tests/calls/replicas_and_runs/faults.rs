@@ -4,7 +4,8 @@ use super::is;
 use fallible::{Fail, Global, Vec};
 use looks::Refusal;
 use script_io::{Input, Output};
-use script_runs::{Settings, run, status_of};
+use script_runs::{run, status_of};
+use script_sites::Settings;
 use shelf::MemoryShelf;
 
 /// How a run ended.

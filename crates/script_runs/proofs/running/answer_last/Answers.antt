@@ -1,4 +1,4 @@
-use Rattle.script_runs.proofs.WriteLemmas.{failed_at_err, writes_kept}
+use Rattle.script_sites.proofs.WriteLemmas.{failed_at_err, writes_kept}
 use Rattle.script_runs.proofs.running.answer_last.Goals as goal
 
 pub returns-clause-answers : goal.returns-clause-answers

@@ -1,8 +1,8 @@
 use Rattle.std.specs.Prelude.{IfSome, is_some}
-use Rattle.commands.specs.Steps.{shelf_seen}
+use Rattle.shelved_texts.specs.Filing.{shelf_seen}
 use Rattle.script_runs.specs.Ends.{Ends}
-use Rattle.script_runs.specs.Trace.{begun_run}
-use Rattle.script_runs.proofs.Filing.{over_same, over_weaker}
+use Rattle.script_sites.specs.Trace.{begun_run}
+use Rattle.script_sites.proofs.Filing.{over_same, over_weaker}
 use Rattle.script_runs.proofs.Traces.{EndsOver, ends_unbegun}
 use Rattle.script_runs.proofs.running.run.Goals as goal
 

@@ -1,10 +1,10 @@
 use Rattle.std.proofs.Common.{◌≢◌, ◌+◌, Ok, arith, rules}
 use Rattle.std.specs.Prelude.{is_some}
-use Rattle.commands.specs.Steps.{shelf_seen}
+use Rattle.shelved_texts.specs.Filing.{shelf_seen}
 use Rattle.script_runs.specs.Ends.{Ends}
-use Rattle.script_runs.specs.Seen.{run_seen}
-use Rattle.script_runs.proofs.Filing.{over_same, over_then, over_weaker}
-use Rattle.script_runs.proofs.WriteLemmas.{failed_at_err}
+use Rattle.script_sites.specs.Seen.{run_seen}
+use Rattle.script_sites.proofs.Filing.{over_same, over_then, over_weaker}
+use Rattle.script_sites.proofs.WriteLemmas.{failed_at_err}
 use Rattle.script_runs.proofs.Traces.{AnsweredOver, EndsOver, IsSoFar, SoFarOver, IfSome-weaker, begins_known, so_far_out, goes_on_by, ends_by_last, ends_by_end, ends_by_fault, ends_by_limit, ends_by_line, ends_by_put_out}
 use Rattle.script_io.specs.declared.lines.NextLine.TheVariants.{End}
 use Rattle.script_runs.proofs.running.run_lines.Goals as goal

@@ -1,8 +1,8 @@
 use Rattle.std.proofs.Common.{◌≤◌}
 use Rattle.std.specs.Prelude.{IfSome, is_some, vec_capacity}
-use Rattle.commands.specs.Steps.{shelf_seen}
+use Rattle.shelved_texts.specs.Filing.{shelf_seen}
 use Rattle.script_io.specs.declared.lines.TheConstants.{MAX_LINE}
-use Rattle.script_runs.specs.Seen.{OverFiles, run_seen}
+use Rattle.script_sites.specs.Seen.{OverFiles, run_seen}
 use Rattle.script_runs.proofs.Traces.{IsSoFar}
 use Rattle.script_runs.proofs.running.run_lines.Given as goal
 

@@ -1,6 +1,6 @@
 use Rattle.std.proofs.Common.{arith, codes}
 use Rattle.clap.specs.Words.{first_value, found_of}
-use Rattle.script_runs.specs.declared.settings.TheConstants.{MAX_FIRST, MAX_SITES, MIN_WIDTH, MAX_WIDTH, MIN_HEIGHT, MAX_HEIGHT}
+use Rattle.script_sites.specs.declared.settings.TheConstants.{MAX_FIRST, MAX_SITES, MIN_WIDTH, MAX_WIDTH, MIN_HEIGHT, MAX_HEIGHT}
 use Rattle.site_cli.proofs.Decimals.{number_found-bounds}
 use Rattle.site_cli.proofs.settings.settings_in.Goals as goal
 

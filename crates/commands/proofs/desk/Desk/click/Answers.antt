@@ -10,7 +10,8 @@ use Rattle.desk_windows.specs.Pointing.{IsClick}
 use Rattle.commands.proofs.Clicks.{call_there, clicked_shows, no_call_there, nothing_there}
 use Rattle.commands.proofs.Shelves.{click_step, task_over}
 use Rattle.commands.proofs.Tasks.{refused_task}
-use Rattle.commands.specs.Steps.{DeskSeen, shelf_seen}
+use Rattle.shelved_texts.specs.Filing.{shelf_seen}
+use Rattle.commands.specs.Steps.{DeskSeen}
 use Rattle.commands.proofs.desk.Desk.click.Goals as goal
 
 pub returns-in_default-clause-step : goal.returns-in_default-clause-step

@@ -9,7 +9,8 @@ use Rattle.commands.proofs.Clicks.{text_shown, text_there}
 use Rattle.commands.proofs.Faultless.{no_selection_sound}
 use Rattle.commands.proofs.Shelves.{task_over}
 use Rattle.commands.proofs.Tasks.{refused_task}
-use Rattle.commands.specs.Steps.{DeskSeen, shelf_seen}
+use Rattle.shelved_texts.specs.Filing.{shelf_seen}
+use Rattle.commands.specs.Steps.{DeskSeen}
 use Rattle.commands.proofs.desk.Desk.execute.Goals as goal
 
 pub unwrap-text-requires : goal.unwrap-text-requires

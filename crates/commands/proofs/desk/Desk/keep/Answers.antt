@@ -4,7 +4,8 @@ use Rattle.machine.specs.Events.{ask, keep}
 use Rattle.desk_windows.specs.Windows.{screened}
 use Rattle.commands.proofs.Shelves.{keep_step}
 use Rattle.commands.specs.declared.answer.Answer.{Answer}
-use Rattle.commands.specs.Steps.{DeskSeen, IsShelfStep, shelf_seen, written_answer}
+use Rattle.shelved_texts.specs.Filing.{shelf_seen}
+use Rattle.commands.specs.Steps.{DeskSeen, IsShelfStep, written_answer}
 use Rattle.commands.proofs.desk.Desk.keep.Goals as goal
 
 pub returns-clause-step : goal.returns-clause-step

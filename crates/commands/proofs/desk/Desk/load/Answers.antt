@@ -9,7 +9,8 @@ use Rattle.commands.proofs.Faultless.{edit_step_sound}
 use Rattle.commands.proofs.Shelves.{load_fails, load_inserts, load_without_caret, task_over}
 use Rattle.commands.proofs.Tasks.{refused_task, told_so, untold}
 use Rattle.commands.specs.declared.answer.Answer.{Answer}
-use Rattle.commands.specs.Steps.{DeskSeen, IsEditStep, IsFault, IsShelfStep, sent_answer, shelf_seen}
+use Rattle.shelved_texts.specs.Filing.{shelf_seen}
+use Rattle.commands.specs.Steps.{DeskSeen, IsEditStep, IsFault, IsShelfStep, sent_answer}
 use Rattle.commands.proofs.desk.Desk.load.Goals as goal
 
 pub returns-in_default-clause-step : goal.returns-in_default-clause-step

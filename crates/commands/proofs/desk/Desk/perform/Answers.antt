@@ -11,7 +11,8 @@ use Rattle.commands.proofs.Faultless.{dressed_sound, edit_step_sound, task_sound
 use Rattle.commands.proofs.Shelves.{commanded, edit_over, task_over}
 use Rattle.commands.proofs.Tasks.{change_step}
 use Rattle.commands.specs.declared.answer.Answer.{Answer}
-use Rattle.commands.specs.Steps.{DeskSeen, IsFault, IsShelfStep, shelf_seen}
+use Rattle.shelved_texts.specs.Filing.{shelf_seen}
+use Rattle.commands.specs.Steps.{DeskSeen, IsFault, IsShelfStep}
 use Rattle.commands.proofs.desk.Desk.perform.Goals as goal
 
 pub returns-in-SystemOpen-clause-step : goal.returns-in-SystemOpen-clause-step

@@ -6,7 +6,8 @@ use Rattle.machine.specs.Tasks.{text_has_begun}
 use Rattle.machine_laws.proofs.OneOfTexts.{one_element}
 use Rattle.commands.proofs.Faultless.{begins_unfailed}
 use Rattle.commands.proofs.Reopening.{begun_as, begun_step, unread_step}
-use Rattle.commands.specs.Steps.{DeskSeen, shelf_seen}
+use Rattle.shelved_texts.specs.Filing.{shelf_seen}
+use Rattle.commands.specs.Steps.{DeskSeen}
 use Rattle.commands.proofs.desk.Desk.reopen.Goals as goal
 
 pub returns-then-has_begun-clause-step : goal.returns-then-has_begun-clause-step

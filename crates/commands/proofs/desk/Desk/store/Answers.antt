@@ -8,7 +8,8 @@ use Rattle.desk_windows.specs.Windows.{screened}
 use Rattle.commands.proofs.Shelves.{store_step, task_over}
 use Rattle.commands.proofs.Tasks.{refused_task, told_so, untold}
 use Rattle.commands.specs.declared.answer.Answer.{Answer}
-use Rattle.commands.specs.Steps.{DeskSeen, IsShelfStep, shelf_seen, written_answer}
+use Rattle.shelved_texts.specs.Filing.{shelf_seen}
+use Rattle.commands.specs.Steps.{DeskSeen, IsShelfStep, written_answer}
 use Rattle.commands.proofs.desk.Desk.store.Goals as goal
 
 pub returns-in_default-clause-step : goal.returns-in_default-clause-step

@@ -1,0 +1,10 @@
+pub mod Answering
+pub mod Before
+pub mod Filing
+pub mod Keeping
+pub mod Merging
+pub mod Printing
+pub mod Replying
+pub mod Sending
+pub mod Standing
+pub mod WriteLemmas
