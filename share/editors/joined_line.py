@@ -1,4 +1,4 @@
-"""An editor's line to a note's engine. Where it ends, the next engine is joined, or started."""
+"""An editor's line to a note's engine. If the engine ends, the line joins the next one, or starts it."""
 import socket
 import subprocess
 import threading
@@ -10,7 +10,7 @@ from share.engine import protocol, server
 from share.log.polling import can_read
 from share.text.line import PIECE, Assembler, Line
 
-# How long a watcher waits for what came to be read, before it looks again.
+# The seconds after which a watcher looks again whether the editor has read the line.
 WATCH_SECONDS = 0.5
 # The pause before another engine is started, which grows each time.
 FIRST_PAUSE_SECONDS, MOST_PAUSE_SECONDS = 0.5, 5.0

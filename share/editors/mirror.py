@@ -1,5 +1,5 @@
-"""What an editor has of a note that an engine has open: the text and two numbers. docs/ENGINE.md says it in words,
-and share/engine/vectors what is to come of which lines."""
+"""The text and the two numbers that an editor has of a note. docs/ENGINE.md says in words what it does; share/engine/vectors have lines,
+and what an editor does with each of them."""
 import hashlib
 import secrets
 import time
@@ -8,12 +8,12 @@ from collections.abc import Callable, Sequence
 from share.text.line import Line
 from share.text.units import UNITS, Units
 
-# What is between two positions gives way to a text.
+# A begin and an end, and the text that replaces the passage between them.
 TextChange = tuple[int, int, str]
 
 # After typing this long without all being answered, lines are read before the next key; and for how long at most.
 UNANSWERED_SECONDS, PATIENCE_SECONDS = 0.5, 0.2
-# The notices after which the engine is told which version this is, if nothing else has said so.
+# After this number of notices the editor sends its version, if no edit has said it.
 NOTICES = 100
 # From this number of unanswered edits on, further changes are gathered into one.
 MOST_UNANSWERED = 10
@@ -22,7 +22,7 @@ EDITOR_BYTES = 16
 
 
 def new_editor() -> str:
-    """A name that an editor gives itself, so that it can open again."""
+    """Return a new name of an editor, by which the next engine knows it."""
     return secrets.token_hex(EDITOR_BYTES)
 
 
@@ -85,12 +85,12 @@ class Mirror:
             self._send(line)
 
     def left(self) -> None:
-        """Says that the engine ended. What is typed is shown and kept, and said as the note is opened again."""
+        """Go on without an engine. Edits are shown and kept; the next opening has them."""
         self._send_gathered()
         self.is_away, self._since = True, None
 
     def again(self) -> Line:
-        """What `open` has of an editor that opens again."""
+        """Return the field `again` of the next opening."""
         self._send_gathered()
         self._named = len(self._since_base)
         version, edits = self._base
@@ -107,7 +107,7 @@ class Mirror:
         return [edit["changes"] for edit in self._since_base[max(0, number - self._base[1]):]]
 
     def opened_again(self, answer: Line) -> list[list[TextChange]]:
-        """Takes in what `open` was answered; the edits that weren't carried over, which are their user's."""
+        """Take in the answer to the opening. Return the changes of the edits that weren't carried over; their words are the user's."""
         self._send_gathered()
         edits, unmade = self._since_base, list[list[TextChange]]()
         if "text" in answer:
@@ -126,7 +126,7 @@ class Mirror:
         return unmade
 
     def waits(self) -> bool:
-        """Whether lines are to be read before the next key is taken."""
+        """Return whether lines must be read before the next key is taken."""
         is_busy = not self.is_away and self.answered < self.made or bool(self._gathered)
         return is_busy and self._since is not None and self._clock() > self._since + UNANSWERED_SECONDS
 
@@ -151,7 +151,7 @@ class Mirror:
                 self._send_gathered()
 
     def _in_step(self) -> None:
-        """Notes that it shows the engine's text, but for what is gathered."""
+        """Note that it shows the engine's text, except for gathered changes."""
         self._base, self._since_base = (self.version, self.made), []
 
     def _noticed(self, line: Line) -> None:
@@ -188,7 +188,7 @@ class Mirror:
             self.follow(begin, end, data)
 
     def follow(self, begin: int, end: int, data: bytes) -> None:
-        """Does what is to follow a change of the text; nothing here."""
+        """Follow a change of the text; a subclass does something."""
 
     def follow_all(self) -> None:
-        """Does what is to follow a change of all the text; nothing here."""
+        """Follow a change of the whole text; a subclass does something."""

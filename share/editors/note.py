@@ -1,6 +1,6 @@
 """A note that is open at an engine, as the terminal editor has it. Positions count bytes, and stand between characters.
 
-What is typed is shown at once by who calls, and on the disk when the call returns.
+An edit is shown at once, and is on the disk when its call returns.
 """
 import re
 import socket
@@ -48,7 +48,7 @@ class _Mirror(Mirror):
 
 
 class AtEngine:
-    """What the editor asks of a session: how things are, and the end."""
+    """The state of the note, as a session has it."""
 
     def __init__(self, note: "EngineNote"):
         self._note = note
@@ -68,19 +68,19 @@ class AtEngine:
 
 
 def typed_text(characters: str) -> str:
-    """What is typed by keys or pasted, as an engine is told it."""
+    """Return typed or pasted characters as an engine takes them."""
     return re.sub("\r\n|\r", "\n", characters).encode("utf-8", "ignore").decode()
 
 
 class ToldCursor:
-    """The place of the cursor that the engine was told last."""
+    """The place of the cursor that the engine knows."""
 
     def __init__(self) -> None:
         self._places: tuple[int, int | None] = (0, None)
         self._due = 0.0
 
     def line(self, version: int, at: int, anchor: int | None) -> Line | None:
-        """What the engine is to be told now, so that others see the cursor; nothing if it knows that, or was told a moment ago."""
+        """Return the request that tells the engine the cursor's place; None if it knows that, or got another place a moment ago."""
         now = time.monotonic()
         if (at, anchor) == self._places or now < self._due:
             return None
@@ -114,9 +114,9 @@ class EngineNote:
                                  "editor": new_editor()}
         self.text = bytearray()
         self.cursor = self.top = 0
-        # The other end of what is selected.
+        # The other end of the selection.
         self.anchor: int | None = None
-        # What the user is to be told, and words of the user's that aren't in the note, to be put back.
+        # A message for the user, and words of the user's that aren't in the note and can be put back.
         self.notice = self.unmade = ""
         # Whether the cursor is where the last edit left it.
         self._goes_on = False
@@ -171,7 +171,7 @@ class EngineNote:
         return self._by_names("undo")
 
     def do_again(self) -> bool:
-        """Does again what was taken back last. False where there is nothing."""
+        """Redo the last undo. Return False if there is nothing to redo."""
         return self._by_names("redo")
 
     def say(self, what: str, **more: object) -> Line | None:
@@ -184,7 +184,7 @@ class EngineNote:
         return None
 
     def _asked(self, request: Line) -> Line:
-        """What a request is answered."""
+        """Return the answer to a request."""
         self._send({"id": request["do"], **({"version": self.mirror.version} if "begin" in request else {}), **request})
         return self._until(request["do"])
 
@@ -195,7 +195,7 @@ class EngineNote:
         return [one["thread"] for one in answers if "error" not in one]
 
     def take_in(self) -> bool:
-        """Takes in what came from the others; whether the text changed."""
+        """Take in the edits of others; return whether the text changed."""
         version: int = self.mirror.version
         self._come_again()
         while self._receive(0):
@@ -210,7 +210,7 @@ class EngineNote:
         return bool(version != self.mirror.version)
 
     def moved_to(self, position: int) -> None:
-        """Puts the cursor at a position. What is typed there is an edit of its own."""
+        """Puts the cursor at a position. A key that is typed there begins an edit of its own."""
         self.cursor, self._goes_on = position, False
 
     def find(self, words: str) -> bool:
@@ -280,7 +280,7 @@ class EngineNote:
         return bool(answer["done"])
 
     def _opened(self) -> Line:
-        """What the opening is answered."""
+        """Return the answer to the opening."""
         while not (found := [line for line in self._answers if line.get("answer") == "open"]):
             self._receive(WATCH_SECONDS)
         self._answers.remove(found[0])
@@ -301,7 +301,7 @@ class EngineNote:
             self._receive(WATCH_SECONDS)
 
     def _receive(self, seconds: float) -> bool:
-        """Takes in what comes within some time; whether something did."""
+        """Take in the lines of the next seconds; return whether there were some."""
         was_there = self._line.is_there
         lines = self._line.receive(seconds)
         if lines is None and was_there:
@@ -320,7 +320,7 @@ class EngineNote:
             ended()
 
     def _come_again(self, seconds: float = 0) -> bool:
-        """Opens the note again at the next engine, as soon as it is there, and takes in what comes within some time; whether it is open."""
+        """Open the note again at the next engine, if that is there, and take in the lines of some seconds; return whether it is open."""
         if self.mirror.is_away and not self._line.is_there and self._line.join():
             self._send({**self._open_line, "again": self.mirror.again()})
         if seconds and not self._receive(seconds) and self.mirror.is_away:

@@ -1,5 +1,5 @@
-"""What the user says in the margin of a note, so that it is there once although the engine ends: the next one is asked for it again, by the
-same number."""
+"""Remarks, suggestions and replies of a user. If the engine ends before it answers one, the next engine is asked for it by the same number,
+so that it is there once."""
 import time
 from collections.abc import Callable
 
@@ -13,12 +13,12 @@ SAID_ONCE, SAY_SECONDS = ("remark", "suggest", "reply"), 10.0
 
 
 class Saying:
-    """Asks for what is said. `asks` returns the answer to a request, with the error AWAY if the engine ended before it; `comes_back` waits a
-    moment for the next engine and returns whether it is there."""
+    """Asks engines for remarks, suggestions and replies. `asks` returns the answer to a request, with the error AWAY if the engine ended
+    before it; `comes_back` waits a moment for the next engine and returns whether it is there."""
 
     def __init__(self, asks: Callable[[Line], Line], comes_back: Callable[[], bool]):
         self._asks, self._comes_back = asks, comes_back
-        # The number of what was said last, and the stretch that it is about, as long as it isn't answered.
+        # The number of the last request, and the stretch that it is about, until it is answered.
         self._once = 0
         self._places: tuple[int, int] | None = None
 

@@ -1,7 +1,7 @@
-"""A file that outlives an engine: lines that say of each editor what the next engine has to know so that it can open again.
+"""A file that outlives an engine. By its lines the next engine lets each editor open the note again.
 
-Each line has a checksum and is appended by one write. It isn't synced: a process may end at any moment, and then the line is there. A
-file that is damaged, or of another note or version, is read as none, and says why.
+Each line has a checksum and is appended by one write. The file isn't synced: it outlives the engine's process, but not a crash of the
+machine. If the file is damaged, or of another version, the reader gets the reason. A file of another note is read as an empty one.
 """
 import json
 import os
@@ -14,38 +14,38 @@ from share.engine.protocol import ENCODER
 from share.text.line import Line
 
 JOURNAL_VERSION = 1
-# From this size on a journal is to be written again, with what is still needed.
+# A journal of more bytes is written again, without the lines that nobody needs.
 LONG_BYTES = 8 << 20
 CHECKSUM_DIGITS = 8
 
 
 class Unreadable(Exception):
-    """Why a journal says nothing, in words."""
+    """The reason why a journal can't be read, in words."""
 
 
 class Journal:
-    """The journal of a note's editors. The engine's thread alone calls it."""
+    """The journal of a note's editors. Only the engine's thread calls it."""
 
     def __init__(self, path: pathlib.Path, note: bytes):
         self._path, self._note = path, note
         self._file: int | None = None
         self._size = 0
-        # From which size on it is to be written again.
+        # The size above which it is written again.
         self._long = LONG_BYTES
 
     @property
     def is_open(self) -> bool:
-        """Whether lines can be appended."""
+        """Return whether lines can be appended."""
         return self._file is not None
 
     @property
     def is_long(self) -> bool:
-        """Whether it is to be written again with what is still needed."""
+        """Return whether it must be written again."""
         return self._size > self._long
 
     def read(self) -> list[Line]:
-        """The lines without the first one; Unreadable if they can't be known. A last line without an end is left out: a kill cut its
-        write, so what it was to say was never kept or sent."""
+        """Return the lines except the first one; raise Unreadable if they can't be read. A last line without an end is left out: a kill cut
+        its write, so nothing that it says was kept or sent."""
         try:
             data = self._path.read_bytes()
         except FileNotFoundError:
@@ -81,7 +81,7 @@ class Journal:
         return True
 
     def add(self, lines: Iterable[Line]) -> bool:
-        """Appends lines, all or none of them; whether that could be done. If not there is no journal any more."""
+        """Append all of some lines, and return whether that could be done. If not, the journal is deleted."""
         if self._file is None:
             return False
         data = b"".join(map(_serialized, lines))
@@ -98,7 +98,7 @@ class Journal:
             raise OSError("The disk is full.")
 
     def stop(self) -> None:
-        """Closes the file, which stays."""
+        """Close the file, which stays."""
         if self._file is not None:
             os.close(self._file)
             self._file = None

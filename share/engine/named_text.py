@@ -10,19 +10,19 @@ from share.text.names import Names
 from share.text.rope import Measured
 from share.text.units import Units
 
-# The site of characters that are in no message: no site has this number.
+# The site of characters that are in no message. No site has this number.
 NO_SITE = 0
 
 
 class NamedText:
-    """A text that an editor changes. Without names it has the text alone."""
+    """A text that an editor changes. If no names are given, it has only the text."""
 
     def __init__(self, data: bytes, names: Iterable[Names] | None = None):
         self.measured = Measured(data)
         self._names = None if names is None else [*names]
 
     def edit(self, changes: Sequence[tuple[int, int, str]], units: Units, new: Sequence[Names] = ()) -> None:
-        """Makes an edit, given the names of what it inserts, from the front of the text on, where these are known."""
+        """Make an edit. `new` has the names of the inserted characters in the order of the text, if they are known."""
         made = changes_in(self.measured, op_of(changes, self.measured.length(units), units), units)
         if self._names is not None:
             sizes = [len(one.new) for one in reversed(made)]
@@ -34,7 +34,7 @@ class NamedText:
             self.measured.replace(self.measured.whole(one))
 
     def until(self, now: Shown, units: Units) -> Op:
-        """What has to be done to it so that it becomes what is shown now."""
+        """Return the change from this text to the text that is shown now."""
         before = Shown(self.measured.as_note(), self._names or [], now.messages)
         found = differences_by(before, now) if self._names is not None else None
         if found is None:
@@ -48,7 +48,7 @@ class NamedText:
 
 
 def _names_between(names: Iterable[Names], begin: int, end: int) -> Iterable[Names]:
-    """The names from one place in their row to another."""
+    """Yield the names between two places in their row."""
     at = 0
     for one in names:
         first, last = max(begin, at), min(end, at + one.length)
@@ -64,7 +64,7 @@ def _names_after(names: Iterable[Names], begin: int) -> Iterable[Names]:
 
 
 def _names_in_parts(names: Sequence[Names], sizes: Iterable[int]) -> list[list[Names]]:
-    """Names in parts of these sizes."""
+    """Split names into parts of these sizes."""
     found, at = list[list[Names]](), 0
     for size in sizes:
         found.append([*_names_between(names, at, at + size)])

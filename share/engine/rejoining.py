@@ -1,5 +1,5 @@
-"""An editor opens again whose engine ended, or that lost its line: which of its edits are there is found out, the others are carried over
-from the text that it shows to the text of now, and what it could take back it can take back again."""
+"""The request `open` of an editor that had the note open before: its engine ended, or its line did. The engine finds out which edits of the
+editor it has, makes the others in the text of now, and gives the editor its steps of undo."""
 import hashlib
 import time
 from collections.abc import Sequence
@@ -28,15 +28,15 @@ from share.text.delta import NOTHING, Op
 from share.text.line import Line
 from share.text.units import Units
 
-# What may be otherwise when it is tried again; after any other error of an edit those after it aren't made.
+# The errors of an edit that may be gone at the next try. After any other error, later edits aren't made.
 PASSING = ("number", "unkept", "failed")
 NOT_MADE = "Before the engine ended it couldn't make all that you typed. This is missing: {}"
 MOST_WORDS_TOLD = 200
 
 
 class Again(NamedTuple):
-    """What an editor shows that opens again: when it was last in step, the changes of each edit since then, whether each one joins the
-    edit before it, if the editor says so, and the hash of the text with all of them."""
+    """The field `again`: the step at which the editor was last in step, the changes of each edit since then, and the hash of the text with
+    them. `joins` has the field `join` of each edit that has one."""
 
     version: int
     edits: int
@@ -46,7 +46,7 @@ class Again(NamedTuple):
 
     @classmethod
     def read(cls, request: Line) -> "Again":
-        """What a request says."""
+        """Read the field of a request."""
         line = request["again"]
         given = line.get("made") if isinstance(line, dict) else None
         if not isinstance(given, list) or not all(isinstance(one, dict) for one in given):
@@ -63,7 +63,7 @@ class Rejoining:
         self._session, self._text, self._arrivals, self._edits, self._remembering = session, text, arrivals, edits, remembering
 
     def open(self, peer: Peer, units: Units, again: Again) -> Line:
-        """Opens the note for an editor; what the answer has besides. After an error it isn't open."""
+        """Open the note for an editor, and return the answer's fields `text` and `has`, if it has them. After an error it isn't open."""
         if self._arrivals.is_behind:
             raise Wrong("failed", "What the editor shows can't be compared now.")
         found = self._remembering.read().of.get(peer.editor)
@@ -83,8 +83,8 @@ class Rejoining:
         return self._not_carried(peer, units, again, found, has)
 
     def _pending(self, units: Units, again: Again, known: Remembered, step: InStep, has: int) -> Op | None:
-        """What has to be done to the text that the editor shows with the edits that are there, so that it becomes the text of now; None
-        where it shows another one."""
+        """Return the change from the text that the editor shows, without the edits that aren't there, to the text of now. None if it
+        shows another text."""
         made = [*step.made, *again.made]
         before, after = made[:has - step.edits], made[has - step.edits:]
         kept = [known.edits[number] for number in range(step.edits + 1, has + 1)]
@@ -106,7 +106,7 @@ class Rejoining:
         return text.until(shown_by(self._session.site), units)
 
     def _replayed(self, front: SiteFront) -> NamedText:
-        """The text as messages up to these of each site made it, with names."""
+        """Return the text of a front, with names."""
         messages = messages_up_to(self._session.site.history, front)
         site = Site(REPLAYING, messages)
         try:
@@ -116,8 +116,8 @@ class Rejoining:
         return NamedText(shown.text, shown.names)
 
     def _go_on(self, peer: Peer, noted: Line, is_later: bool) -> None:
-        """Have the editor's next key be undone with those before it, as without the engine's end. If it was typed before now, it isn't known
-        after how much silence; then that counts as none."""
+        """Have the editor's next key be undone with those before it, as without the engine's end. The silence before a key that was typed
+        earlier isn't known; it counts as none."""
         if not noted:
             return
         (site, at), (keys, deleted) = noted["behind"], noted["keys"]
@@ -126,7 +126,7 @@ class Rejoining:
             peer.coalescing.goes_on_at(place, keys, deleted, max(0, time.time() - noted["time"]) if is_later else 0)
 
     def _carried(self, peer: Peer, units: Units, again: Again, has: int, pending: Op) -> int:
-        """Makes the edits that aren't there; the number of the last one that is there then."""
+        """Make the edits that aren't there, and return the number of the last one that is there then."""
         peer.transformer, peer.rejoins = Transformer.resumed(units, again.version, has, pending), True
         lines = [{"do": "edit", "version": again.version, "edits": number, "changes": changes, **joins}
                  for number, changes, joins in zip(count(again.edits + 1), again.made, again.joins) if number > has]
@@ -142,7 +142,7 @@ class Rejoining:
         return has
 
     def _made(self, peer: Peer, lines: Sequence[Line]) -> int:
-        """Makes edits, up to one that is refused for good; how many were made."""
+        """Make edits, up to the first one that is refused for good, and return how many were made."""
         if lines and not self._session.can_type:
             raise Wrong("number", self._arrivals.no_number)
         waiting: list[bytes | None] = [protocol.serialize(line) for line in lines]
@@ -157,7 +157,7 @@ class Rejoining:
         return made
 
     def _not_carried(self, peer: Peer, units: Units, again: Again, known: Remembered | None, has: int | None) -> Line:
-        """Has the editor show the text of now. Its version and edits are numbers that it has never had."""
+        """Have the editor show the text of now, with a version and a number of edits that it has never had."""
         version = max([again.version, *(version for version, _ in known.steps)] if known else [again.version]) + 1
         edits = max([again.edits + len(again.made), *known.edits] if known else [again.edits + len(again.made)])
         peer.transformer = Transformer.resumed(units, version, edits, NOTHING)
@@ -173,7 +173,7 @@ class Rejoining:
 
     @staticmethod
     def _tell_what_was_not_made(peer: Peer, again: Again, known: Remembered) -> None:
-        """Tells the words of edits that count and were refused, of which the answers may have been lost."""
+        """Tell the user the words of refused edits, because the answers to them may have been lost."""
         words = "".join(text for number, changes in enumerate(again.made, again.edits + 1)
                         if number in known.edits and not known.edits[number].is_whole for _, _, text in changes)
         if words:
@@ -181,7 +181,7 @@ class Rejoining:
 
 
 def messages_up_to(history: Messages, front: SiteFront) -> Messages:
-    """The first messages of each site, this many, in the order of a history."""
+    """Return the messages of a front, in the order of a history."""
     found = Messages()
     for holder, begin, end in history.parts():
         if isinstance(holder, Branch | Path):
@@ -194,7 +194,7 @@ def messages_up_to(history: Messages, front: SiteFront) -> Messages:
 
 
 def _is_shown(text: NamedText, edits: Sequence[EditChanges], units: Units, wanted: str) -> bool:
-    """Whether a text with these edits has a hash."""
+    """Return whether a text with these edits has the wanted hash."""
     try:
         for changes in edits:
             text.edit(changes, units)

@@ -1,4 +1,5 @@
-"""What a journal says of editors: which of their edits are where, when each showed the engine's text, and what it can take back."""
+"""The notes of a journal about each editor: the messages of its edits, the moments at which it showed the engine's text, and its steps
+of undo."""
 from collections.abc import Callable, Iterable, Iterator, Sequence
 from dataclasses import dataclass, field
 from typing import NamedTuple
@@ -11,7 +12,7 @@ from share.text.names import Names
 MOST_REMEMBERED, MOST_STEPS_OF_ONE = 100, 5_000
 # The most remarks, suggestions and replies of an editor that are remembered.
 MOST_ONCE = 100
-# An editor's changes: what is between two positions gives way to a text.
+# An editor's changes: a begin and an end, and the text that replaces the passage between them.
 EditChanges = Sequence[tuple[int, int, str]]
 SiteFront = dict[int, int]
 
@@ -26,8 +27,8 @@ class MadeMessages(NamedTuple):
 
 
 class KeptEdit(NamedTuple):
-    """An edit: its messages, the names of what it inserted, from the front of the text on, whether all of it was made, and the checksum
-    of its changes as the editor sent them."""
+    """An edit: its messages, the names of the characters that it inserted (in the order of the text), whether all of it was made, and the
+    checksum of its changes as the editor sent them."""
 
     at: list[MadeMessages]
     new: list[Names]
@@ -35,7 +36,7 @@ class KeptEdit(NamedTuple):
     changes: int
 
     def as_line(self, editor: str, number: int) -> Line:
-        """What a journal has of it."""
+        """Return its line in a journal."""
         return {"of": editor, "edit": number, "at": self.at, "new": self.new, "sum": self.changes,
                 **({} if self.is_whole else {"partly": True})}
 
@@ -51,12 +52,12 @@ class InStep(NamedTuple):
 
 @dataclass
 class Remembered:
-    """What is remembered of an editor."""
+    """The notes about one editor."""
 
     edits: dict[int, KeptEdit] = field(default_factory=dict)
     # By its version and the number of its edits.
     steps: dict[tuple[int, int], InStep] = field(default_factory=dict)
-    # What was done that can be taken back, with the messages of that.
+    # The lines of undo, each with the messages that it is about.
     undoing: list[tuple[list[MadeMessages], Line]] = field(default_factory=list)
     # The remarks, suggestions and replies that it asked for, by the number that it gave to each: the messages and the id.
     said: dict[int, tuple[list[MadeMessages], str]] = field(default_factory=dict)
@@ -74,12 +75,12 @@ class Remembered:
         return edits
 
     def goes_on(self) -> Line:
-        """Return what is noted of the last edit so that the next key can be undone with it; nothing if no key can."""
+        """Return the part of the last edit's line that lets the next key be undone with it; an empty line if no key can be."""
         line = self.undoing[-1][1] if self.undoing else {}
         return {name: line[name] for name in ("keys", "behind", "time") if name in line}
 
     def can_undo(self) -> Undoing:
-        """What it can take back."""
+        """Return its steps of undo."""
         undoing = Undoing()
         for _, line in self.undoing:
             undoing.does(line)
@@ -87,11 +88,11 @@ class Remembered:
 
 
 class Editors:
-    """All that a journal says."""
+    """The notes of a whole journal."""
 
     def __init__(self, lines: Iterable[Line] = ()):
         self.of: dict[str, Remembered] = {}
-        # What each front has more than the one before it, or otherwise.
+        # The numbers of each front that differ from the front before it.
         self._fronts: list[SiteFront] = [{}]
         for line in lines:
             self._take(line)
@@ -158,14 +159,14 @@ class Editors:
         self._drop(is_gone, counts=False)
 
     def front(self, number: int) -> SiteFront:
-        """How many messages of each site a text was made of."""
+        """Return the numbers of messages of each site in a front."""
         found: SiteFront = {}
         for one in self._fronts[:number + 1]:
             found |= one
         return {site: seq for site, seq in found.items() if seq}
 
     def lines(self, front: SiteFront) -> Iterator[Line]:
-        """The lines of a new journal that says what is still needed, up to a front."""
+        """Return the lines of a new journal with all notes that are still needed, given the front of now."""
         self._forget_old()
         steps = sorted(((step.front, editor, at, step) for editor, one in self.of.items() for at, step in one.steps.items()),
                        key=lambda each: each[:3])
@@ -195,5 +196,5 @@ class Editors:
 
 
 def front_differing(before: SiteFront, now: SiteFront) -> SiteFront:
-    """What a front has otherwise than one before it; 0 of the sites that it hasn't."""
+    """Return the numbers of a front that differ from an earlier one; 0 for each site that it lacks."""
     return dict.fromkeys(before.keys() - now.keys(), 0) | {site: seq for site, seq in now.items() if before.get(site) != seq}

@@ -1,4 +1,4 @@
-"""What an engine notes of its editors for the next one, before anybody can know of it."""
+"""Notes of an engine about its editors, for the next engine. Each is written before an editor hears of what it says."""
 import zlib
 from collections.abc import Callable, Iterable, Iterator, Sequence
 from contextlib import suppress
@@ -19,17 +19,17 @@ from share.text.names import Names
 
 
 class HistoryFront:
-    """How many messages of each site the text is made of. The engine's thread alone calls it."""
+    """The number of messages of each site that made the text. Only the engine's thread calls it."""
 
     def __init__(self) -> None:
         self._site: Site | None = None
         self._length = 0
         self._front: SiteFront = {}
-        # What was told last.
+        # The front that the journal had last.
         self.told: SiteFront = {}
 
     def now(self, site: Site) -> SiteFront:
-        """How many there are now."""
+        """Return the numbers of now."""
         if site is not self._site or len(site.history) < self._length:
             self._site, self._length, self._front = site, 0, {}
         if len(site.history) > self._length:
@@ -40,7 +40,7 @@ class HistoryFront:
         return self._front
 
     def more(self, site: Site) -> list[tuple[int, int]]:
-        """What there is otherwise than was told last, which counts as told then."""
+        """Return the numbers that differ from those in the journal; from now on these count as written there."""
         before, self.told = self.told, self.now(site)
         return [] if before is self.told else [*front_differing(before, self.told).items()]
 
@@ -51,17 +51,18 @@ class Remembering:
     def __init__(self, session: Session, peers: Sequence[Peer], journal: Journal | None):
         self._session, self._peers, self._journal = session, peers, journal
         self._fronts = HistoryFront()
-        # What was made and isn't written yet.
+        # The lines that aren't written yet.
         self._gathered: list[Line] = []
-        # Why what was noted before this engine isn't known, if so.
+        # Why the notes of the last engine can't be read, if so; in words.
         self.trouble = ""
-        # Whether the text isn't what the site has, so that nobody is in step.
+        # Whether the text differs from the site's, so that no editor is in step.
         self.is_behind: Callable[[], bool] = lambda: False
         if journal:
             self._begin(journal)
 
     def _begin(self, journal: Journal) -> None:
-        """Decides at once what is there of what the last engine was making: its numbers may be used again from here on."""
+        """Decide which messages of the last engine are in the note's file. This is done first, because new messages can get the numbers of
+        those that aren't."""
         editors, front = self.read(), self.front()
         editors.settle(front, self._is_kept, self._is_said)
         if editors.of and journal.begin(editors.lines(front)):
@@ -70,11 +71,11 @@ class Remembering:
             journal.delete()
 
     def front(self) -> SiteFront:
-        """How many messages of each site the text is made of now."""
+        """Return the number of messages of each site that made the text of now."""
         return self._fronts.now(self._session.site)
 
     def read(self) -> Editors:
-        """What is noted of editors."""
+        """Read the journal; if it can't be read, say why in `trouble`."""
         try:
             return Editors(self._journal.read() if self._journal else ())
         except Unreadable as why:
@@ -87,11 +88,11 @@ class Remembering:
         return Editors()
 
     def _is_kept(self, one: MadeMessages) -> bool:
-        """Whether messages of which the note's file has the numbers are these."""
+        """Return whether the note's file has these messages, and not others with their numbers."""
         return one.checksum == checksum(self._session.message(one.site, seq) for seq in range(one.first, one.last + 1))
 
     def _is_said(self, one: MadeMessages) -> bool:
-        """Whether messages are in the margin, and are these."""
+        """Return whether the margin has these messages, and not others with their numbers."""
         with suppress(LookupError):
             return one.checksum == checksum(self._session.message(one.site, seq, MARGIN) for seq in range(one.first, one.last + 1))
         return False
@@ -108,7 +109,7 @@ class Remembering:
 
     def edit(self, peer: Peer, request: Line, made: Sequence[Sequence[Operation]] = (), undo: Line | None = None,
              is_whole: bool = True) -> None:
-        """Gathers what an editor's last edit made, change by change from the last one to the first."""
+        """Gather the line of an editor's last edit. `made` has the messages of each change, the last change first."""
         if peer.editor and (made or not peer.rejoins):
             new = [names for parts in reversed(made) for one in parts if (names := one.new)]
             edit = KeptEdit(_as_made([one for parts in made for one in parts]), _joined_names(new), is_whole,
@@ -116,12 +117,12 @@ class Remembering:
             self._gathered.append(edit.as_line(peer.editor, peer.transformer.edits) | ({"undo": undo} if undo else {}))
 
     def by_name(self, peer: Peer, messages: Sequence[Operation], undo: Line) -> None:
-        """Gathers what is made by names for an editor."""
+        """Gather the line of a step of undo, or of another edit by names."""
         if peer.editor:
             self._gathered.append({"of": peer.editor, "at": _as_made(messages), "undo": undo})
 
     def write(self) -> None:
-        """Writes what was gathered, before it is kept."""
+        """Write the gathered lines. The caller does this before it keeps the messages."""
         lines, self._gathered = self._gathered, []
         if lines:
             self._add(lines)
@@ -132,30 +133,31 @@ class Remembering:
         return len(self._gathered)
 
     def forget_gathered(self, after: int = 0) -> None:
-        """Forgets what was gathered after some lines, since it wasn't made."""
+        """Forget the gathered lines behind a number of them, because their edits failed."""
         del self._gathered[after:]
 
     def unkept(self, peer: Peer, messages: Sequence[Operation]) -> None:
-        """Note that an editor's messages weren't kept, so that others may get their numbers. The edits count all the same. Exception: an
-        editor that is just opening again sends them again with its next request."""
+        """Note that an editor's messages weren't kept, so that others may get their numbers. The edits count. Exception: an editor that is
+        just opening the note again sends these edits again."""
         self.forget_gathered()
         if messages:
             self._add([{"unkept": [messages[0].site, messages[0].seq], **({"again": True} if peer.rejoins else {})}])
 
     def forgets(self, peer: Peer) -> None:
-        """Note that an editor can take nothing back. One that is just opening again reads from the journal what it can."""
+        """Note that an editor can take nothing back. Exception: for an editor that is just opening the note again, the journal keeps its
+        steps."""
         peer.undoing.forget()
         if peer.editor and not peer.rejoins:
             self._add([{"of": peer.editor, "undo": {"forgets": True}}])
 
     def comes(self, peer: Peer) -> None:
-        """Notes that an editor has opened the note, of which nothing that was before counts."""
+        """Note that an editor has opened the note from scratch."""
         if peer.editor:
             self._add([{"of": peer.editor, "gone": True}])
             self.in_step(peer)
 
     def in_step(self, peer: Peer) -> None:
-        """Notes that an editor that takes over what it is sent now shows the text as it is."""
+        """Note that an editor shows the text of now as soon as it applies what it is just sent."""
         at = peer.transformer.version, peer.transformer.edits
         if peer.editor and at != peer.in_step_at and not self.is_behind() and self._makes_room():
             peer.in_step_at = at
@@ -163,7 +165,7 @@ class Remembering:
             self._add([{"of": peer.editor, "step": at, **({"front": more} if more else {})}])
 
     def carried(self, peer: Peer, before: tuple[int, int], made: object) -> None:
-        """Notes that an editor shows what it showed before, with these of its edits, and nothing that came since."""
+        """Note that an editor shows the text of an earlier step with the edits `made`, and no later edit of others."""
         if not peer.transformer.has_news():
             self.in_step(peer)
         elif peer.editor:
@@ -171,7 +173,7 @@ class Remembering:
             self._add([{"of": peer.editor, "step": at, "as": before, "made": made}])
 
     def gone(self, editor: str) -> None:
-        """Forgets an editor."""
+        """Note that an editor won't come again."""
         self._add([{"of": editor, "gone": True}])
 
     def _add(self, lines: list[Line]) -> None:
@@ -186,8 +188,8 @@ class Remembering:
             peer.in_step_at = None
 
     def _makes_room(self) -> bool:
-        """Begin the journal if it isn't open, and write it again if it is long; return whether it is open. All that was made is kept by
-        now, so the lines of undo that are written here need no check whether it is."""
+        """Begin the journal if it isn't open, and write it again if it is long; return whether it is open. It isn't called while an edit is
+        being made, so the steps of undo that it writes are all on the disk."""
         journal = self._journal
         if journal and journal.is_open and journal.is_long and (editors := self.read()).of:
             journal.begin(editors.lines(self._fronts.told))
@@ -215,12 +217,12 @@ def _last_of_each(messages: Messages) -> Iterator[tuple[int, int]]:
 
 
 def checksum(messages: Iterable[Operation]) -> int:
-    """What tells messages from others of the same numbers."""
+    """Return a number that differs for other messages with the same numbers."""
     return zlib.crc32(b"".join(spelling for one in messages for spelling in one.spellings()))
 
 
 def changes_checksum(changes: object) -> int:
-    """What tells the changes of an edit from others of the same number."""
+    """Return a number that differs for other changes."""
     return zlib.crc32(ENCODER.encode(changes).encode("utf-8", "replace"))
 
 
