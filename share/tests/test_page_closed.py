@@ -62,8 +62,7 @@ class PageClosed(Pages):
     def ends_amid(self, window: "Window", keys: str, is_killed: bool) -> None:
         """Type keys while the engine doesn't answer. Whoever closes the page is asked. Then the tab ends."""
         before = window.text()
-        for key in keys:
-            window.type(key)
+        window.type(keys)
         window.shows(before + keys)
         self.assertTrue(window.run(ASKS))
         self.end(window, is_killed)
