@@ -9,7 +9,7 @@ from share.text.line import Line
 
 AWAY = "The note's engine ended. What you type is kept here until the next one is there."
 # The requests that are asked for again, and for how long the next engine is waited for.
-SAID_ONCE, SAY_SECONDS = ("remark", "suggest", "reply"), 10.0
+SAID_ONCE, NEXT_ENGINE_SECONDS = ("remark", "suggest", "reply"), 10.0
 
 
 class Saying:
@@ -30,7 +30,7 @@ class Saying:
         """Return the answer to a request, with the error AWAY if no next engine came in time."""
         self._once += 1
         self._places = (request["begin"], request["end"]) if "begin" in request else None
-        end = time.monotonic() + SAY_SECONDS
+        end = time.monotonic() + NEXT_ENGINE_SECONDS
         try:
             while (answer := self._asks({**request, "once": self._once, **self._as_fields()})).get("error") == AWAY:
                 while not self._comes_back():
