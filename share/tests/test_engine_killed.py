@@ -1,5 +1,5 @@
-"""The engine of the terminal's editor, of Emacs, of Emacs with Evil, of Neovim and of a page is killed amid typing: typing goes on, and each
-key is kept once, in its order."""
+"""The engine of the terminal's editor, of Emacs, of Emacs with Evil, of Neovim and of a page is killed amid typing: typing goes on, and
+each key is kept once, in its order."""
 import random
 import unittest
 

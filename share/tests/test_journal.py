@@ -88,7 +88,8 @@ class Journals(Journaled):
 
     def test_numbers_that_are_used_again(self) -> None:
         journal = Journal(self.path, b"note")
-        lines: list[Line] = [{"of": "e", "step": [0, 0], "front": [[7, 1]]}, {"of": "e", "edit": 1, "at": [[7, 2, 2, 99]], "new": [], "sum": 5}]
+        lines: list[Line] = [{"of": "e", "step": [0, 0], "front": [[7, 1]]},
+                             {"of": "e", "edit": 1, "at": [[7, 2, 2, 99]], "new": [], "sum": 5}]
         self.assertTrue(journal.begin(lines))
         for is_kept, edits in (lambda one: True, 1), (lambda one: False, 0):
             editors = Editors(journal.read())

@@ -1,12 +1,12 @@
-"""A remark, a suggestion or a reply that is under way as an engine ends is there once, whatever the engine was doing: its editor asks for it
-again by the same number."""
+"""A remark, a suggestion or a reply that is under way as an engine ends is there once, whatever the engine was doing: its editor asks for
+it again by the same number."""
 import os
 import random
 from unittest import mock
 
 from share.sync.edits import OwnEdits
 from share.tests.journaled import Journaled, OneEditor
-from share.tests.support import give_up
+from share.tests.proved_files import give_up
 from share.tests.test_dying import Death, Dies
 from share.tests.test_reopening import unkept
 from share.text.line import Line

@@ -152,7 +152,7 @@ class Passed(unittest.TestCase):
                     main.note_passed(begun, [])
                 self.assertFalse(main.passed_file().exists())
             with mock.patch.object(main, "commit", lambda: "12ab"):
-                for unsteady in [], ["UNSTEADY test_x seed 1 load 2.0"]:
+                for unsteady in list[str](), ["UNSTEADY test_x seed 1 load 2.0"]:
                     main.note_passed("12ab", unsteady)
                     self.assertEqual(main.passed_file().read_text().splitlines(), ["12ab", *unsteady])
 

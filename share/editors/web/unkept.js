@@ -29,15 +29,15 @@ const inTurn = (name, signal, does) => navigator.locks.request(name, { signal },
 
 /** Return the edits that are written under a name; undefined if there are none. Set damaged ones aside. */
 function read(name, told) {
-  const words = storage.getItem(name);
-  if (words === null) return undefined;
+  const words = storage?.getItem(name);
+  if (!words) return undefined;
   try {
     const again = JSON.parse(words);
     if (!Array.isArray(again?.made)) throw new TypeError("no edits");
     return again;
   } catch {
-    storage.setItem(DAMAGED + name, words);
-    storage.removeItem(name);
+    storage?.setItem(DAMAGED + name, words);
+    storage?.removeItem(name);
     told.say(UNREADABLE);
     return undefined;
   }
@@ -90,11 +90,11 @@ export class Unkept {
     if (words === this.#written) return;
     this.#written = words;
     try {
-      if (standing) storage.setItem(this.#name, JSON.stringify({ ...standing, hash: sha256(text) }));
-      else storage.removeItem(this.#name);
+      if (standing) storage?.setItem(this.#name, JSON.stringify({ ...standing, hash: sha256(text) }));
+      else storage?.removeItem(this.#name);
     } catch {
       // There is no room.
-      storage.removeItem(this.#name);
+      storage?.removeItem(this.#name);
     }
   }
 
@@ -103,7 +103,7 @@ export class Unkept {
     const again = read(name, this.#told);
     if (!again) return;
     const answer = await this.#answered(name.slice(name.lastIndexOf(" ") + 1), again, (line) => {
-      if (!line.error) storage.removeItem(name);
+      if (!line.error) storage?.removeItem(name);
     });
     if (PASSING.has(answer.error)) {
       await new Promise((done) => setTimeout(done, AGAIN_MS));
@@ -111,7 +111,7 @@ export class Unkept {
     } else if (answer.error) {
       this.#told.say(answer.words);
     } else if ("text" in answer) {
-      const changes = again.made.slice(Math.max(0, (answer.has ?? again.edits) - again.edits)).flat();
+      const changes = again.made.slice(Math.max(0, (answer.has ?? again.edits) - again.edits)).flatMap((edit) => edit.changes);
       if (changes.length) this.#told.refused(NOT_CARRIED, changes, changes[0][0]);
     }
   }

@@ -16,14 +16,15 @@ const words = (/** @type {number} */ site) => ({
 
 /** Has lines be inserted and kept by who has a number, unless another tab types under that; the id of the first.
  * @param {import("./core.js").Core} core @param {import("./store.js").Store} store @param {import("./keys.js").NoteKeys} keys
- * @param {string} id @param {number} site @param {(at: number) => Promise<Uint8Array[]>} makes @returns {Promise<string>} */
-export async function writtenBeside(core, store, keys, id, site, makes) {
+ * @param {string} id @param {number} site @param {(at: number) => Promise<Uint8Array[]>} makes
+ * @param {(words: string) => void} says is told what the user has to know @returns {Promise<string>} */
+export async function writtenBeside(core, store, keys, id, site, makes, says) {
   const own = ownOf(await store.note(id)).find((one) => one.site === site);
   if (!own) throw new Wrong("own", words(site).notHere);
   return navigator.locks.request(`vialshoal ${id} ${site}`, { ifAvailable: true }, async (lock) => {
     if (!lock) throw new Wrong("own", words(site).inUse);
     const [feed, author] = [new Feed(core, store, keys, id, site), await authorOf(own.secret)];
-    await keepUnkept(store, keys, id, site);
+    await keepUnkept(store, keys, id, site, says);
     try {
       await feed.next(() => {});
       const { value, sayings } = feed;

@@ -125,7 +125,7 @@ export class Whole {
    * @param {(at: number) => Promise<Uint8Array[]>} makes @param {number} site a number of this browser's user, which may be another's tab */
   async write(makes, site = this.own.number?.site ?? 0) {
     if (site !== this.own.number?.site) {
-      const id = await writtenBeside(this.#core, this.#store, this.#keys, this.#note.id, site, makes);
+      const id = await writtenBeside(this.#core, this.#store, this.#keys, this.#note.id, site, makes, (words) => this.#ear.says(words));
       this.followed.kept();
       this.#came(true);
       await this.#turn;
