@@ -13,13 +13,22 @@ from collections.abc import Callable
 from share.tests.waiting import PATIENCE, wait_for
 
 
+# The ports that tests of this process have had.
+HAD = set[int]()
+
+
 def held_port() -> socket.socket:
-    """A port of the loopback at which nobody listens, as long as this is open: one that lets others use its port may listen there, and
-    the system gives it to nobody who asks for any port."""
-    held = socket.socket()
-    held.setsockopt(socket.SOL_SOCKET, socket.SO_REUSEADDR, 1)
-    held.bind(("127.0.0.1", 0))
-    return held
+    """Return a port of the loopback at which nobody listens. As long as it is open, one that lets others use its port may listen there, and
+    the system gives it to nobody who asks for any port. A process gets no port twice, because a browser keeps what a page of it left."""
+    with contextlib.ExitStack() as repeated:
+        while True:
+            held = socket.socket()
+            held.setsockopt(socket.SOL_SOCKET, socket.SO_REUSEADDR, 1)
+            held.bind(("127.0.0.1", 0))
+            if port_of(held) not in HAD:
+                HAD.add(port_of(held))
+                return held
+            repeated.enter_context(held)
 
 
 def port_of(held: socket.socket) -> int:

@@ -13,6 +13,7 @@ from share.tests.forms import is_second_form, of_first_form
 from share.tests.processes import descendants
 from share.tests.runner import counting, modules, repeating, side_by_side
 from share.tests.runner.main import MODULE_SECONDS
+from share.tests.servers import held_port, port_of
 from share.tests.support import Case, alive, wait_for
 
 HERE = "test_running"
@@ -176,6 +177,17 @@ def one_that_fails_once_and_leaves_a_thread() -> unittest.TestSuite:
                 self.fail("it was the first time")
 
     return of(Left)
+
+
+class Ports(unittest.TestCase):
+    """The ports of a module's servers."""
+
+    def test_none_is_given_twice(self) -> None:
+        ports = list[int]()
+        for _ in range(1_000):
+            with held_port() as held:
+                ports.append(port_of(held))
+        self.assertEqual(len({*ports}), len(ports))
 
 
 class Modules(Case):
