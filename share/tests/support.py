@@ -289,7 +289,8 @@ def type_at_the_end(note: Note, words: str) -> None:
 def written(note: Note, words: str) -> None:
     """Types words at the end, and waits until they are sent."""
     type_at_the_end(note, words)
-    wait_for(lambda: note.session.has_sent(note.session.last()), "words to be sent")
+    # If another disk has its number, the words are made anew as the editor takes in what came.
+    wait_for(lambda: (note.take_in(), note.session.has_sent(note.session.last()))[1], "words to be sent")
 
 
 def raws_of(log: Log) -> list[bytes | None]:

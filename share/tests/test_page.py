@@ -516,12 +516,11 @@ class Alone(Pages):
         window.state("kept here alone")
         window.shows("answered or not, typed on")
         self.assert_kept(self.data, window)
-        # What was typed before is taken back, too.
-        for _ in range(3):
-            window.press("undo")
-        window.shows("")
-        window.press("redo")
-        window.shows("answered")
+        # What was typed before is taken back, too. How many stretches it was is a matter of time.
+        for command, end in ("undo", ""), ("redo", "answered or not, typed on"):
+            while (shown := window.text()) != end:
+                window.press(command)
+                window.wait_for(f"{MIRROR}.getValue() !== words[0]", shown)
         self.assert_kept(self.data, window)
 
     def test_a_server_that_ended_is_known_again_and_another_one_gets_nothing(self) -> None:
