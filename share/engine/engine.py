@@ -204,10 +204,12 @@ class Engine:
 
     def _opened(self) -> SharedNote:
         session = self._opens()
+        journal = Journal(self._journal, session.identity) if self._journal else None
         try:
-            note = SharedNote(self.name, session, self.peers, OtherEditors(self._new_who), self._wake, self._answer, self._clock,
-                              Journal(self._journal, session.identity) if self._journal else None)
+            note = SharedNote(self.name, session, self.peers, OtherEditors(self._new_who), self._wake, self._answer, self._clock, journal)
         except BaseException:
+            if journal:
+                journal.stop()
             session.close()
             raise
         session.stands = self._stands

@@ -66,16 +66,19 @@ class Journal:
         # One engine at a time has the note open. So a file that a killed one left under this name is written over.
         fresh, file = self._path.with_name(f".{self._path.name}.new"), -1
         self._long = max(LONG_BYTES, 2 * max(len(data), self._size))
+        is_written = False
         try:
             file = os.open(fresh, os.O_WRONLY | os.O_CREAT | os.O_TRUNC | os.O_APPEND | os.O_CLOEXEC, 0o600)
             self._append(file, data)
             os.replace(fresh, self._path)
+            is_written = True
         except OSError:
-            if file >= 0:
-                os.close(file)
             with suppress(OSError):
                 fresh.unlink()
             return False
+        finally:
+            if file >= 0 and not is_written:
+                os.close(file)
         self.stop()
         self._file, self._size = file, len(data)
         return True

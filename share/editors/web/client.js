@@ -17,10 +17,12 @@ export function changed(text, changes) {
   return text;
 }
 
-/** Divide changes into edits, so that no edit has too many. */
+/** Divide changes into edits, so that no edit has too many. They are undone together. */
 function inEdits(changes) {
   const edits = [];
-  for (let at = 0; at < changes.length; at += MOST_CHANGES) edits.push(changes.slice(at, at + MOST_CHANGES));
+  for (let at = 0; at < changes.length; at += MOST_CHANGES) {
+    edits.push({ changes: changes.slice(at, at + MOST_CHANGES), ...(at ? { join: true } : {}) });
+  }
   return edits;
 }
 
@@ -111,15 +113,14 @@ export class Client {
   #flush() {
     const edits = inEdits(this.#gathered);
     this.#gathered = [];
-    edits.forEach((changes, at) => this.#make(changes, at ? { join: true } : {}));
+    edits.forEach((edit) => this.#make(edit));
   }
 
-  #make(changes, more) {
+  #make(edit) {
     if (this.answered === this.made) this.#busyFrom = this.#clock();
     this.made += 1;
     this.#notices = 0;
-    this.#unanswered.push({ edits: this.made, changes, place: changes[0][0] });
-    const edit = { changes, ...more };
+    this.#unanswered.push({ edits: this.made, changes: edit.changes, place: edit.changes[0][0] });
     if (!this.#isHere) this.#since.push(edit);
     if (!this.#isAway) this.#send({ do: "edit", version: this.version, edits: this.made, ...edit });
   }
