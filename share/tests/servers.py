@@ -20,15 +20,20 @@ HAD = set[int]()
 def held_port() -> socket.socket:
     """Return a port of the loopback at which nobody listens. As long as it is open, one that lets others use its port may listen there, and
     the system gives it to nobody who asks for any port. A process gets no port twice, because a browser keeps what a page of it left."""
-    with contextlib.ExitStack() as repeated:
-        while True:
-            held = socket.socket()
-            held.setsockopt(socket.SOL_SOCKET, socket.SO_REUSEADDR, 1)
-            held.bind(("127.0.0.1", 0))
-            if port_of(held) not in HAD:
-                HAD.add(port_of(held))
-                return held
-            repeated.enter_context(held)
+    repeated = list[socket.socket]()
+    while port_of(held := _any_port()) in HAD:
+        repeated.append(held)
+    for one in repeated:
+        one.close()
+    HAD.add(port_of(held))
+    return held
+
+
+def _any_port() -> socket.socket:
+    held = socket.socket()
+    held.setsockopt(socket.SOL_SOCKET, socket.SO_REUSEADDR, 1)
+    held.bind(("127.0.0.1", 0))
+    return held
 
 
 def port_of(held: socket.socket) -> int:
